@@ -29,7 +29,7 @@ use Rattle.vcode.proofs.Alike.{lines_alike}
 use Rattle.vcode.proofs.Writing.{Agree, both_write, writes_only, unwritten, now_holds, second_writes}
 use Rattle.vcode.proofs.Leading.{LeadsTo, Arriving, jump_put, leads_more}
 use Rattle.vcode.proofs.Rewriting.{rewrites_keep}
-use Rattle.loops.specs.Targets.{targets}
+use Rattle.flow.specs.Targets.{targets}
 use Rattle.constant_hoisting.specs.declared.plan.Constant.{Constant}
 use Rattle.constant_hoisting.specs.declared.plan.Constant.TheVariants.{Number as OfNumber, Name as OfName}
 use Rattle.constant_hoisting.specs.declared.plan.Plan.{Plan}

@@ -12,7 +12,7 @@ use Rattle.vcode.specs.declared.function.VFunc.{VFunc}
 use Rattle.vcode.specs.Cost.{is_paid}
 use Rattle.vcode.specs.Named.{keeps_places}
 use Rattle.vcode.specs.Replaced.{Replacing, with_line, with_jump}
-use Rattle.loops.specs.Targets.{targets}
+use Rattle.flow.specs.Targets.{targets}
 use Rattle.constant_hoisting.specs.declared.plan.Constant.{Constant}
 use Rattle.constant_hoisting.specs.declared.plan.Constant.TheVariants.{Number as OfNumber, Name as OfName}
 use Rattle.constant_hoisting.specs.declared.plan.Plan.{Plan}

@@ -3,7 +3,7 @@ ghost use Rattle.std.specs.Prelude.{IfOk};
 ghost use Rattle.il_ast.specs.Passes.{Keeps};
 ghost use Rattle.vcode.specs.Coded.{virtual_code};
 
-use crate::chosen::plans;
+use crate::choice::plans::choose_plans;
 use crate::hold::with_constant;
 use crate::plan::Plan;
 use std::alloc::{AllocError, Global};
@@ -20,7 +20,7 @@ fn by_plan(alloc: Global, function: VFunc, plan: &Plan) -> Result<VFunc, AllocEr
 }
 
 /// The function in which constants that take instructions in loops stand in registers that it names nowhere, set in front: those that save most by a guess, at most
-/// six, and as many as there are such registers. A function without loops stays as it is. It takes time and memory as the text is long.
+/// twelve, in long functions six, and as many as there are such registers. A function without loops stays as it is. It takes time and memory as the text is long.
 ///
 /// # Errors
 ///
@@ -28,7 +28,7 @@ fn by_plan(alloc: Global, function: VFunc, plan: &Plan) -> Result<VFunc, AllocEr
 pub fn hoist_constants(alloc: Global, function: VFunc) -> Result<VFunc, AllocError>
     ensures { IfOk result (λ w. Keeps (virtual_code function) (virtual_code w)) }
 {
-    let plans = plans(alloc, &function)?;
+    let plans = choose_plans(alloc, &function)?;
     let mut held = function;
     for plan in plans.as_slice() {
         let made = by_plan(alloc, held, plan)?;

@@ -9,12 +9,12 @@
 //! way of one that sets it, and the ticks of each block have to pay for it as before. Its contract says that the code is kept, in the words of every pass, and which
 //! code it makes. Only these tests carry the proof.
 //!
-//! Which plans are made is a guess at what saves most, which the crate `constant_choice` makes (`chosen`).
+//! Which plans are made is a guess at what saves most ([`choice`]).
 //!
-//! The crate stands on `vcode` for code, on `loops` for where jumps lead and on `constant_choice` for the guess.
+//! The crate stands on `vcode` for code, and for the guess on `flow` for the depths of blocks and on `operation_code` for what numbers cost.
 #![tactic(auto)]
 
-mod chosen;
+pub mod choice;
 pub mod constants;
 pub mod hold;
 pub mod plan;

@@ -5,7 +5,7 @@ ghost use Rattle.vcode.specs.declared.place.Argument.{Argument as AnArgument};
 ghost use Rattle.vcode.specs.declared.place.Destination.{Destination as ADestination};
 ghost use Rattle.vcode.specs.Cost.{is_paid};
 ghost use Rattle.vcode.specs.Named.{operand_keeps, wanted_keeps, made_keeps, line_keeps, jump_keeps, block_keeps, keeps_places};
-ghost use Rattle.loops.specs.Targets.{targets};
+ghost use Rattle.flow.specs.Targets.{targets};
 ghost use Rattle.constant_hoisting.specs.Held.{is_held, is_set, is_other, may_lead, leads_well, is_safe};
 
 use crate::plan::Plan;

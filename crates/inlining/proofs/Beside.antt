@@ -12,32 +12,32 @@ use Rattle.vcode.specs.Places.{Values, virtual}
 use Rattle.vcode.specs.Step.{State, step}
 use Rattle.vcode.specs.InPlace.{IsCheaper, GoesSo, HasRoom, RunsAs}
 use Rattle.inlining.specs.InPlace.{Site, IsSite, in_place}
-use Rattle.inlining.specs.Leaves.{IsLeafOf}
+use Rattle.inlining.specs.Candidates.{IsCandidateOf}
 
 -- ---- what is given
 
 -- a call that may be done in place, how calls go, what the code is given, and how it goes with the call
 pub record Setting : Type 0 where
   pub v : Code ℕ
-  pub leaf : Code ℕ
+  pub candidate : Code ℕ
   pub base : ℕ
   pub k : ℕ
   pub j : ℕ
   pub site : Site
-  pub is : IsSite v leaf base k j site
+  pub is : IsSite v candidate base k j site
   pub callees : Callees
   pub turns : ℕ
   pub globals : List Value
   pub callee : Callee
   pub named : slice_get globals site.name ≡ Some (Function callee)
-  pub as_leaf : IsLeafOf callees turns globals leaf callee
+  pub as_candidate : IsCandidateOf callees turns globals candidate callee
   pub given : Given
   pub low : given.turns ≤ turns
   pub o : Outcome
   pub room : HasRoom o
 
 abbrev pub placed : Setting → Code ℕ
-placed c = in_place c.v c.leaf c.base c.k c.j c.site
+placed c = in_place c.v c.candidate c.base c.k c.j c.site
 
 abbrev pub placed_step : Setting → State ℕ → Event (State ℕ) Asked Outcome
 placed_step c = step virtual c.globals (placed c) c.given

@@ -1,4 +1,4 @@
--- The lines of a leaf, whether or not a turn began before them: none makes a block of memory.
+-- The lines of a candidate, whether or not a turn began before them: none makes a block of memory.
 use Rattle.std.proofs.Common.{◌≡◌, ℕ, Bool, true, false, ◌||◌, List, [], ◌∷◌, refl}
 use Rattle.std.specs.List.{list_all}
 use Rattle.std.proofs.lemmas.Bool.{and_parts, and_from}
@@ -6,7 +6,7 @@ use Rattle.vcode.specs.declared.line.Line.{Line}
 use Rattle.vcode.specs.declared.line.Line.TheVariants.{Tick, Set, Operate, Load, Store, Alloc, Blit, Call}
 use Rattle.vcode.specs.declared.code.Block.{Block}
 use Rattle.vcode.specs.declared.code.Code.{Code}
-use Rattle.inlining.specs.Leaves.{begins_turn, is_calm, calm_behind, is_leaf}
+use Rattle.inlining.specs.Candidates.{begins_turn, is_calm, calm_behind, is_candidate}
 use Rattle.inlining.proofs.Listing.{all_weaker}
 
 -- a line makes no block of memory
@@ -29,6 +29,6 @@ calm_lines turned (l ∷ ls) h =
     let s = and_parts (is_calm turned l) (calm_behind (turned || begins_turn l) ls) h in
     and_from (makes_none l) (list_all makes_none ls) (calm_line turned l s.0) (calm_lines (turned || begins_turn l) ls s.1)
 
-pub leaf_makes_none : (f : Code ℕ) → is_leaf f ≡ true → list_all (λ (b : Block ℕ). list_all makes_none b.lines) f.blocks ≡ true
-leaf_makes_none f h =
+pub candidate_makes_none : (f : Code ℕ) → is_candidate f ≡ true → list_all (λ (b : Block ℕ). list_all makes_none b.lines) f.blocks ≡ true
+candidate_makes_none f h =
     all_weaker (λ (b : Block ℕ). calm_behind false b.lines) (λ (b : Block ℕ). list_all makes_none b.lines) (λ b e. calm_lines false b.lines e) f.blocks h

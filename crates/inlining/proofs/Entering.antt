@@ -1,4 +1,4 @@
--- The arguments of a call in place are brought to the registers of the leaf's parameters.
+-- The arguments of a call in place are brought to the registers of the candidate's parameters.
 use Rattle.std.proofs.Common.{◌≡◌, ℕ, ◌+◌, List, [], ◌∷◌, map, Option, Some, ◌∙◌, ap, subst}
 use Rattle.std.specs.Option.{option_and_then}
 use Rattle.il_ast.specs.declared.operation.Class.{Class}
@@ -45,7 +45,7 @@ abbrev Entered : Setting → State ℕ → Spent → Values ℕ → Type 0
 Entered c s sp now =
     (el : Values ℕ) → AllFollow el s.values → AllFollow (from_base c.base el) now → Goes c (along s (first_at c) 0 el sp)
 
--- the jump to the leaf's code
+-- the jump to the candidate's code
 enters_goes : (c : Setting) (s : State ℕ) (sp : Spent) (b n : ℕ) (el : Values ℕ) → Left (placed c) b n [] (Goto (first_at c)) → Goes c (along s (first_at c) 0 el sp) → Goes c (along s b n el sp)
 enters_goes c s sp b n el here go =
     does_goes c (along s b n el sp) (On (along s (first_at c) 0 el sp)) (jump_is (placed c) c.globals c.given (along s b n el sp) (Goto (first_at c)) here) go

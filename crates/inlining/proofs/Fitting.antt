@@ -22,7 +22,7 @@ use Rattle.vcode.specs.Named.{operand_keeps, wanted_keeps, made_keeps, line_keep
 use Rattle.vcode.specs.Regular.{leads_inside, is_target, is_alloc, alloc_bytes, turns_of, passes_few, weight_of}
 use Rattle.vcode.specs.Replaced.{with_argument}
 use Rattle.inlining.specs.Moved.{moved, moved_destination, moved_line, moved_jump}
-use Rattle.inlining.specs.InPlace.{brought, arguments_brought, result_brought, leaf_block}
+use Rattle.inlining.specs.InPlace.{brought, arguments_brought, result_brought, candidate_block}
 use Rattle.inlining.proofs.Listing.{all_both, all_changed, all_weaker}
 
 -- ---- registers
@@ -211,11 +211,11 @@ result_named base n (Some k) (Some d) (Return (Some a)) h g =
     and_from (line_keeps (is_below (base + n)) one) true (brought_names (is_below (base + n)) d.place k a.extension (moved base a.value) h (operand_moved n base a.value g)) refl
 result_named base n (Some k) (Some d) Halt h g = refl
 
-pub leaf_named : (base n first behind : ℕ) (k : Option Class) (to : Option (Destination ℕ)) (b : Block ℕ) → wanted_keeps (is_below (base + n)) to ≡ true → block_keeps (is_below n) b ≡ true
-    → block_keeps (is_below (base + n)) (leaf_block first behind base k to b) ≡ true
-leaf_named base n first behind k to b h known =
+pub candidate_named : (base n first behind : ℕ) (k : Option Class) (to : Option (Destination ℕ)) (b : Block ℕ) → wanted_keeps (is_below (base + n)) to ≡ true → block_keeps (is_below n) b ≡ true
+    → block_keeps (is_below (base + n)) (candidate_block first behind base k to b) ≡ true
+candidate_named base n first behind k to b h known =
     let s = and_parts (list_all (line_keeps (is_below n)) b.lines) (jump_keeps (is_below n) b.jump) known in
-    let d : Block ℕ = leaf_block first behind base k to b in
+    let d : Block ℕ = candidate_block first behind base k to b in
     and_from (list_all (line_keeps (is_below (base + n))) d.lines) (jump_keeps (is_below (base + n)) d.jump)
     (all_both (line_keeps (is_below (base + n))) (map (moved_line base) b.lines) (result_brought base k to b.jump)
     (all_changed (line_keeps (is_below n)) (line_keeps (is_below (base + n))) (moved_line base) (line_moved n base) b.lines s.0) (result_named base n k to b.jump h s.1))

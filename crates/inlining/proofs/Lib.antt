@@ -6,9 +6,9 @@ mod Calm
 pub mod Passed
 pub mod MovedActs
 pub mod Entering
-pub mod Leafwise
+pub mod PerCandidate
 pub mod SiteLaw
-pub mod LeafCalls
+pub mod CandidateCalls
 pub mod MoreRoom
 mod Fitting
 mod Growing

@@ -7,7 +7,7 @@ use Rattle.std.proofs.lemmas.Bool.Decides.{nat_tests}
 use Rattle.std.proofs.lemmas.Option.{slice_get-map}
 use Rattle.vcode.specs.declared.code.Block.{Block}
 use Rattle.vcode.specs.Named.{line_keeps, block_keeps, is_below}
-use Rattle.inlining.specs.InPlace.{up_to_call, behind_call, leaf_block}
+use Rattle.inlining.specs.InPlace.{up_to_call, behind_call, candidate_block}
 use Rattle.inlining.proofs.Beside.{Setting, placed}
 
 -- ---- lists
@@ -61,10 +61,10 @@ abbrev pub first_at : Setting → ℕ
 first_at c = length c.v.blocks + 1
 
 abbrev pub cut_block : Setting → Block ℕ
-cut_block c = up_to_call (first_at c) c.base c.j c.leaf.params c.site
+cut_block c = up_to_call (first_at c) c.base c.j c.candidate.params c.site
 
 abbrev moved_blocks : Setting → List (Block ℕ)
-moved_blocks c = map (leaf_block (first_at c) (behind_at c) c.base c.leaf.result c.site.to) c.leaf.blocks
+moved_blocks c = map (candidate_block (first_at c) (behind_at c) c.base c.candidate.result c.site.to) c.candidate.blocks
 
 -- a block without the call
 pub other_block : (c : Setting) (n : ℕ) (b : Block ℕ) → nat_eq n c.k ≡ false → slice_get c.v.blocks n ≡ Some b → slice_get (placed c).blocks n ≡ Some b
@@ -83,14 +83,14 @@ rest_block c =
     get_behind (slice_set c.v.blocks c.k (cut_block c)) (behind_call c.j c.site ∷ moved_blocks c) (behind_at c) 0
     (let e = set_length c.v.blocks c.k (cut_block c) in omega (arith, e))
 
--- a block of the leaf
-pub leaf_block_at : (c : Setting) (n : ℕ) (b : Block ℕ) → slice_get c.leaf.blocks n ≡ Some b
-    → slice_get (placed c).blocks (n + first_at c) ≡ Some (leaf_block (first_at c) (behind_at c) c.base c.leaf.result c.site.to b)
-leaf_block_at c n b at =
+-- a block of the candidate
+pub candidate_block_at : (c : Setting) (n : ℕ) (b : Block ℕ) → slice_get c.candidate.blocks n ≡ Some b
+    → slice_get (placed c).blocks (n + first_at c) ≡ Some (candidate_block (first_at c) (behind_at c) c.base c.candidate.result c.site.to b)
+candidate_block_at c n b at =
     get_behind (slice_set c.v.blocks c.k (cut_block c)) (behind_call c.j c.site ∷ moved_blocks c) (n + first_at c) (suc n)
     (let e = set_length c.v.blocks c.k (cut_block c) in omega (arith, e))
-    ∙ slice_get-map (leaf_block (first_at c) (behind_at c) c.base c.leaf.result c.site.to) c.leaf.blocks n
-    ∙ ap (option_map (leaf_block (first_at c) (behind_at c) c.base c.leaf.result c.site.to)) at
+    ∙ slice_get-map (candidate_block (first_at c) (behind_at c) c.base c.candidate.result c.site.to) c.candidate.blocks n
+    ∙ ap (option_map (candidate_block (first_at c) (behind_at c) c.base c.candidate.result c.site.to)) at
 
 -- ---- what the code names
 

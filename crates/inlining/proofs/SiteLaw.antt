@@ -28,7 +28,7 @@ use Rattle.vcode.specs.Operations.{held}
 use Rattle.vcode.specs.Places.{Values, virtual, unknown, put}
 use Rattle.vcode.specs.Step.{State, bound, begin, read_all, weighs, goes_on, step}
 use Rattle.vcode.specs.Writes.{place_of, line_writes}
-use Rattle.vcode.specs.Acts.{Act, Fails, Spends, Gives, Leaves, Makes, Asks, asked, act, written, Way, Lost, Enters, Answers, Halts, way}
+use Rattle.vcode.specs.Acts.{Act, Fails, Spends, Gives, Candidates, Makes, Asks, asked, act, written, Way, Lost, Enters, Answers, Halts, way}
 use Rattle.vcode.specs.InPlace.{IsCheaper, GoesSo, HasRoom}
 use Rattle.vcode.proofs.Acting.{perform, lead, received, resumed}
 use Rattle.vcode.proofs.Following.{AllFollow, ActFollows, act_follows, WayFollows, way_follows, assign_follows}
@@ -36,14 +36,14 @@ use Rattle.vcode.proofs.InPlace.{as_cheap, cheaper_after, goes_room}
 use Rattle.vcode.proofs.Rewriting.{Left, at_start, behind_it, line_is, jump_is}
 use Rattle.vcode.proofs.Stepping.{step_nowhere}
 use Rattle.inlining.specs.InPlace.{arguments_brought, behind_call}
-use Rattle.inlining.specs.Leaves.{begins_turn, given_by, GoesAs}
+use Rattle.inlining.specs.Candidates.{begins_turn, given_by, GoesAs}
 use Rattle.inlining.specs.Laws.{CallsInPlaceKeep}
 use Rattle.inlining.proofs.Beside.{Setting, placed, placed_step, Goes, GoesNext, does_goes, calls_goes, cheaper_both, cheaper_unentered, IsLow}
 use Rattle.inlining.proofs.PlacedBlocks.{cut_at, behind_at, first_at, cut_block, other_block, call_block, rest_block, block_known}
 use Rattle.inlining.proofs.Turns.{IsTurn, turn_act, one_or_other, Begun, begun_further, ended_room}
 use Rattle.inlining.proofs.Passed.{args_are, same_classes_are}
 use Rattle.inlining.proofs.Entering.{along, arguments_goes}
-use Rattle.inlining.proofs.Leafwise.{answered, resumed_at, Behind, leaf_enters}
+use Rattle.inlining.proofs.PerCandidate.{answered, resumed_at, Behind, candidate_enters}
 
 -- ---- registers
 
@@ -163,7 +163,7 @@ module _ (c : Setting) where
       does_goes c t (On (along u b (n + 1) el2 sp)) (at ∙ ap (perform c.given t to) f.1.0)
       (on u el2 sp log refl refl
       (record { follows = assign_follows to o f.0 s.values el f.1.1 h.follows; low = written_low c.base to o s.values place h.low; cheap = h.cheap }) (λ p. absurd p) (λ p. p) gone run)
-  acts_go steps s b n el sp h to place (Leaves m) x f at log gone run on =
+  acts_go steps s b n el sp h to place (Candidates m) x f at log gone run on =
       let t : State ℕ = along s b n el sp in
       let u : State ℕ = record s { next = s.next + 1; memory = m } in
       does_goes c t (On (along u b (n + 1) el sp)) (at ∙ ap (perform c.given t to) f)
@@ -212,7 +212,7 @@ module _ (c : Setting) where
   rest_lines = drop (c.j + 1) c.site.block.lines
 
   abbrev entry_lines : List (Line ℕ)
-  entry_lines = arguments_brought c.base c.leaf.params c.site.args
+  entry_lines = arguments_brought c.base c.candidate.params c.site.args
 
   abbrev AreKnown : List (Line ℕ) → Type 0
   AreKnown ls = list_all (line_keeps (is_below c.base)) ls ≡ true
@@ -277,7 +277,7 @@ module _ (c : Setting) where
   answered_low (Some d) None values place low = low
   answered_low (Some d) (Some v) values place low = written_low c.base (Some d.place) (Some (held d.class v)) values place low
 
-  -- the call, where it returns, and the leaf's code in place
+  -- the call, where it returns, and the candidate's code in place
   behind_goes : (steps : ℕ) → Later steps → (s : State ℕ) → IsLow c.base s.values → IsLowPlace c.base (place_of c.site.to) → Left c.v s.block (s.next + 1) rest_lines c.site.block.jump → AreKnown rest_lines
       → (rest : Log) → AllGo c.callees rest → (x : Spent) (v : Option Value) (m : Memory)
       → Runs steps (record s { next = s.next + 1; values = answered c.site.to v s.values; memory = m; spent = both s.spent (both one_call x) }) rest → (el : Values ℕ) (sp : Spent)
@@ -313,7 +313,7 @@ module _ (c : Setting) where
   call_room steps s to wants (Returned x v m) rest run = tt
   call_room steps s to wants (Ended x e) rest run = ended_room (both s.spent x) x e (subst HasRoom (sym run.0) c.room)
 
-  -- and so has what the leaf means
+  -- and so has what the candidate means
   after_room : (o : Outcome) → HasRoom (after one_call o) → HasRoom o
   after_room (Returned x v m) h = tt
   after_room (Ended x e) h = ended_room (both one_call x) x e h
@@ -345,27 +345,27 @@ module _ (c : Setting) where
   call_wants = option_map (λ (d : Destination ℕ). d.class) c.site.to
 
   -- what the call goes as
-  leaf_goes : (s : State ℕ) → Begun c.given s.spent → (vs : List Value) → read_all c.globals s.values c.site.args ≡ Some vs → HasRoom (c.callees (the_call vs) (c.given.turns - s.spent.turns) c.given.room s.memory)
-      → GoesAs c.callees c.globals c.leaf (the_call vs) (c.given.turns - s.spent.turns) c.given.room s.memory
-  leaf_goes s begun vs read fine =
-      c.as_leaf (the_call vs) (c.given.turns - s.spent.turns) c.given.room s.memory refl (fewer c.given.turns s.spent.turns c.turns c.low begun.given begun.spent)
-      (both_hold (same_classes (map (λ (a : Argument ℕ). a.class) c.site.args) (classes_in c.leaf.params)) (result_fits call_wants c.leaf.result) c.is.classes c.is.result)
-      (subst (λ (ks : List Class). AreArgs ks vs) (same_classes_are (map (λ (a : Argument ℕ). a.class) c.site.args) (classes_in c.leaf.params) c.is.classes) (args_are c.globals s.values c.site.args vs read))
+  candidate_goes : (s : State ℕ) → Begun c.given s.spent → (vs : List Value) → read_all c.globals s.values c.site.args ≡ Some vs → HasRoom (c.callees (the_call vs) (c.given.turns - s.spent.turns) c.given.room s.memory)
+      → GoesAs c.callees c.globals c.candidate (the_call vs) (c.given.turns - s.spent.turns) c.given.room s.memory
+  candidate_goes s begun vs read fine =
+      c.as_candidate (the_call vs) (c.given.turns - s.spent.turns) c.given.room s.memory refl (fewer c.given.turns s.spent.turns c.turns c.low begun.given begun.spent)
+      (both_hold (same_classes (map (λ (a : Argument ℕ). a.class) c.site.args) (classes_in c.candidate.params)) (result_fits call_wants c.candidate.result) c.is.classes c.is.result)
+      (subst (λ (ks : List Class). AreArgs ks vs) (same_classes_are (map (λ (a : Argument ℕ). a.class) c.site.args) (classes_in c.candidate.params) c.is.classes) (args_are c.globals s.values c.site.args vs read))
       fine
 
-  -- the arguments are brought, and the leaf's code runs
+  -- the arguments are brought, and the candidate's code runs
   entered_goes : (steps : ℕ) → Later steps → (s : State ℕ) (b n : ℕ) (el : Values ℕ) (sp : Spent) → Beside c s el sp → IsLowPlace c.base call_place → Left c.v s.block (s.next + 1) rest_lines c.site.block.jump → AreKnown rest_lines
       → Left (placed c) b n entry_lines (Goto (first_at c)) → (vs : List Value) → read_all c.globals s.values c.site.args ≡ Some vs → (went : Outcome) (rest : Log) → AllGo c.callees rest
       → HasRoom went → LoggedNext (Runs steps) c.o (resumed s call_place call_wants went) rest
-      → (a : GoesAs c.callees c.globals c.leaf (the_call vs) (c.given.turns - s.spent.turns) c.given.room s.memory) → went ≡ after one_call a.meant → Goes c (along s b n el sp)
+      → (a : GoesAs c.callees c.globals c.candidate (the_call vs) (c.given.turns - s.spent.turns) c.given.room s.memory) → went ≡ after one_call a.meant → Goes c (along s b n el sp)
   entered_goes steps later s b n el sp h place here known second vs read went rest gone fine run a is =
       let room : HasRoom a.went = goes_room a.went a.meant a.goes (after_room a.meant (subst HasRoom is fine)) in
       let behind : Behind c c.site.to s a.went =
       end_owed steps later s h.low place here known rest gone a.went a.meant a.goes (subst (λ (w : Outcome). LoggedNext (Runs steps) c.o (resumed s call_place call_wants w) rest) is run) in
-      arguments_goes c s h.low sp b c.leaf.params c.site.args vs n el unknown (same_classes_are (map (λ (a : Argument ℕ). a.class) c.site.args) (classes_in c.leaf.params) c.is.classes) read h.follows
+      arguments_goes c s h.low sp b c.candidate.params c.site.args vs n el unknown (same_classes_are (map (λ (a : Argument ℕ). a.class) c.site.args) (classes_in c.candidate.params) c.is.classes) read h.follows
       (λ r x e. absurd (let no : ⊥ = cc in no)) second
       (λ el2 follows moved.
-      leaf_enters c s (given_by (the_call vs) (c.given.turns - s.spent.turns) a.below s.memory) a.went refl a.fits h.low room behind a.steps el2 sp a.log follows moved h.cheap a.calls a.runs)
+      candidate_enters c s (given_by (the_call vs) (c.given.turns - s.spent.turns) a.below s.memory) a.went refl a.fits h.low room behind a.steps el2 sp a.log follows moved h.cheap a.calls a.runs)
 
   asked_goes : (steps : ℕ) → Later steps → (s : State ℕ) (b n : ℕ) (el : Values ℕ) (sp : Spent) → Beside c s el sp → Begun c.given s.spent → IsLowPlace c.base call_place → Left c.v s.block (s.next + 1) rest_lines c.site.block.jump
       → AreKnown rest_lines → Left (placed c) b n entry_lines (Goto (first_at c)) → (r : Option (List Value)) → read_all c.globals s.values c.site.args ≡ r → (log : Log) → AllGo c.callees log
@@ -376,7 +376,7 @@ module _ (c : Setting) where
       let is : c.callees (the_call vs) (c.given.turns - s.spent.turns) c.given.room s.memory ≡ e.went =
       subst (λ (a : Asked). c.callees a.call a.turns a.room a.memory ≡ e.went) run.0 gone.0 in
       let fine : HasRoom e.went = call_room steps s call_place call_wants e.went rest run.1 in
-      let a = leaf_goes s begun vs read (subst HasRoom (sym is) fine) in
+      let a = candidate_goes s begun vs read (subst HasRoom (sym is) fine) in
       entered_goes steps later s b n el sp h place here known second vs read e.went rest gone.1 fine run.1 a (sym is ∙ a.is)
 
   call_goes : (steps : ℕ) → Later steps → (s : State ℕ) (b n : ℕ) (el : Values ℕ) (sp : Spent) → Beside c s el sp → Begun c.given s.spent → Left c.v s.block s.next (call_line ∷ rest_lines) c.site.block.jump
@@ -450,11 +450,11 @@ module _ (c : Setting) where
       }) gone run
 
 pub calls_keep : CallsInPlaceKeep
-calls_keep v leaf base k j s is callees turns globals f named as_leaf i o log n low args room gone run =
+calls_keep v candidate base k j s is callees turns globals f named as_candidate i o log n low args room gone run =
     let c : Setting =
     record {
       v = v;
-      leaf = leaf;
+      candidate = candidate;
       base = base;
       k = k;
       j = j;
@@ -465,7 +465,7 @@ calls_keep v leaf base k j s is callees turns globals f named as_leaf i o log n 
       globals = globals;
       callee = f;
       named = named;
-      as_leaf = as_leaf;
+      as_candidate = as_candidate;
       given = i;
       low = low;
       o = o;

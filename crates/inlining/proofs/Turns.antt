@@ -11,7 +11,7 @@ use Rattle.vcode.specs.declared.line.Line.TheVariants.{Tick, Set, Operate, Load,
 use Rattle.vcode.specs.Places.{Values}
 use Rattle.vcode.specs.Acts.{Act, Spends, act}
 use Rattle.vcode.specs.InPlace.{HasRoom}
-use Rattle.inlining.specs.Leaves.{begins_turn}
+use Rattle.inlining.specs.Candidates.{begins_turn}
 
 -- a line that begins a turn
 abbrev pub IsTurn : Act → Type 0

@@ -20,25 +20,25 @@ use Rattle.inlining.specs.declared.limits.TheConstants.{BLOCKS}
 use Rattle.inlining.specs.declared.growth.Room.{Room}
 use Rattle.inlining.specs.declared.growth.Growth.{Growth}
 use Rattle.inlining.specs.declared.growth.Cut.{Cut}
-use Rattle.inlining.specs.InPlace.{Site, leaf_block, up_to_call, behind_call}
-use Rattle.inlining.specs.Leaves.{begins_turn, is_leaf}
-use Rattle.inlining.specs.Placed.{Leaves, Grows}
+use Rattle.inlining.specs.InPlace.{Site, candidate_block, up_to_call, behind_call}
+use Rattle.inlining.specs.Candidates.{begins_turn, is_candidate}
+use Rattle.inlining.specs.Placed.{Candidates, Grows}
 
--- the room that the leaf's code leaves, in a function with so many blocks
-pub record Takes (room : Room) (blocks : ℕ) (leaf : VFunc) (left : Room) : Type 0 where
-  pub registers : left.registers ≡ room.registers + leaf.registers
+-- the room that the candidate's code leaves, in a function with so many blocks
+pub record Takes (room : Room) (blocks : ℕ) (candidate : VFunc) (left : Room) : Type 0 where
+  pub registers : left.registers ≡ room.registers + candidate.registers
   pub few : left.registers < PLACES
-  pub low : blocks + length leaf.code.blocks < BLOCKS
-  pub weight : code_weight leaf.code + left.weight_left ≡ room.weight_left
+  pub low : blocks + length candidate.code.blocks < BLOCKS
+  pub weight : code_weight candidate.code + left.weight_left ≡ room.weight_left
 
--- the leaf takes what the call passes, gives what it wants, and has blocks
-pub record Answers (leaf : VFunc) (s : Site) : Type 0 where
+-- the candidate takes what the call passes, gives what it wants, and has blocks
+pub record Answers (candidate : VFunc) (s : Site) : Type 0 where
   pub classes :
-      IsTrue (same_classes (map (λ (a : Argument ℕ). a.class) s.args) (classes_in leaf.code.params))
+      IsTrue (same_classes (map (λ (a : Argument ℕ). a.class) s.args) (classes_in candidate.code.params))
   pub result :
-      IsTrue (result_fits (option_map (λ (d : Destination ℕ). d.class) s.to) leaf.code.result)
-  pub calm : IsTrue (is_leaf leaf.code)
-  pub begins : 0 < length leaf.code.blocks
+      IsTrue (result_fits (option_map (λ (d : Destination ℕ). d.class) s.to) candidate.code.result)
+  pub calm : IsTrue (is_candidate candidate.code)
+  pub begins : 0 < length candidate.code.blocks
 
 -- line j of the block is the call; a turn begins before it, and no block of memory is made behind it
 pub record StandsAt (j : ℕ) (s : Site) : Type 0 where
@@ -48,32 +48,32 @@ pub record StandsAt (j : ℕ) (s : Site) : Type 0 where
 
 -- what the call in place makes of its block, in a function with so many blocks; the ticks pay for
 -- that
-pub record IsMade (room : Room) (blocks : ℕ) (leaf : VFunc) (j : ℕ) (s : Site) (c : Cut) : Type 0
+pub record IsMade (room : Room) (blocks : ℕ) (candidate : VFunc) (j : ℕ) (s : Site) (c : Cut) : Type 0
   where
-    pub up_to : c.up_to ≡ up_to_call (blocks + 1) room.registers j leaf.code.params s
+    pub up_to : c.up_to ≡ up_to_call (blocks + 1) room.registers j candidate.code.params s
     pub behind : c.behind.items
         ≡ behind_call j s
-        ∷ map (leaf_block (blocks + 1) blocks room.registers leaf.code.result s.to) leaf.code.blocks
+        ∷ map (candidate_block (blocks + 1) blocks room.registers candidate.code.result s.to) candidate.code.blocks
     pub paid : IsTrue (is_paid c.up_to)
     pub all_paid : IsTrue (list_all is_paid c.behind.items)
-    pub takes : Takes room blocks leaf c.room
+    pub takes : Takes room blocks candidate c.room
 
--- the block cut at a call of one of the leaves
-pub record IsCut (leaves : Leaves) (g : Growth) (b : Block ℕ) (c : Cut) : Type 0 where
-  pub leaf : VFunc
+-- the block cut at a call of one of the candidates
+pub record IsCut (candidates : Candidates) (g : Growth) (b : Block ℕ) (c : Cut) : Type 0 where
+  pub candidate : VFunc
   pub line : ℕ
   pub site : Site
   pub block : site.block ≡ b
-  pub named : slice_get leaves site.name ≡ Some (Some leaf)
-  pub answers : Answers leaf site
+  pub named : slice_get candidates site.name ≡ Some (Some candidate)
+  pub answers : Answers candidate site
   pub stands : StandsAt line site
-  pub made : IsMade g.room (length g.blocks.items) leaf line site c
+  pub made : IsMade g.room (length g.blocks.items) candidate line site c
 
 -- the blocks are what the function's become by calls in place, and code that there may be
-pub record IsGrowth (leaves : Leaves) (v : VFunc) (g : Growth) : Type 0 where
+pub record IsGrowth (candidates : Candidates) (v : VFunc) (g : Growth) : Type 0 where
   pub regular : IsRegular (with_these v.code g.blocks.items)
   pub light : code_weight (with_these v.code g.blocks.items) + g.room.weight_left ≡ FUNCTION_WEIGHT
   pub known : IsTrue (keeps_places (is_below g.room.registers) (with_these v.code g.blocks.items))
   pub few : g.room.registers < PLACES
   pub grows :
-      Grows leaves v.code v.registers (with_these v.code g.blocks.items) g.room.registers
+      Grows candidates v.code v.registers (with_these v.code g.blocks.items) g.room.registers

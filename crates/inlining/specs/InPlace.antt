@@ -1,5 +1,5 @@
 -- A call that is done in place: the block is cut at the call; lines bring the arguments to the
--- registers of the leaf's parameters; the leaf's blocks follow at other registers; where it returns,
+-- registers of the candidate's parameters; the candidate's blocks follow at other registers; where it returns,
 -- a line takes its result, and the rest of the block goes on.
 use Rattle.std.specs.Prelude.{◌≡◌, ℕ, ◌+◌, IsTrue, List, [], ◌∷◌, ◌++◌, map, length, take, drop, slice_get, slice_set, Option, Some}
 use Rattle.std.specs.List.{list_any}
@@ -24,7 +24,7 @@ use Rattle.vcode.specs.declared.code.Code.{Code}
 use Rattle.vcode.specs.Coded.{classes_in}
 use Rattle.vcode.specs.Named.{keeps_places, is_below}
 use Rattle.inlining.specs.Moved.{moved, moved_line, moved_jump}
-use Rattle.inlining.specs.Leaves.{begins_turn, is_leaf}
+use Rattle.inlining.specs.Candidates.{begins_turn, is_candidate}
 
 -- ---- what is passed
 
@@ -42,7 +42,7 @@ arguments_brought base (d ∷ ds) [] = []
 arguments_brought base (d ∷ ds) (a ∷ args) =
     brought (d.place + base) a.class a.extension a.value ∷ arguments_brought base ds args
 
--- what is wanted of a result takes it where the leaf returns
+-- what is wanted of a result takes it where the candidate returns
 abbrev pub result_brought : (base : ℕ) → Option Class → Option (Destination ℕ) → Jump ℕ → List (Line ℕ)
 result_brought base (Some k) (Some d) (Return (Some a)) =
     brought d.place k a.extension (moved base a.value) ∷ []
@@ -50,9 +50,9 @@ result_brought base result to jump = []
 
 -- ---- the blocks
 
-abbrev pub leaf_block : (first behind base : ℕ) → Option Class → Option (Destination ℕ) → Block ℕ →
+abbrev pub candidate_block : (first behind base : ℕ) → Option Class → Option (Destination ℕ) → Block ℕ →
     Block ℕ
-leaf_block first behind base result to b =
+candidate_block first behind base result to b =
     record {
       lines = map (moved_line base) b.lines ++ result_brought base result to b.jump;
       jump = moved_jump first behind base b.jump;
@@ -76,32 +76,32 @@ up_to_call first base j params s =
 abbrev pub behind_call : (j : ℕ) → Site → Block ℕ
 behind_call j s = record { lines = drop (j + 1) s.block.lines; jump = s.block.jump }
 
--- with block k cut at line j, the rest of it behind all blocks, and the leaf's blocks behind that
-abbrev pub blocks_in_place : (blocks : List (Block ℕ)) → (leaf : Code ℕ) → (base k j : ℕ) → Site →
+-- with block k cut at line j, the rest of it behind all blocks, and the candidate's blocks behind that
+abbrev pub blocks_in_place : (blocks : List (Block ℕ)) → (candidate : Code ℕ) → (base k j : ℕ) → Site →
     List (Block ℕ)
-blocks_in_place blocks leaf base k j s =
+blocks_in_place blocks candidate base k j s =
     let behind = length blocks in
     let first = behind + 1 in
-    slice_set blocks k (up_to_call first base j leaf.params s)
-    ++ behind_call j s ∷ map (leaf_block first behind base leaf.result s.to) leaf.blocks
+    slice_set blocks k (up_to_call first base j candidate.params s)
+    ++ behind_call j s ∷ map (candidate_block first behind base candidate.result s.to) candidate.blocks
 
-abbrev pub in_place : (v leaf : Code ℕ) → (base k j : ℕ) → Site → Code ℕ
-in_place v leaf base k j s =
+abbrev pub in_place : (v candidate : Code ℕ) → (base k j : ℕ) → Site → Code ℕ
+in_place v candidate base k j s =
     record {
       result = v.result;
       params = v.params;
-      blocks = blocks_in_place v.blocks leaf base k j s;
+      blocks = blocks_in_place v.blocks candidate base k j s;
     }
 
 -- ---- where that may be done
 
--- line j of block k is a call that passes what the leaf takes, and wants what it gives; a turn
+-- line j of block k is a call that passes what the candidate takes, and wants what it gives; a turn
 -- begins before it in the block; the code's registers are below `base`
-pub record IsSite (v leaf : Code ℕ) (base k j : ℕ) (s : Site) : Type 0 where
+pub record IsSite (v candidate : Code ℕ) (base k j : ℕ) (s : Site) : Type 0 where
   pub block : slice_get v.blocks k ≡ Some s.block
   pub call : slice_get s.block.lines j ≡ Some (Call s.to (Name s.name) s.args)
   pub turn : IsTrue (list_any begins_turn (take j s.block.lines))
-  pub classes : IsTrue (same_classes (map (λ (a : Argument ℕ). a.class) s.args) (classes_in leaf.params))
-  pub result : IsTrue (result_fits (option_map (λ (d : Destination ℕ). d.class) s.to) leaf.result)
+  pub classes : IsTrue (same_classes (map (λ (a : Argument ℕ). a.class) s.args) (classes_in candidate.params))
+  pub result : IsTrue (result_fits (option_map (λ (d : Destination ℕ). d.class) s.to) candidate.result)
   pub known : IsTrue (keeps_places (is_below base) v)
-  pub calm : IsTrue (is_leaf leaf)
+  pub calm : IsTrue (is_candidate candidate)

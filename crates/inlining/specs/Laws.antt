@@ -10,16 +10,16 @@ use Rattle.vcode.specs.Places.{virtual}
 use Rattle.vcode.specs.Step.{begin, step}
 use Rattle.vcode.specs.InPlace.{KeepsIn}
 use Rattle.inlining.specs.InPlace.{Site, IsSite, in_place}
-use Rattle.inlining.specs.Leaves.{IsLeafOf}
+use Rattle.inlining.specs.Candidates.{IsCandidateOf}
 
--- Where calls of the function that is named go as the leaf's code, the code with one of them in place
+-- Where calls of the function that is named go as the candidate's code, the code with one of them in place
 -- runs as the code with the call.
 abbrev pub CallsInPlaceKeep : Type 0
 CallsInPlaceKeep =
-    (v leaf : Code ℕ) (base k j : ℕ) (s : Site)
-    → IsSite v leaf base k j s
+    (v candidate : Code ℕ) (base k j : ℕ) (s : Site)
+    → IsSite v candidate base k j s
     → (callees : Callees) (turns : ℕ) (globals : List Value) (f : Callee)
     → slice_get globals s.name ≡ Some (Function f)
-    → IsLeafOf callees turns globals leaf f
+    → IsCandidateOf callees turns globals candidate f
     → KeepsIn callees turns (classes_in v.params) (begin virtual v) (step virtual globals v)
-    (begin virtual (in_place v leaf base k j s)) (step virtual globals (in_place v leaf base k j s))
+    (begin virtual (in_place v candidate base k j s)) (step virtual globals (in_place v candidate base k j s))

@@ -1,6 +1,6 @@
 pub mod Moved
 pub mod InPlace
-pub mod Leaves
+pub mod Candidates
 pub mod Laws
 pub mod Placed
 pub mod Growth

@@ -20,7 +20,7 @@ moved base (Name g) = Name g
 abbrev pub moved_destination : (base : ℕ) → Destination ℕ → Destination ℕ
 moved_destination base d = record { place = d.place + base; class = d.class }
 
--- a line with all its registers so many further; a leaf makes no blocks
+-- a line with all its registers so many further; a candidate makes no blocks
 abbrev pub moved_line : (base : ℕ) → Line ℕ → Line ℕ
 moved_line base (Tick turn w) = Tick turn w
 moved_line base (Set to a) = Set (to + base) (moved base a)

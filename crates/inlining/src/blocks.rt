@@ -8,7 +8,7 @@ ghost use Rattle.vcode.specs.Named.{line_keeps, jump_keeps, block_keeps, is_belo
 ghost use Rattle.vcode.specs.Regular.{leads_inside};
 ghost use Rattle.inlining.specs.declared.limits.TheConstants.{BLOCKS};
 ghost use Rattle.inlining.specs.Moved.{moved_line};
-ghost use Rattle.inlining.specs.InPlace.{arguments_brought, leaf_block, up_to_call, behind_call};
+ghost use Rattle.inlining.specs.InPlace.{arguments_brought, candidate_block, up_to_call, behind_call};
 ghost use Rattle.inlining.specs.Placed.{site_of};
 
 use crate::brought::{push_arguments, push_result};
@@ -46,9 +46,9 @@ fn push_moved(
     Ok(())
 }
 
-/// A block of the leaf, with registers so many further: the leaf's blocks stand behind the one that goes on behind the call, and what is wanted of a result of
+/// A block of the candidate, with registers so many further: the candidate's blocks stand behind the one that goes on behind the call, and what is wanted of a result of
 /// this class takes it.
-fn leaf_block(
+fn candidate_block(
     alloc: Global,
     behind: usize,
     base: u32,
@@ -60,7 +60,7 @@ fn leaf_block(
     requires base { base < PLACES }
     requires inside { IsTrue (leads_inside BLOCKS block.now.jump) }
     requires known { IsTrue (block_keeps (is_below PLACES) block.now) }
-    ensures { IfOk result (λ b. b ≡ leaf_block (behind + 1) behind base class to block.now) }
+    ensures { IfOk result (λ b. b ≡ candidate_block (behind + 1) behind base class to block.now) }
 {
     let mut lines = Vec::with_capacity(alloc, block.lines.len())?;
     push_moved(alloc, base, &mut lines, block.lines.as_slice())?;
@@ -71,8 +71,8 @@ fn leaf_block(
     })
 }
 
-/// The blocks of the leaf, each in this way.
-pub(crate) fn push_leaf(
+/// The blocks of the candidate, each in this way.
+pub(crate) fn push_candidate(
     alloc: Global,
     base: u32,
     class: Option<Class>,
@@ -85,10 +85,10 @@ pub(crate) fn push_leaf(
     requires base { base < PLACES }
     requires inside { IsTrue (list_all (λ (b : BlockOf ℕ). leads_inside BLOCKS b.jump) blocks.now) }
     requires known { IsTrue (list_all (block_keeps (is_below PLACES)) blocks.now) }
-    ensures { OnOk result (made.new.items ≡ made.old.items ++ map (leaf_block (behind + 1) behind base class to) blocks.now) }
+    ensures { OnOk result (made.new.items ≡ made.old.items ++ map (candidate_block (behind + 1) behind base class to) blocks.now) }
 {
     for block in blocks {
-        made.push(leaf_block(alloc, behind, base, class, to, block)?)?;
+        made.push(candidate_block(alloc, behind, base, class, to, block)?)?;
     }
     Ok(())
 }
@@ -114,7 +114,7 @@ pub(crate) fn copied(alloc: Global, block: &Block<u32>) -> Result<Block<u32>, Al
     })
 }
 
-/// The block up to the call, which this line is: the parameters take the arguments, and the leaf's first block goes on.
+/// The block up to the call, which this line is: the parameters take the arguments, and the candidate's first block goes on.
 pub(crate) fn up_to_call(
     alloc: Global,
     behind: usize,

@@ -54,7 +54,7 @@ pub(crate) fn push_arguments(
     }
 }
 
-/// What is wanted of a result takes it, where the leaf returns.
+/// What is wanted of a result takes it, where the candidate returns.
 pub(crate) fn push_result(
     base: u32,
     lines: &mut Vec<Line<u32>>,

@@ -1,9 +1,9 @@
-//! Functions with calls of leaves done in place.
+//! Functions with calls of candidates done in place.
 ghost use Rattle.std.specs.Prelude.{◌≡◌, ◌+◌, ◌++◌, ◌<◌, length, slice_index_or, IfOk, IfSome, OnOk};
 ghost use Rattle.il_ast.specs.declared.limits.TheConstants.{FUNCTION_WEIGHT};
 ghost use Rattle.vcode.specs.declared.function.VFunc.{VFunc as VFuncOf};
 ghost use Rattle.vcode.specs.Regular.{code_weight};
-ghost use Rattle.inlining.specs.Placed.{Leaves, Grows, KeepsCalls};
+ghost use Rattle.inlining.specs.Placed.{Candidates, Grows, KeepsCalls};
 ghost use Rattle.inlining.specs.Growth.{IsGrowth, IsCut};
 
 use crate::blocks::copied;
@@ -22,12 +22,12 @@ fn cut_of(
     alloc: Global,
     growth: &Growth,
     at: usize,
-    leaves: &[Option<VFunc>],
+    candidates: &[Option<VFunc>],
 ) -> Result<Option<Cut>, AllocError>
     requires { at < length growth.now.blocks.items }
-    ensures { IfOk result (λ o. IfSome o (λ c. IsCut leaves.now growth.now (slice_index_or growth.now.blocks.items at c.up_to) c)) }
+    ensures { IfOk result (λ o. IfSome o (λ c. IsCut candidates.now growth.now (slice_index_or growth.now.blocks.items at c.up_to) c)) }
 {
-    cut_in(alloc, growth, &growth.blocks[at], leaves)
+    cut_in(alloc, growth, &growth.blocks[at], candidates)
 }
 
 /// The function with the first call of the block at a place that may be done in place done so.
@@ -35,12 +35,12 @@ fn with_call(
     alloc: Global,
     growth: Growth,
     at: usize,
-    leaves: &[Option<VFunc>],
+    candidates: &[Option<VFunc>],
 ) -> Result<Growth, AllocError>
     requires { at < length growth.blocks.items }
-    ensures { IfOk result (λ g. (v : VFuncOf) → IsGrowth leaves.now v growth → IsGrowth leaves.now v g) }
+    ensures { IfOk result (λ g. (v : VFuncOf) → IsGrowth candidates.now v growth → IsGrowth candidates.now v g) }
 {
-    match cut_of(alloc, &growth, at, leaves)? {
+    match cut_of(alloc, &growth, at, candidates)? {
         Some(cut) => put(growth, at, cut),
         None => Ok(growth),
     }
@@ -62,7 +62,7 @@ fn push_copies(
 /// The function as it is, before a call is done in place.
 fn as_it_is(alloc: Global, function: &VFunc, weight_left: u64) -> Result<Growth, AllocError>
     requires { code_weight function.now.code + weight_left ≡ FUNCTION_WEIGHT }
-    ensures { IfOk result (λ g. (leaves : Leaves) → IsGrowth leaves function.now g) }
+    ensures { IfOk result (λ g. (candidates : Candidates) → IsGrowth candidates function.now g) }
 {
     let mut blocks = Vec::with_capacity(alloc, function.code.blocks.len())?;
     push_copies(alloc, &mut blocks, function.code.blocks.as_slice())?;
@@ -78,15 +78,19 @@ fn as_it_is(alloc: Global, function: &VFunc, weight_left: u64) -> Result<Growth,
 }
 
 /// The function with calls done in place in each block, also in those that come by that.
-fn all_placed(alloc: Global, growth: Growth, leaves: &[Option<VFunc>]) -> Result<Growth, AllocError>
-    ensures { IfOk result (λ g. (v : VFuncOf) → IsGrowth leaves.now v growth → IsGrowth leaves.now v g) }
+fn all_placed(
+    alloc: Global,
+    growth: Growth,
+    candidates: &[Option<VFunc>],
+) -> Result<Growth, AllocError>
+    ensures { IfOk result (λ g. (v : VFuncOf) → IsGrowth candidates.now v growth → IsGrowth candidates.now v g) }
 {
     let mut growth = growth;
     for at in 0..BLOCKS {
         if at >= growth.blocks.len() {
             break;
         }
-        growth = with_call(alloc, growth, at, leaves)?;
+        growth = with_call(alloc, growth, at, candidates)?;
     }
     Ok(growth)
 }
@@ -95,11 +99,11 @@ fn all_placed(alloc: Global, growth: Growth, leaves: &[Option<VFunc>]) -> Result
 fn grown(
     alloc: Global,
     function: &VFunc,
-    leaves: &[Option<VFunc>],
+    candidates: &[Option<VFunc>],
     growth: Growth,
 ) -> Result<VFunc, AllocError>
-    requires { IsGrowth leaves.now function.now growth }
-    ensures { IfOk result (λ w. Grows leaves.now function.now.code function.now.registers w.code w.registers) }
+    requires { IsGrowth candidates.now function.now growth }
+    ensures { IfOk result (λ w. Grows candidates.now function.now.code function.now.registers w.code w.registers) }
 {
     let params = function.code.params.try_clone(alloc)?;
     Ok(VFunc {
@@ -115,56 +119,56 @@ fn grown(
 fn with_calls(
     alloc: Global,
     function: &VFunc,
-    leaves: &[Option<VFunc>],
+    candidates: &[Option<VFunc>],
     weight_left: u64,
 ) -> Result<VFunc, AllocError>
     requires { code_weight function.now.code + weight_left ≡ FUNCTION_WEIGHT }
-    ensures { IfOk result (λ w. KeepsCalls leaves.now function.now.code w.code) }
+    ensures { IfOk result (λ w. KeepsCalls candidates.now function.now.code w.code) }
 {
     let begun = as_it_is(alloc, function, weight_left)?;
-    let growth = all_placed(alloc, begun, leaves)?;
-    let made = grown(alloc, function, leaves, growth)?;
+    let growth = all_placed(alloc, begun, candidates)?;
+    let made = grown(alloc, function, candidates, growth)?;
     Ok(made)
 }
 
-fn has_call_of(block: &Block<u32>, leaves: &[Option<VFunc>]) -> bool {
+fn has_call_of(block: &Block<u32>, candidates: &[Option<VFunc>]) -> bool {
     block
         .lines
         .as_slice()
         .iter()
-        .any(|line| is_call_of(line, leaves))
+        .any(|line| is_call_of(line, candidates))
 }
 
-fn calls_any(function: &VFunc, leaves: &[Option<VFunc>]) -> bool {
+fn calls_any(function: &VFunc, candidates: &[Option<VFunc>]) -> bool {
     function
         .code
         .blocks
         .as_slice()
         .iter()
-        .any(|block| has_call_of(block, leaves))
+        .any(|block| has_call_of(block, candidates))
 }
 
-/// The function with calls of leaves done in place. `leaves` has, for each global name of the function's text, the leaf that a call of it goes as, if it has one.
-/// The leaves that may be called in place are small ones by the caller's choice: each call of one is done in place where a turn begins before it in its block and
+/// The function with calls of candidates done in place. `candidates` has, for each global name of the function's text, the candidate that a call of it goes as, if it has one.
+/// The candidates that may be called in place are small ones by the caller's choice: each call of one is done in place where a turn begins before it in its block and
 /// no block of memory is made behind it there, until the function has 2,000 lines more, or as many registers, blocks or as much weight as it may have. It takes
 /// time and memory as the function and the lines that come are long.
 ///
 /// # Errors
 ///
 /// Only where memory was refused.
-pub fn place_calls(
+pub fn inline_calls(
     alloc: Global,
     function: VFunc,
-    leaves: &[Option<VFunc>],
+    candidates: &[Option<VFunc>],
 ) -> Result<VFunc, AllocError>
-    ensures { IfOk result (λ w. KeepsCalls leaves.now function.code w.code) }
+    ensures { IfOk result (λ w. KeepsCalls candidates.now function.code w.code) }
 {
-    if !calls_any(&function, leaves) {
+    if !calls_any(&function, candidates) {
         return Ok(function);
     }
     match weight_behind(FUNCTION_WEIGHT, function.code.blocks.as_slice()) {
         Some(weight_left) => {
-            let made = with_calls(alloc, &function, leaves, weight_left)?;
+            let made = with_calls(alloc, &function, candidates, weight_left)?;
             Ok(made)
         }
         None => Ok(function),

@@ -4,14 +4,14 @@ ghost use Rattle.std.specs.List.{list_all, list_any};
 ghost use Rattle.vcode.specs.Regular.{is_alloc};
 ghost use Rattle.vcode.specs.declared.limits.TheConstants.{PLACES};
 ghost use Rattle.inlining.specs.declared.limits.TheConstants.{BLOCKS};
-ghost use Rattle.inlining.specs.Leaves.{begins_turn};
-ghost use Rattle.inlining.specs.InPlace.{leaf_block, behind_call};
+ghost use Rattle.inlining.specs.Candidates.{begins_turn};
+ghost use Rattle.inlining.specs.InPlace.{candidate_block, behind_call};
 ghost use Rattle.inlining.specs.Placed.{site_of};
 ghost use Rattle.inlining.specs.Growth.{StandsAt, IsMade, IsCut};
 
-use crate::blocks::{CallSite, behind_call, push_leaf, up_to_call};
+use crate::blocks::{CallSite, behind_call, push_candidate, up_to_call};
+use crate::candidate::begins_turn;
 use crate::growth::{Cut, Growth, Room, room_behind};
-use crate::leaf::begins_turn;
 use crate::limits::TRIES;
 use crate::site::{answers, are_paid, is_call_of, up_to_allocs};
 use std::alloc::{AllocError, Global};
@@ -21,27 +21,27 @@ use vcode::function::VFunc;
 use vcode::line::Line;
 use vcode::place::Operand;
 
-/// The rest of the block behind the call, which this line is, and the leaf's blocks.
+/// The rest of the block behind the call, which this line is, and the candidate's blocks.
 fn blocks_behind(
     alloc: Global,
     behind: usize,
     base: u32,
     line: usize,
     site: &CallSite<'_>,
-    leaf: &VFunc,
+    candidate: &VFunc,
 ) -> Result<Vec<Block<u32>>, AllocError>
     requires line { line < length site.now.block.now.lines }
-    requires few { behind + length leaf.now.code.blocks < BLOCKS }
+    requires few { behind + length candidate.now.code.blocks < BLOCKS }
     requires base { base < PLACES }
-    ensures { IfOk result (λ v. v.items ≡ behind_call line (site_of site.now) ∷ map (leaf_block (behind + 1) behind base leaf.now.code.result site.now.to) leaf.now.code.blocks) }
+    ensures { IfOk result (λ v. v.items ≡ behind_call line (site_of site.now) ∷ map (candidate_block (behind + 1) behind base candidate.now.code.result site.now.to) candidate.now.code.blocks) }
 {
-    let blocks = leaf.code.blocks.as_slice();
+    let blocks = candidate.code.blocks.as_slice();
     let mut made = Vec::new(alloc);
     made.push(behind_call(alloc, line, site)?)?;
-    push_leaf(
+    push_candidate(
         alloc,
         base,
-        leaf.code.result,
+        candidate.code.result,
         site.to,
         behind,
         &mut made,
@@ -50,25 +50,32 @@ fn blocks_behind(
     Ok(made)
 }
 
-/// The block cut at the call, which this line is, if there is room for the leaf and the ticks pay.
+/// The block cut at the call, which this line is, if there is room for the candidate and the ticks pay.
 fn cut_for(
     alloc: Global,
     growth: &Growth,
     line: usize,
     site: &CallSite<'_>,
-    leaf: &VFunc,
+    candidate: &VFunc,
 ) -> Result<Option<Cut>, AllocError>
     requires line { line < length site.now.block.now.lines }
-    ensures { IfOk result (λ o. IfSome o (λ c. IsMade growth.now.room (length growth.now.blocks.items) leaf.now line (site_of site.now) c)) }
+    ensures { IfOk result (λ o. IfSome o (λ c. IsMade growth.now.room (length growth.now.blocks.items) candidate.now line (site_of site.now) c)) }
 {
     let count = growth.blocks.len();
     let base = growth.room.registers;
-    let room = match room_behind(growth.room, count, site.block.lines.len(), leaf) {
+    let room = match room_behind(growth.room, count, site.block.lines.len(), candidate) {
         Some(room) => room,
         None => return Ok(None),
     };
-    let up_to = up_to_call(alloc, count, base, line, leaf.code.params.as_slice(), site)?;
-    let behind = blocks_behind(alloc, count, base, line, site, leaf)?;
+    let up_to = up_to_call(
+        alloc,
+        count,
+        base,
+        line,
+        candidate.code.params.as_slice(),
+        site,
+    )?;
+    let behind = blocks_behind(alloc, count, base, line, site, candidate)?;
     if is_paid(&up_to) && are_paid(behind.as_slice()) {
         Ok(Some(Cut {
             up_to,
@@ -80,23 +87,23 @@ fn cut_for(
     }
 }
 
-/// The block cut at the call, which this line is, if it is of one of the leaves and may be done in place.
+/// The block cut at the call, which this line is, if it is of one of the candidates and may be done in place.
 fn cut_at_call(
     alloc: Global,
     growth: &Growth,
     line: usize,
     site: &CallSite<'_>,
-    leaves: &[Option<VFunc>],
+    candidates: &[Option<VFunc>],
 ) -> Result<Option<Cut>, AllocError>
     requires line { line < length site.now.block.now.lines }
     requires stands { StandsAt line (site_of site.now) }
-    ensures { IfOk result (λ o. IfSome o (λ c. IsCut leaves.now growth.now site.now.block.now c)) }
+    ensures { IfOk result (λ o. IfSome o (λ c. IsCut candidates.now growth.now site.now.block.now c)) }
 {
-    match leaves.get(site.name.number()) {
-        Some(leaf) => match leaf {
-            Some(leaf) => {
-                if answers(leaf, site) {
-                    cut_for(alloc, growth, line, site, leaf)
+    match candidates.get(site.name.number()) {
+        Some(candidate) => match candidate {
+            Some(candidate) => {
+                if answers(candidate, site) {
+                    cut_for(alloc, growth, line, site, candidate)
                 } else {
                     Ok(None)
                 }
@@ -107,18 +114,18 @@ fn cut_at_call(
     }
 }
 
-/// The block cut at this line, if it is a call of one of the leaves that may be done in place.
+/// The block cut at this line, if it is a call of one of the candidates that may be done in place.
 fn cut_at(
     alloc: Global,
     growth: &Growth,
     block: &Block<u32>,
     line: usize,
-    leaves: &[Option<VFunc>],
+    candidates: &[Option<VFunc>],
 ) -> Result<Option<Cut>, AllocError>
     requires line { line < length block.now.lines }
     requires turn { IsTrue (list_any begins_turn (take line block.now.lines)) }
     requires plain { IsTrue (not (list_any is_alloc (drop (line + 1) block.now.lines))) }
-    ensures { IfOk result (λ o. IfSome o (λ c. IsCut leaves.now growth.now block.now c)) }
+    ensures { IfOk result (λ o. IfSome o (λ c. IsCut candidates.now growth.now block.now c)) }
 {
     match &block.lines.as_slice()[line] {
         Line::Call { to, callee, args } => match callee {
@@ -129,7 +136,7 @@ fn cut_at(
                     name: *name,
                     args: args.as_slice(),
                 };
-                cut_at_call(alloc, growth, line, &site, leaves)
+                cut_at_call(alloc, growth, line, &site, candidates)
             }
             Operand::At(_) | Operand::Number(_) => Ok(None),
         },
@@ -137,22 +144,22 @@ fn cut_at(
     }
 }
 
-/// The block cut at the first call of one of the leaves that may be done in place, if there is one.
+/// The block cut at the first call of one of the candidates that may be done in place, if there is one.
 pub(crate) fn cut_in(
     alloc: Global,
     growth: &Growth,
     block: &Block<u32>,
-    leaves: &[Option<VFunc>],
+    candidates: &[Option<VFunc>],
 ) -> Result<Option<Cut>, AllocError>
-    ensures { IfOk result (λ o. IfSome o (λ c. IsCut leaves.now growth.now block.now c)) }
+    ensures { IfOk result (λ o. IfSome o (λ c. IsCut candidates.now growth.now block.now c)) }
 {
     let lines = block.lines.as_slice();
     let start = up_to_allocs(lines);
     let mut turned = false;
     let mut tries = 0;
     for (number, line) in lines.iter().enumerate() {
-        if turned && start <= number && tries < TRIES && is_call_of(line, leaves) {
-            if let Some(cut) = cut_at(alloc, growth, block, number, leaves)? {
+        if turned && start <= number && tries < TRIES && is_call_of(line, candidates) {
+            if let Some(cut) = cut_at(alloc, growth, block, number, candidates)? {
                 return Ok(Some(cut));
             }
             tries += 1;

@@ -87,17 +87,22 @@ fn lines_behind(whole: usize, blocks: &[Block<u32>]) -> Option<usize> {
     Some(left)
 }
 
-/// The room that is left of a function with so many blocks where one of so many lines is cut for the leaf's code, if it is enough for that.
-pub(crate) fn room_behind(room: Room, blocks: usize, lines: usize, leaf: &VFunc) -> Option<Room>
-    ensures { IfSome result (λ left. Takes room blocks leaf.now left) }
+/// The room that is left of a function with so many blocks where one of so many lines is cut for the candidate's code, if it is enough for that.
+pub(crate) fn room_behind(
+    room: Room,
+    blocks: usize,
+    lines: usize,
+    candidate: &VFunc,
+) -> Option<Room>
+    ensures { IfSome result (λ left. Takes room blocks candidate.now left) }
 {
-    let more = leaf.code.blocks.as_slice();
-    let registers = room.registers.checked_add(leaf.registers)?;
+    let more = candidate.code.blocks.as_slice();
+    let registers = room.registers.checked_add(candidate.registers)?;
     if registers >= PLACES || blocks >= BLOCKS || more.len() >= BLOCKS - blocks {
         return None;
     }
     let weight_left = weight_behind(room.weight_left, more)?;
-    let lines_left = lines_behind(room.lines_left, more)?.checked_sub(leaf.code.params.len())?;
+    let lines_left = lines_behind(room.lines_left, more)?.checked_sub(candidate.code.params.len())?;
     let copies_left = room.copies_left.checked_sub(lines)?;
     Some(Room {
         registers,

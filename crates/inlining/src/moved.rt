@@ -1,4 +1,4 @@
-//! A leaf's lines and jumps at other registers and blocks.
+//! A candidate's lines and jumps at other registers and blocks.
 ghost use Rattle.std.specs.Prelude.{◌≡◌, ℕ, ◌+◌, ◌++◌, ◌<◌, map, IsTrue, IfOk, OnOk};
 ghost use Rattle.std.specs.List.{list_all};
 ghost use Rattle.std.specs.Option.{option_map};
@@ -173,7 +173,7 @@ pub(crate) fn moved_line(
     })
 }
 
-/// The jump with its registers so many further, where the leaf's blocks stand behind the one that goes on behind the call: a return goes to that.
+/// The jump with its registers so many further, where the candidate's blocks stand behind the one that goes on behind the call: a return goes to that.
 pub(crate) fn moved_jump(behind: usize, base: u32, from: &Jump<u32>) -> Jump<u32>
     requires few { behind < BLOCKS }
     requires base { base < PLACES }

@@ -12,7 +12,7 @@ ghost use Rattle.inlining.specs.Placed.{site_of};
 ghost use Rattle.inlining.specs.Growth.{Answers};
 
 use crate::blocks::CallSite;
-use crate::leaf::is_leaf;
+use crate::candidate::is_candidate;
 use il_ast::operation::Class;
 use vcode::code::Block;
 use vcode::cost::is_paid;
@@ -46,14 +46,14 @@ fn result_fits(to: &Option<Destination<u32>>, class: Option<Class>) -> bool
     }
 }
 
-/// Whether the leaf takes what the call passes, and gives what it wants.
-pub(crate) fn answers(leaf: &VFunc, site: &CallSite<'_>) -> bool
-    ensures { result ≡ true → Answers leaf.now (site_of site.now) }
+/// Whether the candidate takes what the call passes, and gives what it wants.
+pub(crate) fn answers(candidate: &VFunc, site: &CallSite<'_>) -> bool
+    ensures { result ≡ true → Answers candidate.now (site_of site.now) }
 {
-    leaf.code.blocks.len() > 0
-        && args_fit(site.args, leaf.code.params.as_slice())
-        && result_fits(&site.to, leaf.code.result)
-        && is_leaf(leaf)
+    candidate.code.blocks.len() > 0
+        && args_fit(site.args, candidate.code.params.as_slice())
+        && result_fits(&site.to, candidate.code.result)
+        && is_candidate(candidate)
 }
 
 /// Whether ticks pay for the lines and the jump of each block.
@@ -85,11 +85,11 @@ pub(crate) fn up_to_allocs(lines: &[Line<u32>]) -> usize
     up_to
 }
 
-/// Whether the line is a call of one of the leaves.
-pub(crate) fn is_call_of(line: &Line<u32>, leaves: &[Option<VFunc>]) -> bool {
+/// Whether the line is a call of one of the candidates.
+pub(crate) fn is_call_of(line: &Line<u32>, candidates: &[Option<VFunc>]) -> bool {
     match line {
         Line::Call { callee, .. } => match callee {
-            Operand::Name(name) => matches!(leaves.get(name.number()), Some(Some(_))),
+            Operand::Name(name) => matches!(candidates.get(name.number()), Some(Some(_))),
             Operand::At(_) | Operand::Number(_) => false,
         },
         _ => false,

@@ -5,7 +5,8 @@ use crate::lifetimes::{Lifetime, lifetimes};
 use crate::starts::{Ground, Starts, line_count, starts_of};
 use crate::text::{Text, text_of};
 use cfg_live::sets::Live;
-use loops::depths::{depths_along, sources};
+use flow::depths::loop_depths;
+use flow::graph::predecessors;
 use std::alloc::{AllocError, Global};
 use vcode::code::Block;
 use vcode::function::VFunc;
@@ -30,8 +31,8 @@ pub struct Facts {
 }
 
 fn text(alloc: Global, blocks: &[Block<u32>]) -> Result<Text, AllocError> {
-    let sources = sources(alloc, blocks)?;
-    let depths = depths_along(alloc, blocks, sources.as_slice())?;
+    let sources = predecessors(alloc, blocks)?;
+    let depths = loop_depths(alloc, blocks, sources.as_slice())?;
     text_of(alloc, blocks, depths.as_slice(), sources)
 }
 

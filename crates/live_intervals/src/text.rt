@@ -1,7 +1,8 @@
 //! The blocks of a function: where they stand in its text, how often they run, and which lead to which.
 use crate::lifetimes::jump_point;
 use il_ast::few::Few;
-use loops::depths::{frequency, target};
+use flow::depths::frequency;
+use flow::graph::successor;
 use std::alloc::{AllocError, Global};
 use vcode::code::Block;
 
@@ -87,8 +88,8 @@ fn stretches(
             first,
             jump,
             depth: depths.get(number).copied().unwrap_or(0),
-            next: target(&block.jump, 0),
-            other: target(&block.jump, 1),
+            next: successor(&block.jump, 0),
+            other: successor(&block.jump, 1),
         })?;
         first = jump.saturating_add(1);
     }

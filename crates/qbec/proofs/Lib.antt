@@ -3,7 +3,7 @@ pub mod ProgramLemmas
 pub mod CodeLemmas
 pub mod PromotedFunctions
 pub mod Standing
-pub mod LeafCalls
+pub mod CandidateCalls
 pub mod Placing
 pub mod ExecutableBytes
 pub mod PromotedRuns

@@ -22,7 +22,7 @@ pub stands_in : (p : Program) (f : InText Func) (l : LFunc) (c : Words) → IsCo
 stands_in p f l c is bytes fits laid =
     record { code = l.code; slots = l.slots; items = laid.items; is = is; fits = fits; bytes = bytes; machine = laid.machine; laid = laid.laid }
 
--- without leaves, and not too many
+-- without candidates, and not too many
 pub stands_within : (f : Func) (l : LFunc) (c : Words) → IsCodeOf f (location_code l) → FlatKept l.code → frame_bound l.code l.slots ≤ need f → code_weight l.code ≤ weight f → IsLaidOut l c → StandWithin [] f c
 stands_within f l c is bytes fits weighs laid =
     let few = laid.few in (
@@ -30,9 +30,9 @@ stands_within f l c is bytes fits weighs laid =
       omega (arith, few, weighs),
     )
 
--- with leaves, where they fit
-pub stand_within : {E : Type 0} (leaves : List (Option VFunc)) (f : Func) (l : LFunc) → IsCodeWith leaves f (location_code l) → FlatKept l.code → (r : Result (Option Words) E)
-    → IfOk r (λ o. IfSome o (λ c. IsLaidOut l c × (frame_bound l.code l.slots ≤ need f) × (length c.words ≤ 32 * weight f + 256))) → IfOk r (λ o. IfSome o (λ c. StandWithin leaves f c))
-stand_within leaves f l is bytes (Ok None) h = tt
-stand_within leaves f l is bytes (Ok (Some c)) h = (λ p text are. stands_in p (record { text = text; item = f }) l c (is p text are) bytes h.1 h.0, h.2)
-stand_within leaves f l is bytes (Err e) h = tt
+-- with candidates, where they fit
+pub stand_within : {E : Type 0} (candidates : List (Option VFunc)) (f : Func) (l : LFunc) → IsCodeWith candidates f (location_code l) → FlatKept l.code → (r : Result (Option Words) E)
+    → IfOk r (λ o. IfSome o (λ c. IsLaidOut l c × (frame_bound l.code l.slots ≤ need f) × (length c.words ≤ 32 * weight f + 256))) → IfOk r (λ o. IfSome o (λ c. StandWithin candidates f c))
+stand_within candidates f l is bytes (Ok None) h = tt
+stand_within candidates f l is bytes (Ok (Some c)) h = (λ p text are. stands_in p (record { text = text; item = f }) l c (is p text are) bytes h.1 h.0, h.2)
+stand_within candidates f l is bytes (Err e) h = tt

@@ -3,7 +3,7 @@ pub mod Refusals
 pub mod Laws
 pub mod Promoted
 pub mod Pipeline
-pub mod Leaves
+pub mod Candidates
 pub mod Codes
 pub mod Compile
 pub mod Symbols

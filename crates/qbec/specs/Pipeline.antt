@@ -12,7 +12,7 @@ use Rattle.vcode.specs.declared.function.LFunc.{LFunc}
 use Rattle.vcode.specs.declared.function.VFunc.{VFunc}
 use Rattle.vcode.specs.Coded.{virtual_code}
 use Rattle.vcode.specs.Regular.{code_weight}
-use Rattle.inlining.specs.Leaves.{is_leaf}
+use Rattle.inlining.specs.Candidates.{is_candidate}
 use Rattle.abi_frames.specs.Frames.{IsFrameOf}
 use Rattle.rv_isa.specs.declared.labelled.Item.{Item}
 use Rattle.rv_isa.specs.Laid.{LaysOut}
@@ -20,31 +20,31 @@ use Rattle.rv_isa.specs.Words.{Words}
 use Rattle.headline.specs.Functions.{IsCodeIn}
 use Rattle.headline.specs.Compiled.{StandIn}
 
--- ---- leaves
+-- ---- candidates
 
 -- in this text of the program the name means a function of the same text, whose code this is; and
--- that is a leaf
-pub record IsLeafNamed (p : Program) (text name : ℕ) (leaf : VFunc) : Type 0 where
+-- that is a candidate
+pub record IsCandidateNamed (p : Program) (text name : ℕ) (candidate : VFunc) : Type 0 where
   pub number : ℕ
   pub function : InText Func
   pub means : slice_get (globals_of p text) name ≡ Some (Function (Defined number))
   pub here : slice_get p.functions number ≡ Some function
   pub same : function.text ≡ text
-  pub is : IsCodeIn p function (virtual_code leaf)
-  pub calm : IsTrue (is_leaf leaf.code)
+  pub is : IsCodeIn p function (virtual_code candidate)
+  pub calm : IsTrue (is_candidate candidate.code)
 
--- for some names of this text, the code of the leaves that they mean
-abbrev pub AreLeavesOf : Program → (text : ℕ) → List (Option VFunc) → Type 0
-AreLeavesOf p text leaves =
-    (name : ℕ) (leaf : VFunc) → slice_get leaves name ≡ Some (Some leaf) →
-    IsLeafNamed p text name leaf
+-- for some names of this text, the code of the candidates that they mean
+abbrev pub AreCandidatesOf : Program → (text : ℕ) → List (Option VFunc) → Type 0
+AreCandidatesOf p text candidates =
+    (name : ℕ) (candidate : VFunc) → slice_get candidates name ≡ Some (Some candidate) →
+    IsCandidateNamed p text name candidate
 
 -- ---- one function
 
--- code of the function, in every text of a program whose leaves these are
+-- code of the function, in every text of a program whose candidates these are
 abbrev pub IsCodeWith : List (Option VFunc) → Func → Coded → Type 0
-IsCodeWith leaves f c =
-    (p : Program) (text : ℕ) → AreLeavesOf p text leaves →
+IsCodeWith candidates f c =
+    (p : Program) (text : ℕ) → AreCandidatesOf p text candidates →
     IsCodeIn p (record { text = text; item = f }) c
 
 -- words for location code, wherever they stand, and how many they are at most
@@ -54,12 +54,12 @@ pub record IsLaidOut (l : LFunc) (c : Words) : Type 0 where
   pub laid : LaysOut items c.words c.holes
   pub few : length c.words ≤ 32 * code_weight l.code + 256
 
--- words that stand in for the function, in every text of a program whose leaves these are
+-- words that stand in for the function, in every text of a program whose candidates these are
 abbrev pub StandWith : List (Option VFunc) → Func → Words → Type 0
-StandWith leaves f c =
-    (p : Program) (text : ℕ) → AreLeavesOf p text leaves →
+StandWith candidates f c =
+    (p : Program) (text : ℕ) → AreCandidatesOf p text candidates →
     StandIn p (record { text = text; item = f }) c
 
 -- and as few as its weight allows: 32 for each unit, and 256
 abbrev pub StandWithin : List (Option VFunc) → Func → Words → Type 0
-StandWithin leaves f c = StandWith leaves f c × (length c.words ≤ 32 * weight f + 256)
+StandWithin candidates f c = StandWith candidates f c × (length c.words ≤ 32 * weight f + 256)

@@ -4,13 +4,13 @@ ghost use Rattle.il_ast.specs.declared.program.Program.{Program};
 ghost use Rattle.il_ast.specs.Cost.{weight};
 ghost use Rattle.phi_copies.specs.Good.{IsGoodFunction};
 ghost use Rattle.obj_link.specs.Shown.{shown};
-ghost use Rattle.qbec.specs.Leaves.{AreLeavesIn};
+ghost use Rattle.qbec.specs.Candidates.{AreCandidatesIn};
 ghost use Rattle.qbec.specs.Promoted.{StandPromoted};
 ghost use Rattle.obj_link.specs.ProgramOf.{program};
 ghost use Rattle.rv_isa.specs.Words.{IsCode};
 ghost use Rattle.qbec.specs.Codes.{AreGood, AreWords, AreWordsIn};
 
-use crate::leaves::{leaves_in, leaves_of};
+use crate::candidates::{candidates_in, candidates_of};
 use crate::pipeline::function_words;
 use certificates::strategy::Strategy;
 use il_ast::function::Func;
@@ -30,7 +30,7 @@ fn push_code(codes: &mut Vec<MachineCode>, code: MachineCode) -> Result<(), Allo
     Ok(())
 }
 
-/// The words of a function of this text, with calls of the text's leaves in place.
+/// The words of a function of this text, with calls of the text's candidates in place.
 fn words_of(
     alloc: Global,
     tables: &[Vec<Option<VFunc>>],
@@ -39,13 +39,13 @@ fn words_of(
     allocator: &mut dyn Strategy,
 ) -> Result<MachineCode, AllocError>
     requires { IsGoodFunction func.now }
-    ensures stand { IfOk result (λ c. (p : Program) → AreLeavesIn p (map (λ t. t.items) tables.now) → StandPromoted p (record { text = text; item = func.now }) c) }
+    ensures stand { IfOk result (λ c. (p : Program) → AreCandidatesIn p (map (λ t. t.items) tables.now) → StandPromoted p (record { text = text; item = func.now }) c) }
     ensures few { IfOk result (λ c. length c.words ≤ 32 * weight func.now + 256) }
 {
-    function_words(alloc, leaves_in(tables, text), func, allocator)
+    function_words(alloc, candidates_in(tables, text), func, allocator)
 }
 
-/// The words of functions, in order, with calls of their texts' leaves in place.
+/// The words of functions, in order, with calls of their texts' candidates in place.
 fn codes_with(
     alloc: Global,
     tables: &[Vec<Option<VFunc>>],
@@ -53,7 +53,7 @@ fn codes_with(
     allocator: &mut dyn Strategy,
 ) -> Result<Vec<MachineCode>, AllocError>
     requires { AreGood functions.now }
-    ensures { IfOk result (λ v. (p : Program) → AreLeavesIn p (map (λ t. t.items) tables.now) → AreWordsIn p v.items (map shown functions.now)) }
+    ensures { IfOk result (λ v. (p : Program) → AreCandidatesIn p (map (λ t. t.items) tables.now) → AreWordsIn p v.items (map shown functions.now)) }
 {
     let mut codes = Vec::new(alloc);
     for function in functions {
@@ -63,7 +63,7 @@ fn codes_with(
     Ok(codes)
 }
 
-/// The words of all functions of a program, in order, with calls of small leaves in place.
+/// The words of all functions of a program, in order, with calls of small candidates in place.
 ///
 /// # Errors
 ///
@@ -76,7 +76,7 @@ pub fn codes_of(
     requires { AreGood linked.now.functions }
     ensures { IfOk result (λ v. AreWords v.items (program linked.now)) }
 {
-    let tables = leaves_of(alloc, linked)?;
+    let tables = candidates_of(alloc, linked)?;
     let functions = linked.functions.as_slice();
     codes_with(alloc, tables.as_slice(), functions, allocator)
 }

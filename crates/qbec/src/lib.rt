@@ -3,6 +3,8 @@
 //! [`compile::compile`] goes from the bytes of texts to the bytes of an executable file, with the registers that a strategy chooses. Its contract is the theorem of
 //! the whole: whatever the bytes load as is an executable of the program that the texts are, and texts that are no program are refused, with a true reason.
 //!
+//! Each function goes by the passes of one table, [`passes::PASSES`], and then by the register allocator and the back end ([`pipeline`]).
+//!
 //! Before it, [`texts::checked_texts`] reads and checks texts; [`laws`] says that texts are at most one program, and that what a refusal says is true of no program.
 //!
 //! [`symbols::listing::listing`] says where the names of texts stand in an executable of the program that they are: the addresses of its image.
@@ -11,15 +13,16 @@
 //! |---|---|
 //! | `specs/Texts`, `specs/Compile` | the program that texts are; what an executable file of a program is |
 //! | `specs/Refusals` | what each refusal says |
-//! | `specs/Pipeline`, `specs/Leaves`, `specs/Promoted`, `specs/Codes` | functions on their way to words; the program that is compiled in a program's place |
+//! | `specs/Pipeline`, `specs/Candidates`, `specs/Promoted`, `specs/Codes` | functions on their way to words; the program that is compiled in a program's place |
 //! | `specs/Symbols`, `specs/Listing` | where the names of a program stand in an executable of it; the lines that show it |
 #![tactic(auto)]
 
+pub mod candidates;
 pub mod codes;
 pub mod compile;
 pub mod error;
 pub mod laws;
-pub mod leaves;
+pub mod passes;
 pub mod pipeline;
 pub mod symbols;
 pub mod texts;

@@ -9,41 +9,32 @@ ghost use Rattle.il_ast.specs.Passes.{Keeps, IsCodeOf};
 ghost use Rattle.phi_copies.specs.Good.{IsGoodFunction};
 ghost use Rattle.abi_frames.specs.Layout.{frame_bound};
 ghost use Rattle.flat_code.specs.Laws.{FlatKept};
-ghost use Rattle.inlining.specs.Leaves.{is_leaf};
+ghost use Rattle.inlining.specs.Candidates.{is_candidate};
 ghost use Rattle.vcode.specs.Regular.{code_weight};
 ghost use Rattle.vcode.specs.Coded.{virtual_code, location_code};
 ghost use Rattle.promote.specs.Promoted.{IsPromoted};
-ghost use Rattle.qbec.specs.Leaves.{IsLeafCode};
+ghost use Rattle.qbec.specs.Candidates.{IsCandidateCode};
 ghost use Rattle.qbec.specs.Pipeline.{IsCodeWith, IsLaidOut, StandWith, StandWithin};
 
+use crate::passes::PASSES;
 use abi_frames::frame::{frame, frame_bound};
 use alloc_check::accept::{Refused, accept};
 use alloc_check::spill_all::spill_all;
 use asm_layout::layout::layout;
-use block_order::order::order_blocks;
 use certificates::certificate::Certificate;
 use certificates::strategy::Strategy;
 use cfg_live::live::live;
-use constant_hoisting::constants::hoist_constants;
-use dead_code::remove::remove_dead_code;
 use flat_code::function::{FlatFunc, flat};
-use hoisting::hoist::hoist;
 use il_ast::function::Func;
 use il_types::cost::{capped_need, weight};
-use inlining::calls::place_calls;
-use inlining::leaf::is_leaf;
+use inlining::calls::inline_calls;
+use inlining::candidate::is_candidate;
 use phi_copies::lower::lower;
 use promote::made::has_alloc;
 use promote::promote::promote;
-use propagation::propagate::propagate;
-use read_copies::read::read_copies;
 use rv_isa::code::MachineCode;
 use select::select::select;
-use sign_extensions::copies::copy_whole_words;
-use sinking::sink::sink;
 use std::alloc::{AllocError, Global};
-use tail_copies::copy::{copy_tails, join_blocks};
-use value_numbering::reuse::reuse_values;
 use vcode::function::{LFunc, VFunc};
 
 /// By this certificate where it is right, else with every register in a slot of its own.
@@ -82,75 +73,6 @@ pub fn allocated(
     }
 }
 
-/// A pass on virtual code.
-#[derive(Clone, Copy)]
-enum Pass {
-    SignExtensions,
-    Joining,
-    Propagation,
-    ValueNumbering,
-    Sinking,
-    DeadCode,
-    ReadCopies,
-    ConstantHoisting,
-    TailCopies,
-    BlockOrder,
-}
-
-/// All of them, in the order in which they go over a function. Dead lines go before values are looked for, since they would count as readers of these, and once
-/// more behind that.
-const PASSES: [Pass; 11] = [
-    Pass::SignExtensions,
-    Pass::Joining,
-    Pass::Propagation,
-    Pass::DeadCode,
-    Pass::ValueNumbering,
-    Pass::Sinking,
-    Pass::DeadCode,
-    Pass::ReadCopies,
-    Pass::ConstantHoisting,
-    Pass::TailCopies,
-    Pass::BlockOrder,
-];
-
-/// The function with values used again, and with what is known then carried forward.
-fn reused(alloc: Global, function: VFunc) -> Result<VFunc, AllocError>
-    ensures { IfOk result (λ w. Keeps (virtual_code function) (virtual_code w)) }
-{
-    match reuse_values(alloc, &function)? {
-        Some(made) => propagate(alloc, made),
-        None => Ok(function),
-    }
-}
-
-/// The same, with computations of its loops in front of them first.
-fn with_values_reused(alloc: Global, function: VFunc) -> Result<VFunc, AllocError>
-    ensures { IfOk result (λ w. Keeps (virtual_code function) (virtual_code w)) }
-{
-    match hoist(alloc, &function)? {
-        Some(hoisted) => reused(alloc, hoisted),
-        None => reused(alloc, function),
-    }
-}
-
-/// The function by one pass.
-fn passed(alloc: Global, pass: Pass, function: VFunc) -> Result<VFunc, AllocError>
-    ensures { IfOk result (λ w. Keeps (virtual_code function) (virtual_code w)) }
-{
-    match pass {
-        Pass::SignExtensions => copy_whole_words(alloc, function),
-        Pass::Joining => join_blocks(alloc, function),
-        Pass::Propagation => propagate(alloc, function),
-        Pass::ValueNumbering => with_values_reused(alloc, function),
-        Pass::Sinking => sink(alloc, function),
-        Pass::DeadCode => remove_dead_code(alloc, function),
-        Pass::ReadCopies => read_copies(alloc, function),
-        Pass::ConstantHoisting => hoist_constants(alloc, function),
-        Pass::TailCopies => copy_tails(alloc, function),
-        Pass::BlockOrder => order_blocks(alloc, function),
-    }
-}
-
 /// The function as it is selected: with every register in a slot of its own, its frame takes no more of the stack than a call of the function is counted for, and
 /// its code is as light as the function.
 fn selected(alloc: Global, func: &Func) -> Result<VFunc, AllocError>
@@ -164,36 +86,36 @@ fn selected(alloc: Global, func: &Func) -> Result<VFunc, AllocError>
     Ok(function)
 }
 
-/// The function as it is selected, with calls of these leaves in place.
+/// The function as it is selected, with calls of these candidates in place.
 fn with_calls_placed(
     alloc: Global,
-    leaves: &[Option<VFunc>],
+    candidates: &[Option<VFunc>],
     func: &Func,
 ) -> Result<VFunc, AllocError>
     requires { IsGoodFunction func.now }
-    ensures { IfOk result (λ v. IsCodeWith leaves.now func.now (virtual_code v)) }
+    ensures { IfOk result (λ v. IsCodeWith candidates.now func.now (virtual_code v)) }
 {
     let function = selected(alloc, func)?;
-    place_calls(alloc, function, leaves)
+    inline_calls(alloc, function, candidates)
 }
 
-/// The function in virtual code: with calls of these leaves in place, and by all passes in their order. `leaves` has for names of the function's text the code
-/// of the function that the name means, where that is a leaf.
+/// The function in virtual code: with calls of these candidates in place, and by all passes in their order. `candidates` has for names of the function's text the code
+/// of the function that the name means, where that is a candidate.
 ///
 /// # Errors
 ///
 /// Only where memory was refused.
 pub fn virtual_code_of(
     alloc: Global,
-    leaves: &[Option<VFunc>],
+    candidates: &[Option<VFunc>],
     func: &Func,
 ) -> Result<VFunc, AllocError>
     requires { IsGoodFunction func.now }
-    ensures { IfOk result (λ v. IsCodeWith leaves.now func.now (virtual_code v)) }
+    ensures { IfOk result (λ v. IsCodeWith candidates.now func.now (virtual_code v)) }
 {
-    let mut function = with_calls_placed(alloc, leaves, func)?;
+    let mut function = with_calls_placed(alloc, candidates, func)?;
     for pass in &PASSES {
-        let made = passed(alloc, *pass, function)?;
+        let made = pass.apply(alloc, function)?;
         function = made;
     }
     Ok(function)
@@ -226,15 +148,15 @@ fn is_short(func: &Func, code: &MachineCode) -> bool
 /// The function by all passes, and as the strategy has it.
 fn located(
     alloc: Global,
-    leaves: &[Option<VFunc>],
+    candidates: &[Option<VFunc>],
     func: &Func,
     allocator: &mut dyn Strategy,
 ) -> Result<FlatFunc, AllocError>
     requires { IsGoodFunction func.now }
-    ensures is { IfOk result (λ p. IsCodeWith leaves.now func.now (location_code p.located)) }
+    ensures is { IfOk result (λ p. IsCodeWith candidates.now func.now (location_code p.located)) }
     ensures keeps { IfOk result (λ p. FlatKept p.located.code) }
 {
-    let function = virtual_code_of(alloc, leaves, func)?;
+    let function = virtual_code_of(alloc, candidates, func)?;
     let located = allocated(alloc, &function, allocator)?;
     Ok(flat(located))
 }
@@ -261,14 +183,14 @@ fn fitting(
 /// By all passes, and as the strategy has it. None where that doesn't fit: passes may add registers and copy lines, and nothing else bounds how many.
 fn optimized(
     alloc: Global,
-    leaves: &[Option<VFunc>],
+    candidates: &[Option<VFunc>],
     func: &Func,
     allocator: &mut dyn Strategy,
 ) -> Result<Option<MachineCode>, AllocError>
     requires { IsGoodFunction func.now }
-    ensures { IfOk result (λ o. IfSome o (λ c. StandWithin leaves.now func.now c)) }
+    ensures { IfOk result (λ o. IfSome o (λ c. StandWithin candidates.now func.now c)) }
 {
-    let placed = located(alloc, leaves, func, allocator)?;
+    let placed = located(alloc, candidates, func, allocator)?;
     fitting(alloc, func, &placed)
 }
 
@@ -310,53 +232,57 @@ fn without_calls_placed(
     }
 }
 
-/// With calls of leaves in place where that fits, else without.
+/// With calls of candidates in place where that fits, else without.
 fn promoted_words(
     alloc: Global,
-    leaves: &[Option<VFunc>],
+    candidates: &[Option<VFunc>],
     func: &Func,
     allocator: &mut dyn Strategy,
 ) -> Result<MachineCode, AllocError>
     requires { IsGoodFunction func.now }
-    ensures { IfOk result (λ c. StandWithin leaves.now func.now c) }
+    ensures { IfOk result (λ c. StandWithin candidates.now func.now c) }
 {
-    match optimized(alloc, leaves, func, allocator)? {
+    match optimized(alloc, candidates, func, allocator)? {
         Some(code) => Ok(code),
         None => without_calls_placed(alloc, func, allocator),
     }
 }
 
-/// The function in virtual code, with calls of these leaves in place, if it is a leaf.
-fn leaf_of(alloc: Global, below: &[Option<VFunc>], func: &Func) -> Result<Option<VFunc>, AllocError>
+/// The function in virtual code, with calls of these candidates in place, if it is a candidate.
+fn candidate_of(
+    alloc: Global,
+    below: &[Option<VFunc>],
+    func: &Func,
+) -> Result<Option<VFunc>, AllocError>
     requires { IsGoodFunction func.now }
-    ensures { IfOk result (λ o. IfSome o (λ v. IsCodeWith below.now func.now (virtual_code v) × IsTrue (is_leaf v.code))) }
+    ensures { IfOk result (λ o. IfSome o (λ v. IsCodeWith below.now func.now (virtual_code v) × IsTrue (is_candidate v.code))) }
 {
     let function = with_calls_placed(alloc, below, func)?;
-    if is_leaf(&function) {
+    if is_candidate(&function) {
         Ok(Some(function))
     } else {
         Ok(None)
     }
 }
 
-/// The code of a function, with calls of these leaves in place, if it is a leaf.
+/// The code of a function, with calls of these candidates in place, if it is a candidate.
 ///
 /// # Errors
 ///
 /// Only where memory was refused.
-pub fn leaf_code(
+pub fn candidate_code(
     alloc: Global,
     below: &[Option<VFunc>],
     func: &Func,
 ) -> Result<Option<VFunc>, AllocError>
     requires { IsGoodFunction func.now }
-    ensures { IfOk result (λ o. IfSome o (λ v. IsLeafCode below.now func.now v)) }
+    ensures { IfOk result (λ o. IfSome o (λ v. IsCandidateCode below.now func.now v)) }
 {
     let promoted = promote(alloc, func)?;
-    leaf_of(alloc, below, &promoted)
+    candidate_of(alloc, below, &promoted)
 }
 
-/// The words of a function, whose locals are taken out of memory first: by all passes, with calls of leaves in place where that fits, else without; and as it is
+/// The words of a function, whose locals are taken out of memory first: by all passes, with calls of candidates in place where that fits, else without; and as it is
 /// selected where all that doesn't fit.
 ///
 /// # Errors
@@ -364,17 +290,17 @@ pub fn leaf_code(
 /// Only where memory was refused.
 pub fn function_words(
     alloc: Global,
-    leaves: &[Option<VFunc>],
+    candidates: &[Option<VFunc>],
     func: &Func,
     allocator: &mut dyn Strategy,
 ) -> Result<MachineCode, AllocError>
     requires { IsGoodFunction func.now }
-    ensures stand { IfOk result (λ c. (promoted : PromotedFunc) × IsPromoted func.now promoted × StandWith leaves.now promoted c) }
+    ensures stand { IfOk result (λ c. (promoted : PromotedFunc) × IsPromoted func.now promoted × StandWith candidates.now promoted c) }
     ensures few { IfOk result (λ c. length c.words ≤ 32 * weight func.now + 256) }
 {
     if !has_alloc(func) {
-        return promoted_words(alloc, leaves, func, allocator);
+        return promoted_words(alloc, candidates, func, allocator);
     }
     let promoted = promote(alloc, func)?;
-    promoted_words(alloc, leaves, &promoted, allocator)
+    promoted_words(alloc, candidates, &promoted, allocator)
 }

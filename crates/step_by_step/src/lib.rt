@@ -8,6 +8,7 @@ mod allocation;
 mod back_end;
 mod case;
 mod certified;
+mod chosen;
 mod files;
 mod frames;
 mod front_end;
@@ -27,10 +28,11 @@ mod tokens;
 mod watch;
 
 use crate::case::{Case, case_of};
-use crate::step::{STEPS, Step};
+use crate::step::{BACK_END, FRONT_END, PARTS_OF_PASSES, Step};
 use crate::watch::watched;
 use code_text::function::is_same;
-use std::alloc::AllocError;
+use qbec::passes::PASSES;
+use std::alloc::{AllocError, Global};
 use std::rt::Files;
 use std::{fs, io, str};
 use test_report::report::Report;
@@ -78,14 +80,43 @@ fn watched_file<R: Files + AllocGlobal>(rt: &R, path: &str) -> io::Result<String
     }
 }
 
+/// Checks the tables of those of these steps that are named, or of all of them where none is.
+fn check_steps<R: Files + AllocGlobal>(
+    rt: &R,
+    steps: &[Step],
+    names: &[String],
+    report: &mut Report,
+) -> io::Result<()> {
+    for step in steps {
+        if names.is_empty() || names.iter().any(|name| name.as_str() == step.name()) {
+            check_step(rt, *step, report)?;
+        }
+    }
+    Ok(())
+}
+
+/// The steps of the compiler's passes, each once.
+fn pass_steps(alloc: Global) -> Result<Vec<Step>, AllocError> {
+    let mut steps = Vec::new(alloc);
+    for (place, pass) in PASSES.iter().enumerate() {
+        if !PASSES[..place]
+            .iter()
+            .any(|before| before.name() == pass.name())
+        {
+            steps.push(Step::Pass(*pass))?;
+        }
+    }
+    Ok(steps)
+}
+
 /// Checks the tables of the steps that are named, or of all where none is. The lines of the report are answered.
 fn checked_steps<R: Files + AllocGlobal>(rt: &R, names: &[String]) -> io::Result<String> {
     let mut report = Report::new(rt.alloc());
-    for step in STEPS {
-        if names.is_empty() || names.iter().any(|name| name.as_str() == step.name()) {
-            check_step(rt, step, &mut report)?;
-        }
-    }
+    check_steps(rt, &FRONT_END, names, &mut report)?;
+    let passes = pass_steps(rt.alloc())?;
+    check_steps(rt, passes.as_slice(), names, &mut report)?;
+    check_steps(rt, &PARTS_OF_PASSES, names, &mut report)?;
+    check_steps(rt, &BACK_END, names, &mut report)?;
     report.finish()?;
     Ok(report.text)
 }

@@ -1,8 +1,9 @@
 //! Loops of functions.
 use crate::lists::add_numbers;
 use code_text::function::virtual_function;
+use flow::depths::{depths, frequency};
+use flow::graph::predecessors;
 use il_ast::few::Few;
-use loops::depths::{depths, frequency, sources};
 use std::alloc::{AllocError, Global};
 use text_maker::maker::TextMaker;
 
@@ -32,6 +33,6 @@ pub fn nests(alloc: Global, text: &str) -> Option<String> {
     let function = virtual_function(alloc, text)?;
     let blocks = function.code.blocks.as_slice();
     let depths = depths(alloc, blocks).ok()?;
-    let sources = sources(alloc, blocks).ok()?;
+    let sources = predecessors(alloc, blocks).ok()?;
     lines(alloc, depths.as_slice(), sources.as_slice()).ok()
 }

@@ -1,9 +1,15 @@
-//! Plans for registers that hold constants.
-use crate::passes::shown_or_refused;
+//! Passes by given plans, right and wrong ones, in the place of those that are chosen.
+use crate::lists::numbers;
+use crate::passes::{shown, shown_or_refused};
+use code_motion::plan::{BlockPlan, Computation};
 use code_text::function::virtual_function;
 use constant_hoisting::hold::with_constant;
 use constant_hoisting::plan::{Constant, Plan};
+use constant_sinking::known::Known;
+use il_ast::list::Seq;
 use std::alloc::Global;
+use vcode::code::Block;
+use vcode::line::Line;
 
 /// For each word whether it is `yes`.
 fn marks(alloc: Global, words: &str) -> Option<Vec<bool>> {
@@ -14,8 +20,8 @@ fn marks(alloc: Global, words: &str) -> Option<Vec<bool>> {
         .ok()
 }
 
-/// The plan of a text: the register, the number, and for each block whether it sets and whether it holds the register.
-fn plan(alloc: Global, text: &str) -> Option<Plan> {
+/// The plan of a text for a constant: the register, the number, and for each block whether it sets and whether it holds the register.
+fn constant_plan(alloc: Global, text: &str) -> Option<Plan> {
     let (register, rest) = text.strip_prefix("register ")?.split_once("\nnumber ")?;
     let (number, rest) = rest.split_once("\nsets ")?;
     let (sets, holds) = rest.split_once("\nholds ")?;
@@ -28,8 +34,108 @@ fn plan(alloc: Global, text: &str) -> Option<Plan> {
 }
 
 /// The function with a constant in a register, by this plan.
-pub fn by_plan(alloc: Global, text: &str, plan_text: &str) -> Option<String> {
-    let plan = plan(alloc, plan_text)?;
+pub fn with_held_constant(alloc: Global, text: &str, plan_text: &str) -> Option<String> {
+    let plan = constant_plan(alloc, plan_text)?;
     let function = virtual_function(alloc, text)?;
     shown_or_refused(alloc, with_constant(alloc, &function, &plan))
+}
+
+/// The operation of a line, as a computation at the end of a block.
+fn computation(block: usize, line: &Line<u32>) -> Option<Computation> {
+    match line {
+        Line::Operate {
+            to,
+            operation,
+            left,
+            right,
+        } => Some(Computation {
+            block,
+            register: *to,
+            operation: *operation,
+            left: *left,
+            right: *right,
+        }),
+        _ => None,
+    }
+}
+
+/// The operations of a block's lines, as what is computed at the end of the block with this number.
+fn block_plan(alloc: Global, number: usize, block: &Block<u32>) -> Option<BlockPlan> {
+    let mut behind = Vec::new(alloc);
+    for line in block.lines.as_slice() {
+        if let Some(computation) = computation(number, line) {
+            behind.push(computation).ok()?;
+        }
+    }
+    Some(BlockPlan {
+        in_front: Vec::new(alloc),
+        behind,
+    })
+}
+
+/// The plan of a text for computations: a function whose operations are done at the ends of the blocks of the same numbers, and which has as many registers as there are
+/// then to be.
+fn motion_plan(alloc: Global, text: &str) -> Option<code_motion::plan::Plan> {
+    let function = virtual_function(alloc, text)?;
+    let mut blocks = Vec::new(alloc);
+    for (number, block) in function.code.blocks.as_slice().iter().enumerate() {
+        blocks.push(block_plan(alloc, number, block)?).ok()?;
+    }
+    Some(code_motion::plan::Plan {
+        blocks,
+        registers: function.registers,
+    })
+}
+
+/// The function with these computations at the ends of its blocks.
+pub fn with_computations(alloc: Global, text: &str, plan_text: &str) -> Option<String> {
+    let plan = motion_plan(alloc, plan_text)?;
+    let function = virtual_function(alloc, text)?;
+    shown(alloc, code_motion::hoist::apply(alloc, &function, &plan))
+}
+
+/// The function in which each block that has a `yes`, and goes to another, has a copy of that in the place of its jump.
+pub fn with_tails(alloc: Global, text: &str, plan_text: &str) -> Option<String> {
+    let chosen = marks(alloc, plan_text)?;
+    let function = virtual_function(alloc, text)?;
+    shown_or_refused(
+        alloc,
+        tail_duplication::copy::apply(alloc, &function, chosen.as_slice()),
+    )
+}
+
+/// What a plan's text has for a block: behind how many of its lines, and the registers with their numbers. Each line of the text has a block, how many lines, a register
+/// and a number.
+fn sets_of(alloc: Global, block: usize, plan_text: &str) -> Option<constant_sinking::known::Plan> {
+    let mut plan = constant_sinking::known::Plan {
+        behind: 0,
+        sets: Seq::new(alloc),
+    };
+    for line in plan_text.lines() {
+        if let [of, behind, register, number] = numbers(alloc, line)?.as_slice() {
+            if *of == block {
+                plan.behind = *behind;
+                plan.sets
+                    .push(Known {
+                        register: u32::try_from(*register).ok()?,
+                        number: *number as u64,
+                    })
+                    .ok()?;
+            }
+        }
+    }
+    Some(plan)
+}
+
+/// The function with registers set in its blocks, by a plan.
+pub fn with_sets(alloc: Global, text: &str, plan_text: &str) -> Option<String> {
+    let function = virtual_function(alloc, text)?;
+    let mut plans = Vec::new(alloc);
+    for block in 0..function.code.blocks.len() {
+        plans.push(sets_of(alloc, block, plan_text)?).ok()?;
+    }
+    shown_or_refused(
+        alloc,
+        constant_sinking::sink::apply(alloc, &function, plans.as_slice()),
+    )
 }

@@ -1,25 +1,11 @@
 //! A function on its way through the compiler: what each step makes of what the step before it made.
 use crate::case::Case;
+use crate::chosen::chosen;
 use crate::step::Step;
 use crate::{allocation, frames, phis};
+use qbec::passes::{PASSES, Pass};
 use std::alloc::Global;
 use text_maker::maker::TextMaker;
-
-/// The passes on virtual code, in the order of the compiler, which leaves the second propagation out where no value was used again.
-const PASSES: [Step; 12] = [
-    Step::SignExtensions,
-    Step::Joining,
-    Step::Propagation,
-    Step::Hoisting,
-    Step::ValueNumbering,
-    Step::Propagation,
-    Step::Sinking,
-    Step::DeadCode,
-    Step::ReadCopies,
-    Step::ConstantHoisting,
-    Step::TailCopies,
-    Step::BlockOrder,
-];
 
 /// What a step makes of this text.
 fn made_of(alloc: Global, step: Step, given: &str) -> Option<String> {
@@ -41,22 +27,27 @@ fn add_stage(out: &mut TextMaker, name: &str, made: &str) {
     out.add(if made.ends_with('\n') { "" } else { "\n" });
 }
 
-/// Adds what a pass made of virtual code, or that it left all as it was.
-fn add_pass(out: &mut TextMaker, name: &str, before: &str, made: &str) {
-    if before == made {
-        add_stage(out, name, "as before");
+/// Adds what a pass chose to do and made of virtual code, or that it left all as it was. What it made is answered.
+fn add_pass(out: &mut TextMaker, alloc: Global, pass: Pass, before: &str) -> Option<String> {
+    let made = made_of(alloc, Step::Pass(pass), before)?;
+    if before == made.as_str() {
+        add_stage(out, pass.name(), "as before");
     } else {
-        add_stage(out, name, made);
+        let chosen = chosen(alloc, pass, before)?;
+        out.add("== ");
+        out.add(pass.name());
+        out.add("\n");
+        out.add(chosen.as_str());
+        out.add(made.as_str());
     }
+    Some(made)
 }
 
 /// Adds what each pass makes of virtual code. What the last one made is answered.
 fn add_passes(out: &mut TextMaker, alloc: Global, selected: String) -> Option<String> {
     let mut text = selected;
-    for step in PASSES {
-        let made = made_of(alloc, step, text.as_str())?;
-        add_pass(out, step.name(), text.as_str(), made.as_str());
-        text = made;
+    for pass in PASSES {
+        text = add_pass(out, alloc, pass, text.as_str())?;
     }
     Some(text)
 }

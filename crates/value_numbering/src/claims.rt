@@ -50,7 +50,7 @@ fn pass_lines(
 /// One fact more, if few are claimed.
 fn push_claim(known: &mut Vec<Fact>, fact: Fact) -> Result<(), AllocError> {
     if known.len() < CLAIMS {
-        known.extend_from_slice(&[fact])?;
+        known.push(fact)?;
     }
     Ok(())
 }

@@ -84,7 +84,7 @@ fn note(seen: &mut Vec<Expression>, value: &Expression) -> Result<bool, AllocErr
     if seen.len() >= MOST || may_extend(value) || is_among(seen.as_slice(), value) {
         return Ok(true);
     }
-    seen.extend_from_slice(&[*value])?;
+    seen.push(*value)?;
     Ok(false)
 }
 

@@ -81,12 +81,12 @@ fn blocks(
     Ok(Some(made))
 }
 
-/// The function by these claims, where they are right.
-fn reused(
-    alloc: Global,
-    function: &VFunc,
-    claims: &[Seq<Fact>],
-) -> Result<Option<VFunc>, AllocError>
+/// The function by these claims of what is known where each block begins; none where they aren't right. It takes time and memory as the text and the claims are long.
+///
+/// # Errors
+///
+/// Only where memory was refused.
+fn apply(alloc: Global, function: &VFunc, claims: &[Seq<Fact>]) -> Result<Option<VFunc>, AllocError>
     ensures { IfOk result (λ o. IfSome o (λ w. Keeps (virtual_code function.now) (virtual_code w))) }
 {
     if claims_at(claims, 0).len() != 0 {
@@ -107,28 +107,30 @@ fn reused(
 }
 
 /// The function by the claims that are found, or else by none; none where neither are right.
-fn reused_by_any(alloc: Global, function: &VFunc) -> Result<Option<VFunc>, AllocError>
+fn by_any_claims(alloc: Global, function: &VFunc) -> Result<Option<VFunc>, AllocError>
     ensures { IfOk result (λ o. IfSome o (λ w. Keeps (virtual_code function.now) (virtual_code w))) }
 {
     let claims = claims(alloc, function.registers, function.code.blocks.as_slice())?;
-    match reused(alloc, function, claims.as_slice())? {
+    match apply(alloc, function, claims.as_slice())? {
         Some(made) => Ok(Some(made)),
-        None => reused(alloc, function, &[]),
+        None => apply(alloc, function, &[]),
     }
 }
 
 /// The function in which lines that compute what a register holds are copies of it, extensions of what was loaded are loads, and stores of what was extended or masked write what it was made of, within
-/// blocks and, where the claims are right, across them. None where no line may compute what another does.
+/// blocks and, where the claims are right, across them. A function in which no line may compute what another does stays as it is.
 ///
 /// # Errors
 ///
 /// Only where memory was refused.
-pub fn reuse_values(alloc: Global, function: &VFunc) -> Result<Option<VFunc>, AllocError>
-    ensures { IfOk result (λ o. IfSome o (λ w. Keeps (virtual_code function.now) (virtual_code w))) }
+pub fn reuse_values(alloc: Global, function: VFunc) -> Result<VFunc, AllocError>
+    ensures { IfOk result (λ w. Keeps (virtual_code function) (virtual_code w)) }
 {
-    if blocks_may_repeat(alloc, function.code.blocks.as_slice())? {
-        reused_by_any(alloc, function)
-    } else {
-        Ok(None)
+    if !blocks_may_repeat(alloc, function.code.blocks.as_slice())? {
+        return Ok(function);
+    }
+    match by_any_claims(alloc, &function)? {
+        Some(made) => Ok(made),
+        None => Ok(function),
     }
 }

@@ -1,5 +1,5 @@
 //! Lines of code, and what ends a block.
-ghost use Rattle.std.specs.Prelude.{◌≡◌, IfOk};
+ghost use Rattle.std.specs.Prelude.{◌≡◌, ◌++◌, IfOk, OnOk};
 
 use crate::place::{Address, Argument, Destination, Operand, ReturnValue};
 use il_ast::list::Seq;
@@ -122,6 +122,24 @@ impl<P: Copy> Line<P> {
             }),
         }
     }
+}
+
+/// Puts copies of these lines at the end of a list.
+///
+/// # Errors
+///
+/// Only where memory was refused.
+pub fn push_lines<P: Copy>(
+    alloc: Global,
+    to: &mut Vec<Line<P>>,
+    lines: &[Line<P>],
+) -> Result<(), AllocError>
+    ensures { OnOk result (to.new.items ≡ to.old.items ++ lines.now) }
+{
+    for line in lines {
+        to.push(line.try_clone(alloc)?)?;
+    }
+    Ok(())
 }
 
 /// A comparison of two values of a class, as the source makes it.

@@ -7,7 +7,7 @@ use Rattle.inlining.proofs.calls.with_call.Goals as goal
 
 pub returns-in-Some : goal.returns-in-Some
 returns-in-Some c =
-    let leaves = c.args.leaves.now in
+    let candidates = c.args.candidates.now in
     let g = c.args.growth in
-    let cut = subst (λ (o : Option Cut). IfSome o (λ d. IsCut leaves g (slice_index_or g.blocks.items c.args.at d.up_to) d)) c.in-Some.is c.in_ok-cut.ensures in
-    placed_on leaves g c.args.at c.in-Some.cut.up_to c.in-Some.cut c.requires cut c.put.result c.put.ensures.blocks c.put.ensures.room
+    let cut = subst (λ (o : Option Cut). IfSome o (λ d. IsCut candidates g (slice_index_or g.blocks.items c.args.at d.up_to) d)) c.in-Some.is c.in_ok-cut.ensures in
+    placed_on candidates g c.args.at c.in-Some.cut.up_to c.in-Some.cut c.requires cut c.put.result c.put.ensures.blocks c.put.ensures.room

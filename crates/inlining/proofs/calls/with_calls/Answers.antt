@@ -6,4 +6,4 @@ pub returns : goal.returns
 returns c =
     let v = c.args.function.now in
     let w = c.in_ok-made.made in
-    calls_kept calls_keep c.args.leaves.now v.code v.registers w.code w.registers c.in_ok-made.ensures
+    calls_kept calls_keep c.args.candidates.now v.code v.registers w.code w.registers c.in_ok-made.ensures

@@ -6,8 +6,8 @@ use Rattle.inlining.proofs.cut.cut_at_call.Goals as goal
 
 pub returns-then-answers : goal.returns-then-answers
 returns-then-answers c =
-    let leaves = c.args.leaves.now in
+    let candidates = c.args.candidates.now in
     let s = c.args.site.now in
-    let there = found leaves c.number.result c.in-Some.leaf.now c.in-Some.ensures.lookup.3.0 c.in-Some.ensures.lookup.1 in
-    let named : slice_get leaves s.name ≡ Some (Some c.in-Some-leaf.leaf) = ap (λ g. slice_get leaves g) (sym c.number.ensures) ∙ there ∙ ap (λ o. Some o) c.in-Some-leaf.is in
-    cut_of leaves c.args.growth.now s.block.now c.args.line c.in-Some-leaf.leaf (site_of s) refl named (c.answers.ensures c.if-answers.true) c.requires.stands c.cut_for.result c.cut_for.ensures
+    let there = found candidates c.number.result c.in-Some.candidate.now c.in-Some.ensures.lookup.3.0 c.in-Some.ensures.lookup.1 in
+    let named : slice_get candidates s.name ≡ Some (Some c.in-Some-candidate.candidate) = ap (λ g. slice_get candidates g) (sym c.number.ensures) ∙ there ∙ ap (λ o. Some o) c.in-Some-candidate.is in
+    cut_of candidates c.args.growth.now s.block.now c.args.line c.in-Some-candidate.candidate (site_of s) refl named (c.answers.ensures c.if-answers.true) c.requires.stands c.cut_for.result c.cut_for.ensures

@@ -7,7 +7,7 @@ use Rattle.obj_link.specs.ProgramOf.{program}
 use Rattle.obj_link.specs.Shown.{shown}
 use Rattle.vcode.specs.declared.function.VFunc.{VFunc}
 use Rattle.qbec.specs.Codes.{AreGood, AreWords, AreWordsIn}
-use Rattle.qbec.specs.Leaves.{AreLeavesIn}
+use Rattle.qbec.specs.Candidates.{AreCandidatesIn}
 use Rattle.qbec.proofs.codes.codes_of.Goals as goal
 
 pub codes_with-requires : goal.codes_with-requires
@@ -17,7 +17,7 @@ pub returns : goal.returns
 returns g c =
     let p = program c.args.linked.now in
     let tables = c.as_slice.result.now in
-    let are = subst (λ (ts : List (Vec (Option VFunc) Global)). AreLeavesIn p (map (λ t. t.items) ts)) (sym c.as_slice.ensures.value) c.in_ok-tables.ensures in
-    IfOk-weaker c.codes_with.result (λ v. (q : Program) → AreLeavesIn q (map (λ t. t.items) tables) → AreWordsIn q v.items (map shown c.as_slice-functions.result.now))
+    let are = subst (λ (ts : List (Vec (Option VFunc) Global)). AreCandidatesIn p (map (λ t. t.items) ts)) (sym c.as_slice.ensures.value) c.in_ok-tables.ensures in
+    IfOk-weaker c.codes_with.result (λ v. (q : Program) → AreCandidatesIn q (map (λ t. t.items) tables) → AreWordsIn q v.items (map shown c.as_slice-functions.result.now))
     (λ v. AreWords v.items p)
     (λ v each. subst (λ (fs : List (InText (Bor Func))). AreWordsIn p v.items (map shown fs)) c.as_slice-functions.ensures (each p are)) c.codes_with.ensures

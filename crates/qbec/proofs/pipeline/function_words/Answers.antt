@@ -9,15 +9,15 @@ use Rattle.qbec.proofs.pipeline.function_words.Goals as goal
 
 pub returns-then-not-has_alloc-clause-stand : goal.returns-then-not-has_alloc-clause-stand
 returns-then-not-has_alloc-clause-stand g c =
-    let leaves = c.args.leaves.now in
+    let candidates = c.args.candidates.now in
     let f = c.args.func.now in
-    IfOk-weaker c.promoted_words.result (λ code. StandWithin leaves f code) (λ code. (promoted : Func) × IsPromoted f promoted × StandWith leaves promoted code)
+    IfOk-weaker c.promoted_words.result (λ code. StandWithin candidates f code) (λ code. (promoted : Func) × IsPromoted f promoted × StandWith candidates promoted code)
     (λ code h. (f, c.has_alloc.ensures c.if-not-has_alloc.true, h.0)) c.promoted_words.ensures
 
 pub returns-then-not-has_alloc-clause-few : goal.returns-then-not-has_alloc-clause-few
 returns-then-not-has_alloc-clause-few g c =
     let f = c.args.func.now in
-    IfOk-weaker c.promoted_words.result (λ code. StandWithin c.args.leaves.now f code) (λ code. length code.words ≤ 32 * weight f + 256)
+    IfOk-weaker c.promoted_words.result (λ code. StandWithin c.args.candidates.now f code) (λ code. length code.words ≤ 32 * weight f + 256)
     (λ code h. h.1) c.promoted_words.ensures
 
 pub promoted_words-requires-2 : goal.promoted_words-requires-2
@@ -25,10 +25,10 @@ promoted_words-requires-2 g c = still_good c.args.func.now c.in_ok-promoted.prom
 
 pub returns-clause-stand : goal.returns-clause-stand
 returns-clause-stand g c =
-    let leaves = c.args.leaves.now in
+    let candidates = c.args.candidates.now in
     let f = c.args.func.now in
     let p = c.in_ok-promoted.promoted in
-    IfOk-weaker c.promoted_words-2.result (λ code. StandWithin leaves p code) (λ code. (promoted : Func) × IsPromoted f promoted × StandWith leaves promoted code)
+    IfOk-weaker c.promoted_words-2.result (λ code. StandWithin candidates p code) (λ code. (promoted : Func) × IsPromoted f promoted × StandWith candidates promoted code)
     (λ code h. (p, c.in_ok-promoted.ensures, h.0)) c.promoted_words-2.ensures
 
 pub returns-clause-few : goal.returns-clause-few
@@ -36,5 +36,5 @@ returns-clause-few g c =
     let f = c.args.func.now in
     let p = c.in_ok-promoted.promoted in
     let same = same_weights f p c.in_ok-promoted.ensures in
-    IfOk-weaker c.promoted_words-2.result (λ code. StandWithin c.args.leaves.now p code) (λ code. length code.words ≤ 32 * weight f + 256)
+    IfOk-weaker c.promoted_words-2.result (λ code. StandWithin c.args.candidates.now p code) (λ code. length code.words ≤ 32 * weight f + 256)
     (λ code h. let few = h.1 in omega (arith, few, same)) c.promoted_words-2.ensures

@@ -9,4 +9,4 @@ pub returns-clause-is : goal.returns-clause-is
 returns-clause-is g c =
     let v = c.in_ok-function.function in
     let kept = subst (λ (x : LFunc). Keeps (virtual_code v) (location_code x)) (sym c.flat.ensures.same) c.in_ok-located.ensures in
-    stays_with c.args.leaves.now c.args.func.now (virtual_code v) (location_code c.flat.result.located) c.in_ok-function.ensures kept
+    stays_with c.args.candidates.now c.args.func.now (virtual_code v) (location_code c.flat.result.located) c.in_ok-function.ensures kept

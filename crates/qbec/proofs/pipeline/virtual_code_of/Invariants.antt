@@ -3,4 +3,4 @@ use Rattle.qbec.specs.Pipeline.{IsCodeWith}
 use Rattle.qbec.proofs.pipeline.virtual_code_of.Given as goal
 
 abbrev pub invariant-loop-pass : goal.invariant-loop-pass
-invariant-loop-pass l = IsCodeWith l.fn.leaves l.fn.func (virtual_code l.function)
+invariant-loop-pass l = IsCodeWith l.fn.candidates l.fn.func (virtual_code l.function)

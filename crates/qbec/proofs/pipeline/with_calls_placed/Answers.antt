@@ -7,8 +7,8 @@ use Rattle.qbec.proofs.pipeline.with_calls_placed.Goals as goal
 
 pub returns : goal.returns
 returns c =
-    let leaves = c.args.leaves.now in
+    let candidates = c.args.candidates.now in
     let f = c.args.func.now in
     let v = c.in_ok-function.function in
-    IfOk-weaker c.place_calls.result (λ w. KeepsCalls leaves v.code w.code) (λ w. IsCodeWith leaves f (virtual_code w))
-    (λ w kept. placed_is leaves f v w c.in_ok-function.ensures.is kept) c.place_calls.ensures
+    IfOk-weaker c.inline_calls.result (λ w. KeepsCalls candidates v.code w.code) (λ w. IsCodeWith candidates f (virtual_code w))
+    (λ w kept. placed_is candidates f v w c.in_ok-function.ensures.is kept) c.inline_calls.ensures

@@ -1,0 +1,17 @@
+//! # Blocks in another order
+//!
+//! A pass on virtual code. A jump to the block that stands next takes no instruction, and a branch takes no jump beside it where one of its targets stands next.
+//! [`order::place_blocks`] puts the blocks of a function so that fewer jumps are taken, and leaves out those to which nothing leads.
+//!
+//! The order is a guess at what runs often ([`choice`]). Nothing that is proved rests on it: [`order::in_order`] puts blocks in any order that is one (`is_order` in
+//! `specs/Ordered`), and leads jumps to where their targets stand then.
+//!
+//! The contract says that the code is kept, in the words of every pass, and that it is the code in some order.
+//!
+//! The crate stands on `vcode` for code, and for the guess on `flow` for where jumps lead and for the depths of blocks.
+#![tactic(auto)]
+
+mod blocks;
+pub mod choice;
+pub mod order;
+mod places;

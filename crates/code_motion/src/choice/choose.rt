@@ -1,0 +1,492 @@
+//! Plans for computations in front of loops.
+use crate::choice::candidates::may_plan;
+use crate::choice::credit::credit;
+use crate::choice::growing::{Linear, find_growth, plan_steps, product_of};
+use crate::choice::halves::plan_halves;
+use crate::choice::written::{Spot, Written};
+use crate::plan::{BlockPlan, Computation, Plan};
+use flow::loops::{Loop, find_loops, largest_first};
+use rv_isa::instruction::RegOp;
+use std::alloc::{AllocError, Global};
+use vcode::code::Block;
+use vcode::cost::line_cost;
+use vcode::function::VFunc;
+use vcode::limits::PLACES;
+use vcode::line::{Line, Operation};
+use vcode::place::Operand;
+
+/// How many computations are done in front of a loop, at most.
+const MOST: usize = 6;
+
+/// The plans that are made, one loop after another.
+#[derive(Drop)]
+pub(crate) struct Plans {
+    pub(crate) list: Vec<Computation>,
+
+    /// the first one of this loop
+    first: usize,
+
+    /// the next register that the function doesn't have
+    pub(crate) next: u32,
+
+    /// of each block, what its ticks still leave
+    pub(crate) credits: Vec<u128>,
+
+    /// sums with products of registers that grow, in this loop
+    pub(crate) sums: Vec<Linear>,
+}
+
+/// Whether a computation is worth a register: not where it is part of an address, a branch, or the same everywhere.
+fn is_worth(plan: &Computation) -> bool {
+    match (plan.operation, plan.left, plan.right) {
+        (Operation::Compare(_, _), _, _) => false,
+        (Operation::Reg(RegOp::Add), Operand::At(_), Operand::Number(_)) => false,
+        (_, Operand::At(_), _) => true,
+        (_, _, Operand::At(_)) => true,
+        _ => false,
+    }
+}
+
+fn is_same(one: &Computation, other: &Computation) -> bool {
+    one.operation == other.operation && one.left == other.left && one.right == other.right
+}
+
+/// The register of a computation that is planned for this loop already.
+fn planned(plans: &Plans, wanted: &Computation) -> Option<u32> {
+    for plan in plans.list.iter().skip(plans.first) {
+        if is_same(plan, wanted) {
+            return Some(plan.register);
+        }
+    }
+    None
+}
+
+/// Takes from the credit of a block what a line costs, if it leaves that.
+pub(crate) fn pay(credits: &mut [u128], block: usize, line: &Line<u32>) -> bool {
+    match credits.get_mut(block) {
+        Some(left) => {
+            let cost = line_cost(line);
+            let affords = cost <= *left;
+            *left = left.saturating_sub(cost);
+            affords
+        }
+        None => false,
+    }
+}
+
+/// One plan more, if there are few and the block pays for it; answers its register.
+fn push_plan(plans: &mut Plans, plan: Computation) -> Result<Option<u32>, AllocError> {
+    let made = plans.list.len().saturating_sub(plans.first);
+    if made >= MOST || plan.register >= PLACES - 1 {
+        return Ok(None);
+    }
+    if !pay(plans.credits.as_mut_slice(), plan.block, &plan.line()) {
+        return Ok(None);
+    }
+    plans.next = plan.register.saturating_add(1);
+    plans.list.push(plan)?;
+    Ok(Some(plan.register))
+}
+
+/// A plan for an operation on these operands, if there are both and it is worth that.
+fn plan_of(
+    block: usize,
+    register: u32,
+    operation: Operation,
+    one: Option<Operand<u32>>,
+    other: Option<Operand<u32>>,
+) -> Option<Computation> {
+    match (one, other) {
+        (Some(left), Some(right)) => {
+            let plan = Computation {
+                block,
+                register,
+                operation,
+                left,
+                right,
+            };
+            if is_worth(&plan) { Some(plan) } else { None }
+        }
+        _ => None,
+    }
+}
+
+/// The computation of a line in front of a loop, if its operands have their values there, and the register that the line writes.
+fn wanted(
+    register: u32,
+    written: &Written,
+    before: usize,
+    line: &Line<u32>,
+) -> Option<(u32, Computation)> {
+    match line {
+        Line::Operate {
+            to,
+            operation,
+            left,
+            right,
+        } => {
+            let one = written.in_front(*left);
+            let other = written.in_front(*right);
+            match plan_of(before, register, *operation, one, other) {
+                Some(plan) => Some((*to, plan)),
+                None => None,
+            }
+        }
+        _ => None,
+    }
+}
+
+/// A computation that is planned, as it is or anew.
+fn put_plan(plans: &mut Plans, plan: Computation) -> Result<Option<u32>, AllocError> {
+    match planned(plans, &plan) {
+        Some(register) => Ok(Some(register)),
+        None => push_plan(plans, plan),
+    }
+}
+
+/// The sum in front of a loop of two summands of three, of which the third changes; the register that has the sum of the first two; and the third.
+#[derive(Clone, Copy)]
+struct Part {
+    plan: Computation,
+    sum: u32,
+    rest: Operand<u32>,
+}
+
+/// The summand that has its value in front of the loop, if one has, and the other.
+fn unchanged(
+    written: &Written,
+    left: &Operand<u32>,
+    right: &Operand<u32>,
+) -> (Option<Operand<u32>>, Operand<u32>) {
+    match written.in_front(*left) {
+        Some(one) => (Some(one), *right),
+        None => (written.in_front(*right), *left),
+    }
+}
+
+fn part_of_sum(
+    register: u32,
+    written: &Written,
+    before: usize,
+    sum: u32,
+    added: Operand<u32>,
+) -> Option<Part> {
+    let Some((left, right)) = written.summands(sum) else {
+        return None;
+    };
+    let (one, rest) = unchanged(written, &left, &right);
+    let other = written.in_front(added);
+    match plan_of(before, register, Operation::Reg(RegOp::Add), one, other) {
+        Some(plan) => Some(Part { plan, sum, rest }),
+        None => None,
+    }
+}
+
+fn wanted_part(
+    register: u32,
+    written: &Written,
+    before: usize,
+    left: &Operand<u32>,
+    right: &Operand<u32>,
+) -> Option<Part> {
+    match (left, right) {
+        (Operand::At(one), Operand::At(other)) => {
+            match part_of_sum(register, written, before, *one, *right) {
+                Some(part) => Some(part),
+                None => part_of_sum(register, written, before, *other, *left),
+            }
+        }
+        _ => None,
+    }
+}
+
+/// Where a line stands, and in front of which loop.
+#[derive(Clone, Copy)]
+struct Place {
+    before: usize,
+    at: Spot,
+}
+
+/// The sum of a product of a register that grows and of what the loop doesn't change.
+fn linear_of(
+    written: &Written,
+    place: Place,
+    to: u32,
+    base: &Operand<u32>,
+    factor: &Operand<u32>,
+) -> Option<Linear> {
+    match (written.product(*factor), written.in_front(*base)) {
+        (Some(product), Some(base)) => Some(Linear {
+            at: place.at,
+            to,
+            base,
+            factor: *factor,
+            product,
+            is_direct: true,
+            is_part: false,
+        }),
+        _ => None,
+    }
+}
+
+/// The sum of two stands in a sum of three alone.
+fn take_part(sums: &mut [Linear], sum: u32) {
+    for linear in sums.iter_mut() {
+        if linear.to == sum {
+            linear.is_part = true;
+        }
+    }
+}
+
+/// Notes the sum with a product of a register that grows, if it is one; the sum of the other two is planned.
+fn push_part(
+    plans: &mut Plans,
+    written: &Written,
+    place: Place,
+    to: u32,
+    part: &Part,
+    register: u32,
+) -> Result<(), AllocError> {
+    if let Some(product) = written.product(part.rest) {
+        take_part(plans.sums.as_mut_slice(), part.sum);
+        plans.sums.push(Linear {
+            at: place.at,
+            to,
+            base: Operand::At(register),
+            factor: part.rest,
+            product,
+            is_direct: false,
+            is_part: false,
+        })?;
+    }
+    Ok(())
+}
+
+/// Notes the sum with a product of a register that grows, if it is one.
+fn push_linear(
+    plans: &mut Plans,
+    written: &Written,
+    place: Place,
+    to: u32,
+    left: &Operand<u32>,
+    right: &Operand<u32>,
+) -> Result<(), AllocError> {
+    let linear = match linear_of(written, place, to, left, right) {
+        Some(linear) => Some(linear),
+        None => linear_of(written, place, to, right, left),
+    };
+    if let Some(linear) = linear {
+        plans.sums.push(linear)?;
+    }
+    Ok(())
+}
+
+/// Plans the part of a sum that doesn't change, and notes the sum if it has a product.
+fn plan_part(
+    plans: &mut Plans,
+    written: &Written,
+    place: Place,
+    to: u32,
+    left: &Operand<u32>,
+    right: &Operand<u32>,
+) -> Result<(), AllocError> {
+    if let Some(part) = wanted_part(plans.next, written, place.before, left, right) {
+        if let Some(register) = put_plan(plans, part.plan)? {
+            return push_part(plans, written, place, to, &part, register);
+        }
+    }
+    push_linear(plans, written, place, to, left, right)
+}
+
+/// Plans the part of a sum that doesn't change, and notes what the line adds or multiplies.
+fn plan_sum(
+    plans: &mut Plans,
+    written: &mut Written,
+    place: Place,
+    line: &Line<u32>,
+) -> Result<(), AllocError> {
+    match line {
+        Line::Operate {
+            to,
+            operation: Operation::Reg(RegOp::Add),
+            left,
+            right,
+        } => {
+            plan_part(plans, written, place, *to, left, right)?;
+            written.add(*to, *left, *right)
+        }
+        _ => match product_of(written, line) {
+            Some((to, product)) => written.multiply(to, product),
+            None => Ok(()),
+        },
+    }
+}
+
+fn plan_line(
+    plans: &mut Plans,
+    written: &mut Written,
+    place: Place,
+    line: &Line<u32>,
+) -> Result<(), AllocError> {
+    match wanted(plans.next, written, place.before, line) {
+        Some((to, plan)) => {
+            if let Some(instead) = put_plan(plans, plan)? {
+                written.stand(to, instead);
+            }
+            Ok(())
+        }
+        None => plan_sum(plans, written, place, line),
+    }
+}
+
+fn plan_block(
+    plans: &mut Plans,
+    written: &mut Written,
+    before: usize,
+    number: usize,
+    block: &Block<u32>,
+) -> Result<(), AllocError> {
+    for (line, item) in block.lines.as_slice().iter().enumerate() {
+        let at = Spot {
+            block: number,
+            line,
+        };
+        plan_line(plans, written, Place { before, at }, item)?;
+    }
+    Ok(())
+}
+
+fn count_writes(written: &mut Written, blocks: &[Block<u32>], nest: &Loop) {
+    written.begin();
+    for number in nest.blocks.iter() {
+        if let Some(block) = blocks.get(*number) {
+            written.count(block.lines.as_slice());
+        }
+    }
+}
+
+fn plan_nest(
+    plans: &mut Plans,
+    written: &mut Written,
+    blocks: &[Block<u32>],
+    nest: &Loop,
+) -> Result<(), AllocError> {
+    count_writes(written, blocks, nest);
+    find_growth(written, blocks, nest)?;
+    plans.first = plans.list.len();
+    plans.sums.clear();
+    for number in nest.blocks.iter() {
+        if let Some(block) = blocks.get(*number) {
+            plan_block(plans, written, nest.before, *number, block)?;
+        }
+    }
+    plan_steps(plans, written, nest)
+}
+
+/// Plans for these loops, the outer ones before the inner ones.
+fn plan_in_order(
+    alloc: Global,
+    plans: &mut Plans,
+    function: &VFunc,
+    nests: &[Loop],
+) -> Result<(), AllocError> {
+    let blocks = function.code.blocks.as_slice();
+    let mut written = Written::new(alloc, function.registers, blocks)?;
+    for (_, number) in largest_first(alloc, nests)?.iter() {
+        if let Some(nest) = nests.get(*number) {
+            plan_nest(plans, &mut written, blocks, nest)?;
+        }
+    }
+    Ok(())
+}
+
+fn plan_nests(alloc: Global, plans: &mut Plans, function: &VFunc) -> Result<(), AllocError> {
+    let mut nests = Vec::new(alloc);
+    find_loops(alloc, &mut nests, function.code.blocks.as_slice())?;
+    if nests.is_empty() {
+        Ok(())
+    } else {
+        plan_in_order(alloc, plans, function, nests.as_slice())
+    }
+}
+
+fn credits(alloc: Global, blocks: &[Block<u32>]) -> Result<Vec<u128>, AllocError> {
+    let mut credits = vec![in alloc; 0u128; blocks.len()]?;
+    for (left, block) in credits.iter_mut().zip(blocks) {
+        *left = credit(block);
+    }
+    Ok(credits)
+}
+
+fn push_to(blocks: &mut [BlockPlan], plan: Computation) -> Result<(), AllocError> {
+    if let Some(plans) = blocks.get_mut(plan.block) {
+        plans.behind.push(plan)?;
+    }
+    Ok(())
+}
+
+/// The plans, block by block; with those for the lines of each block.
+fn by_block(
+    alloc: Global,
+    plans: &mut Plans,
+    blocks: &[Block<u32>],
+) -> Result<Vec<BlockPlan>, AllocError> {
+    let mut lists = Vec::with_capacity(alloc, blocks.len())?;
+    for (number, block) in blocks.iter().enumerate() {
+        lists.push(BlockPlan {
+            in_front: plan_halves(alloc, plans, number, block)?,
+            behind: Vec::new(alloc),
+        })?;
+    }
+    Ok(lists)
+}
+
+/// Each plan to the end of its block.
+fn push_plans(blocks: &mut [BlockPlan], plans: &[Computation]) -> Result<(), AllocError> {
+    for plan in plans {
+        push_to(blocks, *plan)?;
+    }
+    Ok(())
+}
+
+/// No plans yet, and what the ticks of each block leave.
+fn no_plans(alloc: Global, function: &VFunc) -> Result<Plans, AllocError> {
+    Ok(Plans {
+        list: Vec::new(alloc),
+        first: 0,
+        next: function.registers,
+        credits: credits(alloc, function.code.blocks.as_slice())?,
+        sums: Vec::new(alloc),
+    })
+}
+
+/// What the plans choose for the blocks, and what is planned for their own lines; nothing where no plan is made.
+fn choice_of(
+    alloc: Global,
+    plans: &mut Plans,
+    function: &VFunc,
+) -> Result<Option<Plan>, AllocError> {
+    let mut blocks = by_block(alloc, plans, function.code.blocks.as_slice())?;
+    if plans.next == function.registers {
+        return Ok(None);
+    }
+    push_plans(blocks.as_mut_slice(), plans.list.as_slice())?;
+    Ok(Some(Plan {
+        blocks,
+        registers: plans.next,
+    }))
+}
+
+/// Computations for the ends of blocks in front of loops, and for extensions that are shifted to the left; none where there is nothing to do.
+///
+/// # Errors
+///
+/// Only where memory was refused.
+pub fn choose_plan(alloc: Global, function: &VFunc) -> Result<Option<Plan>, AllocError> {
+    if !may_plan(function.code.blocks.as_slice()) {
+        return Ok(None);
+    }
+    let mut plans = no_plans(alloc, function)?;
+    plan_nests(alloc, &mut plans, function)?;
+    choice_of(alloc, &mut plans, function)
+}

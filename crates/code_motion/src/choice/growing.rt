@@ -1,0 +1,413 @@
+//! Registers that a loop adds a number to, and sums with products of them, which are added to in their place.
+use crate::choice::choose::{Plans, pay};
+use crate::choice::written::{Growth, Product, Spot, Written};
+use crate::plan::Computation;
+use flow::loops::Loop;
+use il_ast::operation::{Class, Condition};
+use rv_isa::instruction::{RegOp, RegWOp};
+use std::alloc::AllocError;
+use vcode::code::Block;
+use vcode::cost::is_immediate;
+use vcode::limits::PLACES;
+use vcode::line::{Comparison, Jump, Line, Operation};
+use vcode::place::Operand;
+
+/// A sum of what a loop doesn't change and of a product of a register that grows.
+#[derive(Clone, Copy)]
+pub(crate) struct Linear {
+    pub(crate) at: Spot,
+    pub(crate) to: u32,
+    pub(crate) base: Operand<u32>,
+
+    /// what holds the product
+    pub(crate) factor: Operand<u32>,
+    pub(crate) product: Product,
+
+    /// whether its line reads the product
+    pub(crate) is_direct: bool,
+
+    /// whether it only stands in another sum, which is planned in its place
+    pub(crate) is_part: bool,
+}
+
+/// How many sums are added to in a loop, at most.
+const MOST: usize = 4;
+
+// ---- registers that grow
+
+/// What is more than the register, as a signed number, where the comparison holds or doesn't.
+fn more_than(on: &Comparison<u32>, register: u32, holds: bool) -> Option<Operand<u32>> {
+    let (less, more) = match (on.condition, holds) {
+        (Condition::SignedLess, true) | (Condition::SignedGreaterEqual, false) => {
+            (on.left, on.right)
+        }
+        (Condition::SignedGreater, true) | (Condition::SignedLessEqual, false) => {
+            (on.right, on.left)
+        }
+        _ => return None,
+    };
+    if less == Operand::At(register) {
+        Some(more)
+    } else {
+        None
+    }
+}
+
+/// Whether what is less than the operand, as a number of this class, is less than a word.
+fn limits(class: Class, more: Operand<u32>) -> bool {
+    match (class, more) {
+        (Class::W, _) => true,
+        (Class::L, Operand::Number(number)) => stands(number),
+        _ => false,
+    }
+}
+
+fn is_less(on: &Comparison<u32>, register: u32, holds: bool) -> bool {
+    match more_than(on, register, holds) {
+        Some(more) => limits(on.class, more),
+        None => false,
+    }
+}
+
+/// Whether the number is the extension of its low 32 bits.
+fn stands(number: u64) -> bool {
+    number < 0x8000_0000 || number >= 0xffff_ffff_8000_0000
+}
+
+/// Whether the loop goes on from its head only where the register is less than a word.
+fn is_tested(blocks: &[Block<u32>], nest: &Loop, register: u32) -> bool {
+    match blocks.get(nest.head) {
+        Some(
+            Block {
+                jump: Jump::Branch { on, met, otherwise },
+                ..
+            },
+        ) => {
+            match (nest.blocks.contains(met), nest.blocks.contains(otherwise)) {
+                (true, false) => is_less(on, register, true),
+                (false, true) => is_less(on, register, false),
+                _ => false,
+            }
+        }
+        _ => false,
+    }
+}
+
+/// Whether the last of the lines that write the register leaves a word in it that stands extended.
+fn leaves_word(lines: &[Line<u32>], register: u32) -> bool {
+    let mut leaves = false;
+    for (number, line) in lines.iter().enumerate() {
+        match line {
+            Line::Set {
+                to,
+                value: Operand::Number(value),
+            } if *to == register => {
+                leaves = stands(*value);
+            }
+            Line::Operate {
+                to,
+                operation: Operation::RegW(_),
+                ..
+            } if *to == register => leaves = true,
+            Line::Set {
+                to,
+                value: Operand::At(from),
+            } if *to == register => leaves = from_word(lines, number, *from),
+            _ => {}
+        }
+    }
+    leaves
+}
+
+/// Whether one of the first lines leaves a word in the register.
+fn from_word(lines: &[Line<u32>], number: usize, register: u32) -> bool {
+    for line in lines.iter().take(number) {
+        match line {
+            Line::Operate {
+                to,
+                operation: Operation::RegW(_),
+                ..
+            } if *to == register => return true,
+            _ => {}
+        }
+    }
+    false
+}
+
+/// A register that takes the sum of a register and a number, or takes back such a sum of its own.
+fn growth_of(written: &Written, line: &Line<u32>, at: Spot) -> Option<(u32, Growth)> {
+    match line {
+        Line::Operate {
+            to,
+            operation,
+            left: Operand::At(from),
+            right: Operand::Number(by),
+        } => {
+            let is_word = match operation {
+                Operation::Reg(RegOp::Add) => false,
+                Operation::RegW(RegWOp::Addw) => true,
+                _ => return None,
+            };
+            Some((
+                *to,
+                Growth {
+                    from: *from,
+                    by: *by,
+                    is_word,
+                    at,
+                },
+            ))
+        }
+        Line::Set {
+            to,
+            value: Operand::At(from),
+        } => match written.growth(*from) {
+            Some(growth) if growth.from == *to => Some((*to, Growth { at, ..growth })),
+            _ => None,
+        },
+        _ => None,
+    }
+}
+
+/// Whether the growth is one of longs too.
+fn grows_long(blocks: &[Block<u32>], nest: &Loop, register: u32, growth: &Growth) -> bool {
+    if !growth.is_word {
+        return true;
+    }
+    let begins = match blocks.get(nest.before) {
+        Some(block) => leaves_word(block.lines.as_slice(), register),
+        None => false,
+    };
+    growth.by == 1 && begins && is_tested(blocks, nest, register)
+}
+
+fn note_growth(
+    written: &mut Written,
+    blocks: &[Block<u32>],
+    nest: &Loop,
+    line: &Line<u32>,
+    at: Spot,
+) -> Result<(), AllocError> {
+    match growth_of(written, line, at) {
+        Some((to, growth)) if to != growth.from || grows_long(blocks, nest, to, &growth) => {
+            written.grow(to, growth)
+        }
+        _ => Ok(()),
+    }
+}
+
+/// Notes the registers that the loop adds a number to.
+///
+/// # Errors
+///
+/// Only where memory was refused.
+pub(crate) fn find_growth(
+    written: &mut Written,
+    blocks: &[Block<u32>],
+    nest: &Loop,
+) -> Result<(), AllocError> {
+    for number in nest.blocks.iter() {
+        if let Some(block) = blocks.get(*number) {
+            for (line, item) in block.lines.as_slice().iter().enumerate() {
+                let at = Spot {
+                    block: *number,
+                    line,
+                };
+                note_growth(written, blocks, nest, item, at)?;
+            }
+        }
+    }
+    Ok(())
+}
+
+// ---- products
+
+/// What an operation with this number multiplies by.
+fn factor_of(operation: Operation, number: u64) -> Option<u64> {
+    match operation {
+        Operation::Reg(RegOp::Sll) if number < 12 => Some(1u64 << number),
+        Operation::Reg(RegOp::Mul) => Some(number),
+        _ => None,
+    }
+}
+
+/// The product of a register that grows, and a number, which a line computes.
+pub(crate) fn product_of(written: &Written, line: &Line<u32>) -> Option<(u32, Product)> {
+    match line {
+        Line::Operate {
+            to,
+            operation,
+            left: Operand::At(index),
+            right: Operand::Number(number),
+        } => {
+            let Some(factor) = factor_of(*operation, *number) else {
+                return None;
+            };
+            match written.own_growth(*index) {
+                Some(_) => Some((
+                    *to,
+                    Product {
+                        index: *index,
+                        operation: *operation,
+                        number: *number,
+                        factor,
+                    },
+                )),
+                None => None,
+            }
+        }
+        _ => None,
+    }
+}
+
+// ---- what is added to in their place
+
+fn is_before(one: Spot, other: Spot) -> bool {
+    one.block < other.block || (one.block == other.block && one.line < other.line)
+}
+
+/// Whether each round comes to the sum, before the register grows.
+fn is_steady(written: &Written, nest: &Loop, linear: &Linear) -> bool {
+    match written.own_growth(linear.product.index) {
+        Some(growth) => {
+            nest.always.contains(&linear.at.block) && is_before(linear.at, growth.at)
+        }
+        None => false,
+    }
+}
+
+/// Whether the product is read by nothing but such sums.
+fn is_spared(written: &Written, nest: &Loop, sums: &[Linear], factor: Operand<u32>) -> bool {
+    let mut direct = 0u32;
+    for linear in sums {
+        if linear.factor == factor {
+            let is_read = linear.is_part && written.reads(linear.to) != 1;
+            if is_read || !is_steady(written, nest, linear) {
+                return false;
+            }
+            if linear.is_direct {
+                direct = direct.saturating_add(1);
+            }
+        }
+    }
+    match factor {
+        Operand::At(register) => direct == written.reads(register),
+        _ => direct == 0,
+    }
+}
+
+fn is_same(one: &Linear, other: &Linear) -> bool {
+    one.base == other.base
+        && one.product.index == other.product.index
+        && one.product.factor == other.product.factor
+}
+
+/// The plans for a sum: the product and the sum in front of the loop, and what is added to that where the register grows.
+fn steps_of(
+    next: u32,
+    before: usize,
+    linear: &Linear,
+    growth: &Growth,
+) -> (Computation, Computation, Computation) {
+    let register = next.saturating_add(1);
+    let product = Computation {
+        block: before,
+        register: next,
+        operation: linear.product.operation,
+        left: Operand::At(linear.product.index),
+        right: Operand::Number(linear.product.number),
+    };
+    let sum = Computation {
+        block: before,
+        register,
+        operation: Operation::Reg(RegOp::Add),
+        left: linear.base,
+        right: Operand::At(next),
+    };
+    let step = Computation {
+        block: growth.at.block,
+        register,
+        operation: Operation::Reg(RegOp::Add),
+        left: Operand::At(register),
+        right: Operand::Number(growth.by.wrapping_mul(linear.product.factor)),
+    };
+    (product, sum, step)
+}
+
+fn pays(plans: &mut Plans, plan: &Computation) -> bool {
+    pay(plans.credits.as_mut_slice(), plan.block, &plan.line())
+}
+
+/// Plans what is added to in the place of a sum, if its blocks pay for that; says whether they do.
+fn plan_step(
+    plans: &mut Plans,
+    written: &Written,
+    before: usize,
+    linear: &Linear,
+) -> Result<bool, AllocError> {
+    let growth = match written.own_growth(linear.product.index) {
+        Some(growth) => growth,
+        None => return Ok(false),
+    };
+    let (product, sum, step) = steps_of(plans.next, before, linear, &growth);
+    let by = growth.by.wrapping_mul(linear.product.factor);
+    if sum.register >= PLACES - 1 || !is_immediate(by) {
+        return Ok(false);
+    }
+    if !(pays(plans, &step) && pays(plans, &product) && pays(plans, &sum)) {
+        return Ok(false);
+    }
+    plans.next = sum.register.saturating_add(1);
+    plans.list.extend_from_slice(&[product, sum, step])?;
+    Ok(true)
+}
+
+/// Whether one of the first sums is the same, and isn't planned in another's place.
+fn is_planned(sums: &[Linear], number: usize, linear: &Linear) -> bool {
+    for one in sums.iter().take(number) {
+        if !one.is_part && is_same(one, linear) {
+            return true;
+        }
+    }
+    false
+}
+
+/// Whether a sum is worth a register that is added to: where its product is then read by nothing, and it isn't planned already.
+fn is_wanted(
+    sums: &[Linear],
+    written: &Written,
+    nest: &Loop,
+    number: usize,
+    linear: &Linear,
+) -> bool {
+    !linear.is_part
+        && !is_planned(sums, number, linear)
+        && is_steady(written, nest, linear)
+        && is_spared(written, nest, sums, linear.factor)
+}
+
+/// Plans what is added to in the place of sums with products.
+///
+/// # Errors
+///
+/// Only where memory was refused.
+pub(crate) fn plan_steps(
+    plans: &mut Plans,
+    written: &Written,
+    nest: &Loop,
+) -> Result<(), AllocError> {
+    let mut made = 0usize;
+    for number in 0..plans.sums.len() {
+        let sums = plans.sums.as_slice();
+        let Some(linear) = sums.get(number).copied() else {
+            return Ok(());
+        };
+        if made < MOST
+            && is_wanted(sums, written, nest, number, &linear)
+            && plan_step(plans, written, nest.before, &linear)?
+        {
+            made = made.saturating_add(1);
+        }
+    }
+    Ok(())
+}

@@ -1,5 +1,0 @@
-use Rattle.hoisting.proofs.Making.{copied}
-use Rattle.hoisting.proofs.longer.planned.Goals as goal
-
-pub returns-in-None : goal.returns-in-None
-returns-in-None c = copied c.args.registers.before c.args.registers.after c.args.from.now c.copy.result c.copy.ensures

@@ -1,6 +1,0 @@
-use Rattle.std.proofs.Common.{◌≡◌, false, drop}
-use Rattle.inlining.specs.Leaves.{calm_behind}
-use Rattle.inlining.proofs.leaf.are_calm.Given as goal
-
-abbrev pub invariant-loop-line : goal.invariant-loop-line
-invariant-loop-line l = calm_behind l.turned (drop l.line-index l.lines) ≡ calm_behind false l.fn.lines

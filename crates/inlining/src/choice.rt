@@ -1,0 +1,193 @@
+//! Functions whose calls are worth doing in place, by how many instructions they have, and in how many places they are called by name: a guess that nothing proved rests on.
+
+use il_ast::block::Block;
+use il_ast::function::Func;
+use il_ast::instruction::Inst;
+use il_ast::operand::Val;
+use il_ast::program::Target;
+use il_ast::value::Callee;
+use obj_link::linking::linked::Linked;
+use std::alloc::{AllocError, Global};
+
+/// A function that is called in several places, and is done in place in them, has at most so many instructions.
+const SMALL: usize = 30;
+
+/// One that is called in one place has at most so many.
+const LARGE: usize = 400;
+
+/// So many instructions may come to any program by calls in place, and besides half as many as it has, for functions called in one place and for the others.
+const FREE: usize = 500;
+
+/// The number of the function that the instruction calls by name, if it calls one.
+fn callee_of(targets: &[Target], inst: &Inst) -> Option<usize> {
+    match inst {
+        Inst::Call {
+            callee: Val::Global(name),
+            ..
+        } => match targets.get(name.number()) {
+            Some(Target::Code(Callee::Defined(number))) => Some(*number),
+            _ => None,
+        },
+        _ => None,
+    }
+}
+
+/// A function of a program, which may be worth doing in place where it is called.
+#[derive(Clone, Copy)]
+struct Candidate {
+    /// how many instructions it has
+    size: usize,
+    /// in how many places it is called by name
+    calls: u32,
+    /// whether one of these is in itself
+    is_recursive: bool,
+}
+
+const UNMEASURED: Candidate = Candidate {
+    size: 0,
+    calls: 0,
+    is_recursive: false,
+};
+
+/// How many instructions the function has.
+fn size_of(function: &Func) -> usize {
+    let mut size = 0usize;
+    for block in function.blocks.as_slice() {
+        size = size.saturating_add(block.insts.len());
+    }
+    size
+}
+
+/// Counts what an instruction of the function with the number `caller` calls by name.
+fn count_call(candidates: &mut [Candidate], targets: &[Target], caller: usize, inst: &Inst) {
+    if let Some(number) = callee_of(targets, inst) {
+        if let Some(candidate) = candidates.get_mut(number) {
+            candidate.calls = candidate.calls.saturating_add(1);
+            candidate.is_recursive = candidate.is_recursive || number == caller;
+        }
+    }
+}
+
+fn count_in_block(candidates: &mut [Candidate], targets: &[Target], caller: usize, block: &Block) {
+    for inst in block.insts.as_slice() {
+        count_call(candidates, targets, caller, &inst.item);
+    }
+}
+
+fn count_in_function(
+    candidates: &mut [Candidate],
+    targets: &[Target],
+    caller: usize,
+    function: &Func,
+) {
+    for block in function.blocks.as_slice() {
+        count_in_block(candidates, targets, caller, block);
+    }
+}
+
+/// Measures all functions, and counts the calls by name in them.
+fn measure(candidates: &mut [Candidate], linked: &Linked<'_>) {
+    for (caller, function) in linked.functions.as_slice().iter().enumerate() {
+        if let Some(candidate) = candidates.get_mut(caller) {
+            candidate.size = size_of(function.item);
+        }
+        if let Some(targets) = linked.targets.as_slice().get(function.text) {
+            count_in_function(candidates, targets.as_slice(), caller, function.item);
+        }
+    }
+}
+
+/// Adds to the copies of each size how many instructions come by all calls in place of the candidates that are called in one place, or of the others.
+fn add_copies(copies: &mut [usize], candidates: &[Candidate], are_once: bool) {
+    for candidate in candidates {
+        if (candidate.calls == 1) == are_once {
+            add(copies, candidate.size, candidate.calls);
+        }
+    }
+}
+
+fn add(copies: &mut [usize], size: usize, count: u32) {
+    if let Some(sum) = copies.get_mut(size) {
+        *sum = sum.saturating_add(size.saturating_mul(count as usize));
+    }
+}
+
+/// The first size at which too many instructions come by functions up to it.
+fn limit(copies: &[usize], most: usize) -> usize {
+    let mut left = most;
+    for (size, sum) in copies.iter().enumerate() {
+        match left.checked_sub(*sum) {
+            Some(rest) => left = rest,
+            None => return size,
+        }
+    }
+    copies.len()
+}
+
+/// The same of the candidates that are called in one place, or of the others, which are below `end`.
+fn limit_below(
+    alloc: Global,
+    end: usize,
+    most: usize,
+    candidates: &[Candidate],
+    are_once: bool,
+) -> Result<usize, AllocError> {
+    let mut copies = Vec::new(alloc);
+    copies.resize(end, 0)?;
+    add_copies(copies.as_mut_slice(), candidates, are_once);
+    Ok(limit(copies.as_slice(), most))
+}
+
+/// How many instructions may come to a program by calls in place.
+fn most_copies(candidates: &[Candidate]) -> usize {
+    let mut sum = 0usize;
+    for candidate in candidates {
+        sum = sum.saturating_add(candidate.size);
+    }
+    (sum / 2).saturating_add(FREE)
+}
+
+/// Functions of fewer instructions are done in place: those that are called in one place, and the others.
+#[derive(Clone, Copy)]
+struct Limits {
+    once: usize,
+    often: usize,
+}
+
+fn limits_of(alloc: Global, candidates: &[Candidate]) -> Result<Limits, AllocError> {
+    let most = most_copies(candidates);
+    Ok(Limits {
+        once: limit_below(alloc, LARGE + 1, most, candidates, true)?,
+        often: limit_below(alloc, SMALL + 1, most, candidates, false)?,
+    })
+}
+
+fn is_small(limits: Limits, candidate: &Candidate) -> bool {
+    match candidate.calls {
+        0 => false,
+        1 => candidate.size < limits.once,
+        _ => candidate.size < limits.often,
+    }
+}
+
+/// For each candidate, whether it is worth doing in place.
+fn worthy_of(alloc: Global, candidates: &[Candidate]) -> Result<Vec<bool>, AllocError> {
+    let limits = limits_of(alloc, candidates)?;
+    let mut worthy = Vec::with_capacity(alloc, candidates.len())?;
+    for candidate in candidates {
+        worthy.push(is_small(limits, candidate) && !candidate.is_recursive)?;
+    }
+    Ok(worthy)
+}
+
+/// For each function of a program, whether it is called by name, in so many places that not too many instructions come by that in all, and not by itself.
+///
+/// # Errors
+///
+/// Only where memory was refused.
+pub fn worthy_functions(alloc: Global, linked: &Linked<'_>) -> Result<Vec<bool>, AllocError> {
+    let mut candidates = Vec::new(alloc);
+    candidates.resize(linked.functions.len(), UNMEASURED)?;
+    measure(candidates.as_mut_slice(), linked);
+    worthy_of(alloc, candidates.as_slice())
+}

@@ -1,0 +1,93 @@
+//! The passes on virtual code, in the order in which they go over each function. This table is the only one: whoever shows or tries what the compiler does takes it.
+ghost use Rattle.std.specs.Prelude.{IfOk};
+ghost use Rattle.il_ast.specs.Passes.{Keeps};
+ghost use Rattle.vcode.specs.Coded.{virtual_code};
+
+use block_placement::order::place_blocks;
+use code_motion::hoist::hoist_invariants;
+use constant_hoisting::constants::hoist_constants;
+use constant_propagation::propagate::propagate_constants;
+use constant_sinking::sink::sink_constants;
+use copy_propagation::read::propagate_copies;
+use dead_code::remove::remove_dead_code;
+use sign_extensions::copies::copy_whole_words;
+use std::alloc::{AllocError, Global};
+use tail_duplication::copy::{duplicate_tails, thread_jumps};
+use value_numbering::reuse::reuse_values;
+use vcode::function::VFunc;
+
+/// A pass on virtual code.
+#[derive(Clone, Copy)]
+pub enum Pass {
+    SignExtensions,
+    JumpThreading,
+    ConstantPropagation,
+    DeadCode,
+    CodeMotion,
+    ValueNumbering,
+    ConstantSinking,
+    CopyPropagation,
+    ConstantHoisting,
+    TailDuplication,
+    BlockPlacement,
+}
+
+/// The passes in their order. Dead lines go before values are numbered, since they would count as readers of these, and once more behind that. What code motion sets in
+/// front of loops is found there by value numbering; what that finds is carried on by constant propagation.
+pub const PASSES: [Pass; 13] = [
+    Pass::SignExtensions,
+    Pass::JumpThreading,
+    Pass::ConstantPropagation,
+    Pass::DeadCode,
+    Pass::CodeMotion,
+    Pass::ValueNumbering,
+    Pass::ConstantPropagation,
+    Pass::ConstantSinking,
+    Pass::DeadCode,
+    Pass::CopyPropagation,
+    Pass::ConstantHoisting,
+    Pass::TailDuplication,
+    Pass::BlockPlacement,
+];
+
+impl Pass {
+    /// Its name.
+    pub fn name(self) -> &'static str {
+        match self {
+            Pass::SignExtensions => "sign_extensions",
+            Pass::JumpThreading => "jump_threading",
+            Pass::ConstantPropagation => "constant_propagation",
+            Pass::DeadCode => "dead_code",
+            Pass::CodeMotion => "code_motion",
+            Pass::ValueNumbering => "value_numbering",
+            Pass::ConstantSinking => "constant_sinking",
+            Pass::CopyPropagation => "copy_propagation",
+            Pass::ConstantHoisting => "constant_hoisting",
+            Pass::TailDuplication => "tail_duplication",
+            Pass::BlockPlacement => "block_placement",
+        }
+    }
+
+    /// The function by this pass.
+    ///
+    /// # Errors
+    ///
+    /// Only where memory was refused.
+    pub fn apply(self, alloc: Global, function: VFunc) -> Result<VFunc, AllocError>
+        ensures { IfOk result (λ w. Keeps (virtual_code function) (virtual_code w)) }
+    {
+        match self {
+            Pass::SignExtensions => copy_whole_words(alloc, function),
+            Pass::JumpThreading => thread_jumps(alloc, function),
+            Pass::ConstantPropagation => propagate_constants(alloc, function),
+            Pass::DeadCode => remove_dead_code(alloc, function),
+            Pass::CodeMotion => hoist_invariants(alloc, function),
+            Pass::ValueNumbering => reuse_values(alloc, function),
+            Pass::ConstantSinking => sink_constants(alloc, function),
+            Pass::CopyPropagation => propagate_copies(alloc, function),
+            Pass::ConstantHoisting => hoist_constants(alloc, function),
+            Pass::TailDuplication => duplicate_tails(alloc, function),
+            Pass::BlockPlacement => place_blocks(alloc, function),
+        }
+    }
+}

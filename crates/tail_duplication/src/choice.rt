@@ -1,0 +1,282 @@
+//! Which blocks are worth copies: a guess that nothing proved rests on.
+use flow::depths::depths;
+use flow::graph::{reachable, successor};
+use std::alloc::{AllocError, Global};
+use vcode::code::Block;
+use vcode::line::{Jump, Line};
+
+/// As many lines as a block that isn't worth a copy has.
+const MANY: u64 = 100;
+
+/// A short block has fewer lines of code.
+const SHORT: u64 = 8;
+
+/// Which blocks are worth copies, besides those to which nothing else leads.
+#[derive(Clone, Copy)]
+pub enum Worth {
+    /// those that do nothing but branch or return, where they begin no loop
+    Bare,
+
+    /// those that branch or return behind few lines
+    Short,
+}
+
+/// The jumps that lead to a block.
+#[derive(Clone, Copy)]
+struct Sources {
+    /// how many they are, as far as a byte goes
+    count: u8,
+
+    /// whether one of them comes from a block in fewer loops
+    is_entry: bool,
+}
+
+const NONE: Sources = Sources {
+    count: 0,
+    is_entry: false,
+};
+
+/// So many blocks are counted without memory from the heap.
+const FEW: usize = 64;
+
+/// About how many instructions the line becomes.
+fn size(line: &Line<u32>) -> u64 {
+    match line {
+        Line::Tick { .. } => 0,
+        Line::Set { .. } | Line::Operate { .. } | Line::Load { .. } | Line::Store { .. } => 1,
+        Line::Call { .. } | Line::Blit { .. } | Line::Alloc { .. } => MANY,
+    }
+}
+
+/// Whether the lines become fewer instructions than that.
+fn are_few(lines: &[Line<u32>], most: u64) -> bool {
+    let mut total = 0u64;
+    for line in lines {
+        total = total.saturating_add(size(line));
+        if total >= most {
+            return false;
+        }
+    }
+    total < most
+}
+
+/// Whether the block branches or returns, and has few lines.
+fn is_short(block: &Block<u32>, most: u64) -> bool {
+    match &block.jump {
+        Jump::Branch { .. } | Jump::Return(_) => are_few(block.lines.as_slice(), most),
+        Jump::Goto(_) | Jump::Halt => false,
+    }
+}
+
+/// Whether a block to which several jumps lead is worth copies.
+fn is_copied(block: &Block<u32>, sources: Sources, worth: Worth) -> bool {
+    match worth {
+        Worth::Bare => !sources.is_entry && is_short(block, 1),
+        Worth::Short => is_short(block, SHORT),
+    }
+}
+
+/// Whether the block counts: where there are no marks, all do.
+fn is_marked(marks: &[bool], block: usize) -> bool {
+    match marks.get(block) {
+        Some(mark) => *mark,
+        None => true,
+    }
+}
+
+fn is_worth(
+    blocks: &[Block<u32>],
+    sources: &[Sources],
+    from: usize,
+    to: usize,
+    worth: Worth,
+) -> bool {
+    if from == to {
+        return false;
+    }
+    match (blocks.get(to), sources.get(to)) {
+        (Some(block), Some(sources)) => sources.count == 1 || is_copied(block, *sources, worth),
+        _ => false,
+    }
+}
+
+/// Whether the block goes to one that is worth a copy.
+fn is_chosen(
+    blocks: &[Block<u32>],
+    sources: &[Sources],
+    number: usize,
+    block: &Block<u32>,
+    worth: Worth,
+) -> bool {
+    match &block.jump {
+        Jump::Goto(to) => is_worth(blocks, sources, number, *to, worth),
+        Jump::Branch { .. } | Jump::Return(_) | Jump::Halt => false,
+    }
+}
+
+fn count(sources: &mut [Sources], to: Option<usize>) {
+    if let Some(to) = to {
+        if let Some(of) = sources.get_mut(to) {
+            of.count = of.count.saturating_add(1);
+        }
+    }
+}
+
+/// Counts the jumps from marked blocks that lead to each block: a branch with both its targets the same counts twice.
+fn count_sources(sources: &mut [Sources], blocks: &[Block<u32>], marks: &[bool]) {
+    for (number, block) in blocks.iter().enumerate() {
+        if is_marked(marks, number) {
+            count(sources, successor(&block.jump, 0));
+            count(sources, successor(&block.jump, 1));
+        }
+    }
+}
+
+fn note_entry(sources: &mut [Sources], depths: &[u32], from: usize, to: Option<usize>) {
+    if let Some(to) = to {
+        match (sources.get_mut(to), depths.get(from), depths.get(to)) {
+            (Some(of), Some(outer), Some(inner)) => of.is_entry = of.is_entry || outer < inner,
+            _ => {}
+        }
+    }
+}
+
+/// Notes where jumps lead into loops.
+fn note_entries(
+    alloc: Global,
+    sources: &mut [Sources],
+    blocks: &[Block<u32>],
+) -> Result<(), AllocError> {
+    let depths = depths(alloc, blocks)?;
+    for (number, block) in blocks.iter().enumerate() {
+        note_entry(
+            sources,
+            depths.as_slice(),
+            number,
+            successor(&block.jump, 0),
+        );
+        note_entry(
+            sources,
+            depths.as_slice(),
+            number,
+            successor(&block.jump, 1),
+        );
+    }
+    Ok(())
+}
+
+/// Whether several jumps lead to a block that does nothing but branch.
+fn has_bare_branch(sources: &[Sources], blocks: &[Block<u32>]) -> bool {
+    for (of, block) in sources.iter().zip(blocks) {
+        if let Jump::Branch { .. } = &block.jump {
+            if 1 < of.count && are_few(block.lines.as_slice(), 1) {
+                return true;
+            }
+        }
+    }
+    false
+}
+
+/// Notes the jumps from marked blocks that lead to each block.
+fn note_sources(
+    alloc: Global,
+    sources: &mut [Sources],
+    blocks: &[Block<u32>],
+    marks: &[bool],
+    worth: Worth,
+) -> Result<(), AllocError> {
+    count_sources(sources, blocks, marks);
+    match worth {
+        Worth::Bare if has_bare_branch(sources, blocks) => note_entries(alloc, sources, blocks),
+        _ => Ok(()),
+    }
+}
+
+/// The first block that is chosen, from this one on.
+fn first_chosen(
+    blocks: &[Block<u32>],
+    marks: &[bool],
+    sources: &[Sources],
+    worth: Worth,
+) -> Option<usize> {
+    for (number, block) in blocks.iter().enumerate() {
+        if is_marked(marks, number) && is_chosen(blocks, sources, number, block, worth) {
+            return Some(number);
+        }
+    }
+    None
+}
+
+/// Says of each block whether it is chosen; the first that is, is known.
+fn choose(
+    chosen: &mut [bool],
+    blocks: &[Block<u32>],
+    marks: &[bool],
+    sources: &[Sources],
+    worth: Worth,
+) {
+    for (number, block) in blocks.iter().enumerate() {
+        if is_marked(marks, number) && is_chosen(blocks, sources, number, block, worth) {
+            if let Some(is_this) = chosen.get_mut(number) {
+                *is_this = true;
+            }
+        }
+    }
+}
+
+fn chosen_by(
+    alloc: Global,
+    blocks: &[Block<u32>],
+    marks: &[bool],
+    sources: &[Sources],
+    worth: Worth,
+) -> Result<Option<Vec<bool>>, AllocError> {
+    match first_chosen(blocks, marks, sources, worth) {
+        Some(_) => {
+            let mut chosen = vec![in alloc; false; blocks.len()]?;
+            choose(chosen.as_mut_slice(), blocks, marks, sources, worth);
+            Ok(Some(chosen))
+        }
+        None => Ok(None),
+    }
+}
+
+/// For each block whether the block that it goes to is worth a copy; none where no block is. Blocks without a mark don't count; where there are no marks, all do.
+///
+/// # Errors
+///
+/// Only where memory was refused.
+pub fn chosen_tails(
+    alloc: Global,
+    blocks: &[Block<u32>],
+    marks: &[bool],
+    worth: Worth,
+) -> Result<Option<Vec<bool>>, AllocError> {
+    if blocks.len() <= FEW {
+        let mut sources = [NONE; FEW];
+        note_sources(alloc, &mut sources, blocks, marks, worth)?;
+        return chosen_by(alloc, blocks, marks, &sources, worth);
+    }
+    let mut sources = vec![in alloc; NONE; blocks.len()]?;
+    note_sources(alloc, sources.as_mut_slice(), blocks, marks, worth)?;
+    chosen_by(alloc, blocks, marks, sources.as_slice(), worth)
+}
+
+/// The numbers of the blocks to which a way leads from the first, in their order.
+///
+/// # Errors
+///
+/// Only where memory was refused.
+pub(crate) fn reached_blocks(
+    alloc: Global,
+    blocks: &[Block<u32>],
+) -> Result<Vec<usize>, AllocError> {
+    let marks = reachable(alloc, blocks)?;
+    let mut order = Vec::with_capacity(alloc, blocks.len())?;
+    for (number, is_reached) in marks.iter().enumerate() {
+        if *is_reached {
+            order.push(number)?;
+        }
+    }
+    Ok(order)
+}
