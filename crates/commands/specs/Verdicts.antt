@@ -1,31 +1,55 @@
 -- What is found of texts, and the lines that show it.
-use Rattle.std.specs.Prelude.{◌≡◌, ◌≢◌, ℕ, ◌+◌, ◌++◌, List, [], ◌∷◌, codes, map, slice_get, unwrap_or}
+use Rattle.std.specs.Prelude.{◌≡◌, ◌≢◌, ◌⊎◌, ℕ, ◌+◌, ◌++◌, false, List, [], ◌∷◌, codes, map, slice_get, unwrap_or}
 use Rattle.std.specs.Fmt.{decimal}
 use Rattle.std.specs.String.{string_bytes}
 use Rattle.il_ast.specs.declared.program.Program.{Program}
+use Rattle.il_types.specs.declared.checked.Checked.{Checked}
 use Rattle.il_types.specs.RuleNumber.{rule_number}
+use Rattle.obj_link.specs.Limits.{within_limits}
+use Rattle.obj_link.specs.Names.{functions_of, objects_of}
 use Rattle.diagnostics.specs.declared.note.Note.{Note}
 use Rattle.qbec.specs.declared.error.CompileError.{CompileError}
 use Rattle.qbec.specs.declared.error.CompileError.TheVariants.{Syntax, Rule, UnknownName, ExportedTwice, NoMain, Limit, Memory}
 use Rattle.qbec.specs.Texts.{AreProgram}
-use Rattle.qbec.specs.Refusals.{Refuses}
+use Rattle.qbec.specs.Refusals.{OfAll, OfText, PassesLimit, Refuses}
 use Rattle.commands.specs.declared.verdict.Finding.{Finding}
 use Rattle.commands.specs.declared.verdict.Verdict.{Verdict}
 use Rattle.commands.specs.declared.verdict.Verdict.TheVariants.{Sound, Refused}
 
 -- ---- what is true of texts
 
--- the note stands at the line that the refusal names, if it names one; notes number texts from 0
+-- the note stands at the line that the refusal names, if it names one
 abbrev pub StandsAt : CompileError → Note → Type 0
-StandsAt (Syntax text line) note = (text ≡ note.text + 1) × (line ≡ note.line)
-StandsAt (Rule text fault) note = (text ≡ note.text + 1) × (fault.line ≡ note.line)
+StandsAt (Syntax text line) note = line ≡ note.line
+StandsAt (Rule text fault) note = fault.line ≡ note.line
 StandsAt e note = Unit {0}
+
+-- together they pass a limit over all texts
+abbrev pub PassTogether : List Checked → Type 0
+PassTogether checked = within_limits checked (functions_of checked) (objects_of checked) ≡ false
+
+-- the refusal of the text with this number, which is not for want of memory, with a note that
+-- stands in the text and at the line that the refusal names
+pub record IsFinding (number : ℕ) (refusal : CompileError) (f : Finding) : Type 0 where
+  pub is : f.refusal ≡ refusal
+  pub known : refusal ≢ Memory
+  pub text : f.note.text ≡ number
+  pub line : StandsAt refusal f.note
+
+-- the note stands in the text that is refused so, where one is by itself; notes number texts from 0
+abbrev pub StandsIn : (texts : List (List ℕ)) → CompileError → Note → Type 0
+StandsIn texts (Syntax text line) note = text ≡ note.text + 1
+StandsIn texts (Rule text fault) note = text ≡ note.text + 1
+StandsIn texts Limit note =
+    OfText texts (note.text + 1) PassesLimit ⊎ OfAll texts PassTogether
+StandsIn texts e note = Unit {0}
 
 -- the texts are refused so, and not for want of memory; and the note stands there
 pub record IsTrue (texts : List (List ℕ)) (f : Finding) : Type 0 where
   pub says : Refuses f.refusal texts
   pub known : f.refusal ≢ Memory
-  pub place : StandsAt f.refusal f.note
+  pub text : StandsIn texts f.refusal f.note
+  pub line : StandsAt f.refusal f.note
 
 abbrev pub AreTrue : (texts : List (List ℕ)) → List Finding → Type 0
 AreTrue texts [] = Unit {0}

@@ -1,9 +1,10 @@
 //! Programs that are run piece by piece, so that what they put out goes out while they run.
-ghost use Rattle.std.specs.Prelude.{◌≡◌, ◌<◌, [], IfOk, IfErr, OnErr};
+ghost use Rattle.std.specs.Prelude.{◌≡◌, ◌<◌, ◌≤◌, [], IfOk, IfErr, OnErr};
 ghost use Rattle.rv_machine.specs.Decoded.{IsDecoded};
 ghost use Rattle.rv_machine.specs.Machine.{view};
 ghost use Rattle.il_interp.specs.Pieces.{comes_to, held};
 ghost use Rattle.commands.specs.declared.failure.Failure.TheVariants.{Output};
+ghost use Rattle.commands.specs.declared.pieces.TheConstants.{PIECE};
 ghost use Rattle.commands.specs.Pieces.{RunBreaks, RunSends, SendingFails, Sent};
 
 use crate::failure::Failure;
@@ -25,15 +26,17 @@ const PIECE: u64 = 2_048;
 /// Where a piece puts out more than so many bytes, the next one is shorter.
 const MUCH: usize = 65_536;
 
-/// How long the piece is behind one that put out so much.
+/// How long the piece is behind one that put out so much: an eighth of that one where it put out much, else twice as long, but never longer than a first piece.
 fn next_piece(piece: u64, held: usize) -> u64
-    ensures { 0 < result }
+    ensures some { 0 < result }
+    ensures few { result ≤ PIECE }
 {
-    if held > MUCH {
-        (piece / 8).max(1)
+    let next = if held > MUCH {
+        piece / 8
     } else {
-        piece.saturating_mul(2).clamp(1, PIECE)
-    }
+        piece.saturating_mul(2)
+    };
+    next.clamp(1, PIECE)
 }
 
 /// Runs a machine for at most `limit` instructions, and puts out what it puts out, piece by piece. `code` was decoded of it.

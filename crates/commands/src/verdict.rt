@@ -4,7 +4,7 @@ ghost use Rattle.obj_link.specs.Refusals.{Refuses as RefusesLinking};
 ghost use Rattle.qbec.specs.declared.error.CompileError.TheVariants.{Memory};
 ghost use Rattle.qbec.specs.Refusals.{Refuses, RefusesText};
 ghost use Rattle.qbec.specs.Texts.{AreTexts};
-ghost use Rattle.commands.specs.Verdicts.{AreTrue, IsTrue, IsVerdict, StandsAt, verdict_status};
+ghost use Rattle.commands.specs.Verdicts.{AreTrue, IsFinding, IsTrue, IsVerdict, StandsAt, verdict_status};
 
 use diagnostics::linking::link;
 use diagnostics::note::Note;
@@ -53,7 +53,8 @@ fn text_note(
     refusal: &CompileError,
 ) -> Result<Note, AllocError>
     requires { RefusesText refusal.now (number + 1) bytes.now }
-    ensures { IfOk result (StandsAt refusal.now) }
+    ensures text { IfOk result (λ note. note.text ≡ number) }
+    ensures line { IfOk result (StandsAt refusal.now) }
 {
     match refusal {
         CompileError::Syntax { text: _, line } => Ok(Note {
@@ -79,7 +80,7 @@ fn push_refused_text(
     refusal: CompileError,
 ) -> Result<(), AllocError>
     requires { RefusesText refusal (number + 1) bytes.now }
-    ensures { OnOk result ((f : Finding) × (f.refusal ≡ refusal) × (refusal ≢ Memory) × StandsAt refusal f.note × (findings.new.items ≡ findings.old.items ++ f ∷ [])) }
+    ensures { OnOk result ((f : Finding) × IsFinding number refusal f × (findings.new.items ≡ findings.old.items ++ f ∷ [])) }
 {
     match refusal {
         CompileError::Memory => Err(AllocError),

@@ -8,7 +8,8 @@
 //! - [`warning::warnings`] finds what is likely a mistake in a program.
 //! - [`trace::story::story`] tells where and why a run of a program ended that is undefined, runs out of stack or comes to its limit.
 //!
-//! No function has a contract: the words are for people, and nothing that is proved rests on them. Each is safe and ends.
+//! No words are promised: they are for people, and nothing that is proved rests on them. Each function is safe and ends. What is said of a limit of one text is said of that text, by the
+//! contract of [`text::limit`].
 //!
 //! The crate stands on `il_reader`, `il_types` and `obj_link` for refusals, on `il_interp` for runs that were watched, and on `text_maker` for the words.
 #![tactic(auto)]

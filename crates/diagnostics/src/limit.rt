@@ -1,4 +1,6 @@
 //! Which limit a text, or a program, passes.
+ghost use Rattle.std.specs.Prelude.{◌≡◌, IfOk};
+
 use crate::name::{add_count, add_global, add_limit};
 use crate::note::{Note, make_note};
 use il_ast::block::Block;
@@ -15,8 +17,10 @@ use obj_link::linking::limits::object_size;
 use std::alloc::{AllocError, Global};
 use text_maker::maker::TextMaker;
 
-/// Which limit of one text the text passes.
-pub(crate) fn text_limit(alloc: Global, number: usize, text: &Text) -> Result<Note, AllocError> {
+/// Which limit of one text the text with this number passes, and where.
+pub(crate) fn text_limit(alloc: Global, number: usize, text: &Text) -> Result<Note, AllocError>
+    ensures { IfOk result (λ note. note.text ≡ number) }
+{
     let mut words = TextMaker::new(alloc);
     let line = add_text_limit(&mut words, text);
     make_note(number, line, words)

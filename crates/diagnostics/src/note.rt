@@ -1,4 +1,6 @@
 //! Words at a line.
+ghost use Rattle.std.specs.Prelude.{◌≡◌, IfOk};
+
 use std::alloc::{AllocError, Global};
 use text_maker::maker::TextMaker;
 
@@ -10,8 +12,11 @@ pub struct Note {
     pub words: String,
 }
 
-/// The note of these words.
-pub(crate) fn make_note(text: usize, line: usize, words: TextMaker) -> Result<Note, AllocError> {
+/// The note of these words, at a line of a text.
+pub(crate) fn make_note(text: usize, line: usize, words: TextMaker) -> Result<Note, AllocError>
+    ensures text { IfOk result (λ note. note.text ≡ text) }
+    ensures line { IfOk result (λ note. note.line ≡ line) }
+{
     match words.finish() {
         Ok(words) => Ok(Note { text, line, words }),
         Err(error) => Err(error),

@@ -1,4 +1,6 @@
 //! Why one text is refused.
+ghost use Rattle.std.specs.Prelude.{◌≡◌, IfOk};
+
 use crate::data::{add_repeated_global, add_wrong_alignment, add_wrong_fields};
 use crate::definition::function_at;
 use crate::label::{add_jump_to_entry, add_open_end, add_repeated_local, add_unknown_label};
@@ -33,7 +35,9 @@ pub fn rule(alloc: Global, bytes: &[u8], fault: BrokenRule) -> Result<String, Al
 }
 
 /// Which limit the text with this number passes, and where.
-pub fn limit(alloc: Global, number: usize, bytes: &[u8]) -> Result<Note, AllocError> {
+pub fn limit(alloc: Global, number: usize, bytes: &[u8]) -> Result<Note, AllocError>
+    ensures { IfOk result (λ note. note.text ≡ number) }
+{
     match read(alloc, bytes) {
         Ok(text) => text_limit(alloc, number, &text),
         Err(_) => Err(AllocError),

@@ -27,6 +27,11 @@ impl BrokenDisk {
         self.files.store(path, bytes)
     }
 
+    /// How often a file was kept or written so far.
+    pub fn kept(&self) -> usize {
+        self.files.files.len()
+    }
+
     /// The bytes of the file at the path.
     pub fn find(&self, path: &str) -> Option<&[u8]> {
         self.files.find(path)

@@ -90,9 +90,10 @@ fn check_line(
     wanted: &str,
     report: &mut Report,
 ) -> Result<(), AllocError> {
+    let before = disk.kept();
     let line = line_of_words(report.alloc, disk, words)?;
     report.compare("line", wanted, line.as_str())?;
-    report.holds("no file is written", disk.find("out").is_none())
+    report.holds("no file is written", disk.kept() == before)
 }
 
 fn check_disk(

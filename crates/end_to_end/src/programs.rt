@@ -4,6 +4,7 @@ use crate::case::{Case, slices, words_as_bytes};
 use crate::commanded::{Done, perform, perform_words};
 use crate::compiled::{Compiled, compile_with, ran};
 use crate::interpreted::{interpreted, measured};
+use crate::told::is_stop;
 use crate::watched::Watched;
 use regalloc::spill_all::SpillAll;
 use rv_machine::flat_ram::FlatRam;
@@ -100,9 +101,13 @@ fn check_refused(case: &Case, texts: &[&[u8]], report: &mut Report) -> Result<()
     }
 }
 
-// After what has no meaning only the output before it counts.
+// After what has no meaning only the output before it counts; but the machine ran, and ended as a machine can.
 fn check_run(case: &Case, what: &str, said: &Told, report: &mut Report) -> Result<(), AllocError> {
     if case.wanted.is_lost() {
+        let end = said.end.as_str();
+        if !is_stop(end) {
+            return report.fail(what, "an end of the machine", end);
+        }
         let before = case.wanted.output.as_slice();
         report.holds(what, said.output.as_slice().starts_with(before))
     } else {
@@ -366,10 +371,40 @@ fn check_built(case: &Case, built: &Done, report: &mut Report) -> Result<(), All
     report.compare("build", "0 ", line.as_str())
 }
 
-// What a program puts out before it has no meaning any more, `run` puts out first, however the machine ends.
+// How the machine ends with the file that was built.
+fn built_ran(case: &Case, disk: &BrokenDisk, alloc: Global) -> Result<Told, AllocError> {
+    let words = words_as_bytes(alloc, &case.words)?;
+    let file = disk.find("out").unwrap_or(&[]);
+    ran::<PageRam>(alloc, file, words.as_slice(), case.instructions_given())
+}
+
+// Whether `run` says so of a run of the machine that ended so; of a fault, whichever it is.
+fn tells_stop(alloc: Global, end: &str, line: &str) -> Result<bool, AllocError> {
+    match end {
+        "fault" => Ok(line.starts_with("125 qbec: fault F")),
+        "memory" => Ok(line == "126 qbec: memory"),
+        _ => Ok(line == line_of(alloc, end)?.as_str()),
+    }
+}
+
+fn compare_stops(wanted: &Told, said: &Done, report: &mut Report) -> Result<(), AllocError> {
+    let line = said.line(report.alloc)?;
+    let end = wanted.end.as_str();
+    if !is_stop(end) || !tells_stop(report.alloc, end, line.as_str())? {
+        report.fail("run", end, line.as_str())?;
+    }
+    report.holds(
+        "output of run",
+        said.output.as_slice() == wanted.output.as_slice(),
+    )
+}
+
+// What a program puts out before it has no meaning any more, `run` puts out first; it ends as the machine does, whatever that is.
 fn check_lost(case: &Case, disk: &mut BrokenDisk, report: &mut Report) -> Result<(), AllocError> {
+    let wanted = built_ran(case, disk, report.alloc)?;
     let limit = case.instructions_given();
     let said = said_of(case, disk, "run", limit, "out", report.alloc)?;
+    compare_stops(&wanted, &said, report)?;
     let before = case.wanted.output.as_slice();
     report.holds("run", said.output.as_slice().starts_with(before))
 }

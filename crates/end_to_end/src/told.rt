@@ -14,6 +14,14 @@ pub fn end_told(alloc: Global, end: End) -> Result<String, AllocError> {
     }
 }
 
+/// Whether a run of the machine ended so: it isn't a refusal of the file or of the words.
+pub fn is_stop(end: &str) -> bool {
+    match end {
+        "halt" | "limit" | "memory" | "fault" => true,
+        _ => end.starts_with("exit "),
+    }
+}
+
 /// How a run of the machine ended.
 pub fn stop_told(alloc: Global, stop: Stop) -> Result<String, AllocError> {
     match stop {

@@ -36,15 +36,29 @@ fn is_unnamed(place: usize, moves: &[Move]) -> bool
 /// The place that the moves of the tests may use besides.
 const SCRATCH: usize = 9;
 
-/// What nine places that held their numbers hold after the moves.
-fn left_by(moves: &[Move]) -> [usize; 10] {
-    let mut places = [0, 1, 2, 3, 4, 5, 6, 7, 8, 9];
+/// Does the moves in these places, one after another.
+fn move_in(places: &mut [usize], moves: &[Move]) {
     for m in moves {
-        if m.to < 10 && m.from < 10 {
+        if m.to < places.len() && m.from < places.len() {
             places[m.to] = places[m.from];
         }
     }
+}
+
+/// What nine places that held their numbers hold after the moves.
+fn left_by(moves: &[Move]) -> [usize; 10] {
+    let mut places = [0, 1, 2, 3, 4, 5, 6, 7, 8, 9];
+    move_in(&mut places, moves);
     places
+}
+
+/// So many places, which hold their numbers.
+fn numbered(alloc: Global, count: usize) -> Result<Vec<usize>, AllocError> {
+    let mut places = Vec::new(alloc);
+    for place in 0..count {
+        places.push(place)?;
+    }
+    Ok(places)
 }
 
 fn moves_of(alloc: Global, pairs: &[(usize, usize)]) -> Result<Vec<Move>, AllocError> {
@@ -171,6 +185,32 @@ fn long_chain(alloc: Global, first: usize) -> Result<Vec<Move>, AllocError> {
     Ok(moves)
 }
 
+/// How many of the first four thousand places hold what the one before them held, and the first of them what this place held.
+fn shifted(places: &[usize], first: usize) -> usize {
+    let mut count = 0usize;
+    for (place, held) in places.iter().take(4000).enumerate() {
+        let from = if place == 0 { first } else { place - 1 };
+        if *held == from {
+            count = count.saturating_add(1);
+        }
+    }
+    count
+}
+
+/// What these moves of five thousand and one places leave, and how many they are.
+fn leaves_shifted(
+    rt: &(impl Abort + AllocGlobal),
+    out: &[Move],
+    first: usize,
+    count: usize,
+) -> Result<(), AllocError> {
+    let mut places = numbered(rt.alloc(), 5001)?;
+    move_in(places.as_mut_slice(), out);
+    is_number(rt, shifted(places.as_slice(), first), 4000);
+    is_number(rt, out.len(), count);
+    Ok(())
+}
+
 fn makes_long(
     first: usize,
     count: usize,
@@ -178,8 +218,7 @@ fn makes_long(
 ) -> Result<(), AllocError> {
     let moves = long_chain(rt.alloc(), first)?;
     let out = in_order(rt, rt.alloc(), moves.as_slice(), 5000)?;
-    is_number(rt, out.len(), count);
-    Ok(())
+    leaves_shifted(rt, out.as_slice(), first, count)
 }
 
 /// Four thousand moves round one cycle, and along one chain.

@@ -37,7 +37,8 @@ loop-piece-preserved g c =
           c.loop-piece.left c.loop-piece.piece (view g.R.Ram c.loop-piece.machine) (view g.R.Ram c.run_piece-stop.new.self) (view g.R.Ram c.clear_output.new.self) c.run_piece-stop.result
           c.loop-piece.invariant.so_far (omega (arith, more)) c.run_piece-stop.ensures.piece c.in-Limit.is (rw c.output.ensures at c.in_ok-put_out.ensures.all) c.clear_output.ensures;
       decoded = subst P (sym c.clear_output.ensures) c.run_piece-stop.ensures.decoded;
-      some = c.next_piece-piece.ensures;
+      some = c.next_piece-piece.ensures.some;
+      few = c.next_piece-piece.ensures.few;
     }
 
 pub returns-in_err-put_out-2-clause-broke : goal.returns-in_err-put_out-2-clause-broke

@@ -35,7 +35,8 @@ loop-piece-preserved g c =
           went_further (comes_to c.args.running.now) c.args.turns (g.O.Sink.told c.args.out.now) (g.O.Sink.told c.loop-piece.out) (g.O.Sink.told c.put_out.new.out) c.loop-piece.left c.loop-piece.piece
           c.loop-piece.running c.go_on.new.self c.clear_output.new.self c.in-Ok.end c.loop-piece.invariant.so_far (omega (arith, more)) c.in-Ok.ensures c.in-None.is
           (rw c.output.ensures at c.in_ok-put_out.ensures.all) c.clear_output.ensures.before c.clear_output.ensures.empty;
-      some = c.next_piece-piece.ensures;
+      some = c.next_piece-piece.ensures.some;
+      few = c.next_piece-piece.ensures.few;
     }
 
 pub returns-in-Err-go_on-clause-fails : goal.returns-in-Err-go_on-clause-fails

@@ -30,8 +30,8 @@ loop-k-preserved c =
           let findings = ap (λ (v : Vec Finding Global). v.items) w.findings-is in
           let pushed = w.in_ok-push_refused_text-in-Err.ensures in
           record {
-            are = refused_more texts k _ c.loop-k.findings.items _ pushed.0 w.in-Err.refusal c.loop-k-test.true before.are w.in-Err.ensures.says pushed.2 pushed.1 pushed.3 (findings ∙ pushed.4);
-            so_far = λ none. absurd (not_none c.loop-k.findings.items _ pushed.0 (findings ∙ pushed.4) none);
+            are = refused_more texts k _ c.loop-k.findings.items _ pushed.0 w.in-Err.refusal c.loop-k-test.true before.are w.in-Err.ensures.says pushed.1 (findings ∙ pushed.2);
+            so_far = λ none. absurd (not_none c.loop-k.findings.items _ pushed.0 (findings ∙ pushed.2) none);
           })
     ]
 
