@@ -4,8 +4,9 @@ use il_ast::function::Func;
 use il_ast::instruction::{Inst, Jump, Lined};
 use il_ast::label::Label;
 use il_ast::operand::{Dest, Val};
-use il_ast::operation::{BinaryOp, Class, Size, UnaryOp};
+use il_ast::operation::Class;
 use il_ast::temp::Temp;
+use il_types::classes::{left_class, operand_class, right_class, stored_class};
 use std::alloc::{AllocError, Global};
 
 /// What a line does in a place of a class. The block is that with this number, and for parameters the first one.
@@ -86,7 +87,7 @@ impl StepList {
         let line = inst.line;
         match &inst.item {
             Inst::Unary { to, op, value } => {
-                self.add(line, unary_class(*op, *to), Does::Reads(*value))
+                self.add(line, operand_class(*op, to.class), Does::Reads(*value))
             }
             Inst::Binary {
                 to,
@@ -94,7 +95,8 @@ impl StepList {
                 left,
                 right,
             } => {
-                let (one, other) = binary_classes(*op, *to);
+                let one = left_class(*op, to.class);
+                let other = right_class(*op, to.class);
                 self.add(line, one, Does::Reads(*left));
                 self.add(line, other, Does::Reads(*right));
             }
@@ -152,29 +154,6 @@ pub fn steps(alloc: Global, function: &Func) -> Result<Vec<Step>, AllocError> {
         steps.add_block(block);
     }
     steps.finish()
-}
-
-fn unary_class(op: UnaryOp, to: Dest) -> Class {
-    match op {
-        UnaryOp::Neg | UnaryOp::Copy => to.class,
-        UnaryOp::Extend(_) => Class::W,
-        UnaryOp::LoadLong | UnaryOp::Load(_) => Class::L,
-    }
-}
-
-fn binary_classes(op: BinaryOp, to: Dest) -> (Class, Class) {
-    match op {
-        BinaryOp::Compare(_, class) => (class, class),
-        BinaryOp::Sar | BinaryOp::Shr | BinaryOp::Shl => (to.class, Class::W),
-        _ => (to.class, to.class),
-    }
-}
-
-fn stored_class(size: Size) -> Class {
-    match size {
-        Size::Long => Class::L,
-        Size::Byte | Size::Half | Size::Word => Class::W,
-    }
 }
 
 /// Where the result of an instruction goes.

@@ -6,7 +6,6 @@ ghost use Rattle.il_ast.specs.Effect.{inst_effect};
 ghost use Rattle.obj_link.specs.ProgramOf.{program};
 ghost use Rattle.il_interp.specs.Machine.{locals_of, inst_next, stepped};
 
-use crate::classes::{left_class, operand_class, right_class, stored_class};
 use crate::operand::operand;
 use crate::operate::{operate_one, operate_two};
 use crate::state::{Frame, State};
@@ -14,6 +13,7 @@ use il_ast::operand::{Dest, Val};
 use il_ast::operation::{Alignment, BinaryOp, Class, Size, UnaryOp};
 use il_ast::temp::Temp;
 use il_ast::value::{End, Value};
+use il_types::classes::{left_class, operand_class, right_class, stored_class};
 use obj_link::linking::linked::Linked;
 use std::alloc::AllocError;
 

@@ -23,7 +23,6 @@
 #![tactic(auto)]
 
 mod call;
-mod classes;
 mod edges;
 pub mod error;
 mod hops;

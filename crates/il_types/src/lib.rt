@@ -20,6 +20,7 @@
 pub mod arguments;
 pub mod check;
 pub mod checked;
+pub mod classes;
 pub mod cost;
 mod definers;
 pub mod error;

@@ -1,16 +1,15 @@
 //! The operands of a function, in the order of the text.
 ghost use Rattle.std.specs.Prelude.{◌≡◌, ◌++◌, OnOk, IfOk};
 ghost use Rattle.std.specs.List.{flat_map};
-ghost use Rattle.il_ast.specs.Operations.{operand_class, left_class, right_class};
-ghost use Rattle.il_ast.specs.Effect.{stored_class};
 ghost use Rattle.il_types.specs.Sites.{operand_at, phi_operands, arg_operands, inst_operands, end_operands, block_operands, operands_of};
 
+use crate::classes::{left_class, operand_class, right_class, stored_class};
 use crate::site::Operand;
 use il_ast::block::{Block, Phi};
 use il_ast::function::Func;
 use il_ast::instruction::{Inst, Jump, Lined};
 use il_ast::operand::{Arg, Val};
-use il_ast::operation::{BinaryOp, Class, Size, UnaryOp};
+use il_ast::operation::Class;
 use std::alloc::{AllocError, Global};
 
 /// A function's operands but for the values that it returns.
@@ -124,42 +123,4 @@ fn operand(line: usize, class: Class, value: Val) -> Operand
     ensures { result ≡ operand_at line class value }
 {
     Operand { line, class, value }
-}
-
-fn operand_class(op: UnaryOp, class: Class) -> Class
-    ensures { result ≡ operand_class op class }
-{
-    match op {
-        UnaryOp::Neg | UnaryOp::Copy => class,
-        UnaryOp::Extend(_) => Class::W,
-        UnaryOp::LoadLong | UnaryOp::Load(_) => Class::L,
-    }
-}
-
-fn left_class(op: BinaryOp, class: Class) -> Class
-    ensures { result ≡ left_class op class }
-{
-    match op {
-        BinaryOp::Compare(_, compared) => compared,
-        _ => class,
-    }
-}
-
-fn right_class(op: BinaryOp, class: Class) -> Class
-    ensures { result ≡ right_class op class }
-{
-    match op {
-        BinaryOp::Compare(_, compared) => compared,
-        BinaryOp::Sar | BinaryOp::Shr | BinaryOp::Shl => Class::W,
-        _ => class,
-    }
-}
-
-fn stored_class(size: Size) -> Class
-    ensures { result ≡ stored_class size }
-{
-    match size {
-        Size::Byte | Size::Half | Size::Word => Class::W,
-        Size::Long => Class::L,
-    }
 }
