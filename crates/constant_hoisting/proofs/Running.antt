@@ -29,7 +29,7 @@ use Rattle.vcode.proofs.Alike.{lines_alike}
 use Rattle.vcode.proofs.Writing.{Agree, both_write, writes_only, unwritten, now_holds, second_writes}
 use Rattle.vcode.proofs.Leading.{LeadsTo, Arriving, jump_put, leads_more}
 use Rattle.vcode.proofs.Rewriting.{rewrites_keep}
-use Rattle.flow.specs.Targets.{targets}
+use Rattle.flow.specs.Successors.{successors}
 use Rattle.constant_hoisting.specs.declared.plan.Constant.{Constant}
 use Rattle.constant_hoisting.specs.declared.plan.Constant.TheVariants.{Number as OfNumber, Name as OfName}
 use Rattle.constant_hoisting.specs.declared.plan.Plan.{Plan}
@@ -101,18 +101,18 @@ block_at p v j b e = block_from p 0 v.blocks j b e ∙ ap (λ m. Some (block_of 
 abbrev has_at : Plan → ℕ → Bool
 has_at p k = is_held p k || is_set p k
 
-leads_from : (p : Plan) (k : ℕ) (blocks : List (Block ℕ)) (j : ℕ) (b : Block ℕ) → leads_well p k blocks ≡ true → slice_get blocks j ≡ Some b → list_all (may_lead p (has_at p (k + j))) (targets b.jump) ≡ true
+leads_from : (p : Plan) (k : ℕ) (blocks : List (Block ℕ)) (j : ℕ) (b : Block ℕ) → leads_well p k blocks ≡ true → slice_get blocks j ≡ Some b → list_all (may_lead p (has_at p (k + j))) (successors b.jump) ≡ true
 leads_from p k [] j b h e = absurd (let no : ⊥ = cc in no)
 leads_from p k (d ∷ blocks) zero b h e =
     let same : d ≡ b = cc in
-    let s = and_parts (list_all (may_lead p (has_at p k)) (targets d.jump)) (leads_well p (k + 1) blocks) h in
-    ap (λ m. list_all (may_lead p (has_at p m)) (targets b.jump)) (let z : k + 0 ≡ k = omega arith in z) ∙ ap (λ (x : Block ℕ). list_all (may_lead p (has_at p k)) (targets x.jump)) (sym same) ∙ s.0
+    let s = and_parts (list_all (may_lead p (has_at p k)) (successors d.jump)) (leads_well p (k + 1) blocks) h in
+    ap (λ m. list_all (may_lead p (has_at p m)) (successors b.jump)) (let z : k + 0 ≡ k = omega arith in z) ∙ ap (λ (x : Block ℕ). list_all (may_lead p (has_at p k)) (successors x.jump)) (sym same) ∙ s.0
 leads_from p k (d ∷ blocks) (suc j) b h e =
-    let s = and_parts (list_all (may_lead p (has_at p k)) (targets d.jump)) (leads_well p (k + 1) blocks) h in
-    ap (λ m. list_all (may_lead p (has_at p m)) (targets b.jump)) (let z : k + suc j ≡ (k + 1) + j = omega arith in z) ∙ leads_from p (k + 1) blocks j b s.1 e
+    let s = and_parts (list_all (may_lead p (has_at p k)) (successors d.jump)) (leads_well p (k + 1) blocks) h in
+    ap (λ m. list_all (may_lead p (has_at p m)) (successors b.jump)) (let z : k + suc j ≡ (k + 1) + j = omega arith in z) ∙ leads_from p (k + 1) blocks j b s.1 e
 
-leads_at : (p : Plan) (v : Code ℕ) (j : ℕ) (b : Block ℕ) → leads_well p 0 v.blocks ≡ true → slice_get v.blocks j ≡ Some b → list_all (may_lead p (has_at p j)) (targets b.jump) ≡ true
-leads_at p v j b h e = ap (λ m. list_all (may_lead p (has_at p m)) (targets b.jump)) (let z : j ≡ 0 + j = omega arith in z) ∙ leads_from p 0 v.blocks j b h e
+leads_at : (p : Plan) (v : Code ℕ) (j : ℕ) (b : Block ℕ) → leads_well p 0 v.blocks ≡ true → slice_get v.blocks j ≡ Some b → list_all (may_lead p (has_at p j)) (successors b.jump) ≡ true
+leads_at p v j b h e = ap (λ m. list_all (may_lead p (has_at p m)) (successors b.jump)) (let z : j ≡ 0 + j = omega arith in z) ∙ leads_from p 0 v.blocks j b h e
 
 -- what `is_safe` says
 record Safe (p : Plan) (v : Code ℕ) : Type 0 where
@@ -163,7 +163,7 @@ led true b h e = refl
 led false true h e = absurd (let no : ⊥ = cc in no)
 led false false h e = absurd (let no : ⊥ = cc in no)
 
-each_target : (test : ℕ → Bool) (j : Jump ℕ) → list_all test (targets j) ≡ true → LeadsTo (λ k. test k ≡ true) j
+each_target : (test : ℕ → Bool) (j : Jump ℕ) → list_all test (successors j) ≡ true → LeadsTo (λ k. test k ≡ true) j
 each_target test (Goto k) h = (and_parts (test k) true h).0
 each_target test (Branch on met otherwise) h =
     let s = and_parts (test met) (list_all test (otherwise ∷ [])) h in (s.0, (and_parts (test otherwise) true s.1).0)
@@ -171,7 +171,7 @@ each_target test (Return a) h = tt
 each_target test Halt h = tt
 
 -- where the register has the constant if it is held, and leads to blocks that may hold it
-jump_follows : (p : Plan) (v : Code ℕ) (held has : Bool) (j : Jump ℕ) → (held ≡ true → has ≡ true) → jump_keeps (is_other p.register) j ≡ true → list_all (may_lead p has) (targets j) ≡ true
+jump_follows : (p : Plan) (v : Code ℕ) (held has : Bool) (j : Jump ℕ) → (held ≡ true → has ≡ true) → jump_keeps (is_other p.register) j ≡ true → list_all (may_lead p has) (successors j) ≡ true
     → LeadAlike (claims p) v.result has j (with_jump (replaced p held) j)
 jump_follows p v held has j more spares leads globals memory ev el h =
     jump_put (claims p) globals memory ev el v.result (replaced p held) j
@@ -182,21 +182,21 @@ jump_follows p v held has j more spares leads globals memory ev el h =
 -- ---- the code follows
 
 module _ (p : Plan) (v : Code ℕ) (held : Bool) where
-  end_follows : (set : Bool) (j : Jump ℕ) → jump_keeps (is_other p.register) j ≡ true → list_all (may_lead p (held || set)) (targets j) ≡ true
+  end_follows : (set : Bool) (j : Jump ℕ) → jump_keeps (is_other p.register) j ≡ true → list_all (may_lead p (held || set)) (successors j) ≡ true
       → Follows (claims p) v (with_constant p v) held [] j (setting p set) (with_jump (replaced p held) j)
   end_follows false j spares leads =
       let same : (held || false) ≡ held = or_false held in
-      Jumps (jump_follows p v held held j (λ is. is) spares (ap (λ b. list_all (may_lead p b) (targets j)) (sym same) ∙ leads))
+      Jumps (jump_follows p v held held j (λ is. is) spares (ap (λ b. list_all (may_lead p b) (successors j)) (sym same) ∙ leads))
     where
       or_false : (b : Bool) → (b || false) ≡ b
       or_false true = refl
       or_false false = refl
   end_follows true j spares leads =
       Come (set_comes p held)
-      (Jumps (jump_follows p v held true j (λ is. refl) spares (ap (λ b. list_all (may_lead p b) (targets j)) (sym (or_right held true refl)) ∙ leads)))
+      (Jumps (jump_follows p v held true j (λ is. refl) spares (ap (λ b. list_all (may_lead p b) (successors j)) (sym (or_right held true refl)) ∙ leads)))
 
   lines_follow : (set : Bool) (lines : List (Line ℕ)) (j : Jump ℕ) → list_all (line_keeps (is_other p.register)) lines ≡ true → jump_keeps (is_other p.register) j ≡ true
-      → list_all (may_lead p (held || set)) (targets j) ≡ true
+      → list_all (may_lead p (held || set)) (successors j) ≡ true
       → Follows (claims p) v (with_constant p v) held lines j (map (with_line (replaced p held)) lines ++ setting p set) (with_jump (replaced p held) j)
   lines_follow set [] j all spares leads = end_follows set j spares leads
   lines_follow set (l ∷ lines) j all spares leads =

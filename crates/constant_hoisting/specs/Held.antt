@@ -12,7 +12,7 @@ use Rattle.vcode.specs.declared.function.VFunc.{VFunc}
 use Rattle.vcode.specs.Cost.{is_paid}
 use Rattle.vcode.specs.Named.{keeps_places}
 use Rattle.vcode.specs.Replaced.{Replacing, with_line, with_jump}
-use Rattle.flow.specs.Targets.{targets}
+use Rattle.flow.specs.Successors.{successors}
 use Rattle.constant_hoisting.specs.declared.plan.Constant.{Constant}
 use Rattle.constant_hoisting.specs.declared.plan.Constant.TheVariants.{Number as OfNumber, Name as OfName}
 use Rattle.constant_hoisting.specs.declared.plan.Plan.{Plan}
@@ -76,7 +76,7 @@ may_lead p has k = has || not (is_held p k)
 abbrev pub leads_well : Plan → (k : ℕ) → List (Block ℕ) → Bool
 leads_well p k [] = true
 leads_well p k (b ∷ blocks) =
-    list_all (may_lead p (is_held p k || is_set p k)) (targets b.jump)
+    list_all (may_lead p (is_held p k || is_set p k)) (successors b.jump)
     && leads_well p (k + 1) blocks
 
 -- the code names the register nowhere, begins in a block that doesn't hold the constant, and comes

@@ -5,7 +5,7 @@ ghost use Rattle.vcode.specs.declared.place.Argument.{Argument as AnArgument};
 ghost use Rattle.vcode.specs.declared.place.Destination.{Destination as ADestination};
 ghost use Rattle.vcode.specs.Cost.{is_paid};
 ghost use Rattle.vcode.specs.Named.{operand_keeps, wanted_keeps, made_keeps, line_keeps, jump_keeps, block_keeps, keeps_places};
-ghost use Rattle.flow.specs.Targets.{targets};
+ghost use Rattle.flow.specs.Successors.{successors};
 ghost use Rattle.constant_hoisting.specs.Held.{is_held, is_set, is_other, may_lead, leads_well, is_safe};
 
 use crate::plan::Plan;
@@ -137,7 +137,7 @@ fn may_lead(plan: &Plan, has: bool, to: usize) -> bool
 }
 
 fn jump_leads_well(plan: &Plan, has: bool, jump: &Jump<u32>) -> bool
-    ensures { result ≡ list_all (may_lead plan.now has) (targets jump.now) }
+    ensures { result ≡ list_all (may_lead plan.now has) (successors jump.now) }
 {
     match jump {
         Jump::Goto(to) => may_lead(plan, has, *to),

@@ -102,13 +102,8 @@ impl Numbers {
 }
 
 fn take(last: &mut [Option<u64>], register: u32) -> Option<Known> {
-    match last.get_mut(register as usize) {
-        Some(last) => match last.take() {
-            Some(number) => Some(Known { register, number }),
-            None => None,
-        },
-        None => None,
-    }
+    let number = last.get_mut(register as usize)?.take()?;
+    Some(Known { register, number })
 }
 
 /// The numbers of these registers, which it forgets.

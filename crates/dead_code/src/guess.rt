@@ -5,6 +5,7 @@ ghost use Rattle.vcode.specs.Named.{line_keeps, block_keeps, is_below};
 
 use crate::wanted::{begin, is_dead, loses_register, pass};
 use bitset::BitSet;
+use flow::graph::successor;
 use std::alloc::{AllocError, Global};
 use vcode::code::Block;
 use vcode::function::VFunc;
@@ -33,10 +34,13 @@ struct Back {
     last: usize,
 }
 
-fn note_target(back: &mut Back, to: usize, from: usize) {
-    if to <= from {
-        back.first = back.first.min(to);
-        back.last = back.last.max(to);
+/// Notes the block that a jump from another leads back to, or to itself.
+fn note_successor(back: &mut Back, to: Option<usize>, from: usize) {
+    if let Some(to) = to {
+        if to <= from {
+            back.first = back.first.min(to);
+            back.last = back.last.max(to);
+        }
     }
 }
 
@@ -76,14 +80,8 @@ fn walk_block(set: &mut BitSet, starts: &[BitSet], block: &Block<u32>) -> bool
 
 /// Notes to which blocks a jump from this one leads back, or to itself.
 fn note_back(back: &mut Back, jump: &Jump<u32>, block: usize) {
-    match jump {
-        Jump::Goto(to) => note_target(back, *to, block),
-        Jump::Branch { met, otherwise, .. } => {
-            note_target(back, *met, block);
-            note_target(back, *otherwise, block);
-        }
-        Jump::Return(_) | Jump::Halt => {}
-    }
+    note_successor(back, successor(jump, 0), block);
+    note_successor(back, successor(jump, 1), block);
 }
 
 /// Goes over all blocks, from the last to the first. Answers whether one wants more at its beginning that a later one may lead to.

@@ -9,7 +9,7 @@
 //!
 //! The contract says that the code is kept, in the words of every pass.
 //!
-//! The crate stands on `vcode` for code, and on `bitset` for sets.
+//! The crate stands on `vcode` for code, on `bitset` for sets, and for the guess on `flow` for where jumps lead.
 #![tactic(auto)]
 
 mod guess;

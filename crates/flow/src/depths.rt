@@ -46,9 +46,8 @@ fn next_of(blocks: &[Block<u32>], step: Step) -> Option<usize> {
 }
 
 fn mark(visits: &mut [Visit], block: usize, visit: Visit) {
-    match visits.get_mut(block) {
-        Some(at) => *at = visit,
-        None => {}
+    if let Some(at) = visits.get_mut(block) {
+        *at = visit;
     }
 }
 

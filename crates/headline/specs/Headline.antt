@@ -7,7 +7,6 @@ use Rattle.il_ast.specs.Meaning.{outcome, meaning, spent_of}
 use Rattle.rv_isa.specs.State.{State}
 use Rattle.rv_isa.specs.Step.{Stop, Exited, Broken}
 use Rattle.rv_isa.specs.Runs.{Going, Stopped, runs}
-use Rattle.abi_frames.specs.Performs.{turn_bound}
 
 -- the instructions that the program's run of n turns may take
 abbrev pub price_at : Program → List (List ℕ) → ℕ → ℕ
@@ -30,7 +29,7 @@ pub record GoesOnSo (p : Program) (words : List (List ℕ)) (n : ℕ) (s : State
   pub going : runs steps s ≡ Going now
   pub output : now.output ≡ (meaning p words n).output
   pub price : steps ≤ price_at p words n
-  pub pace : n ≤ turn_bound * (steps + 1)
+  pub pace : n ≤ 40000 * (steps + 1)
 
 -- the machine hasn't stopped, and has put out so much
 pub record PutsOut (s : State) (output : List ℕ) : Type 0 where

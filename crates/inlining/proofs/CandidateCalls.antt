@@ -20,7 +20,7 @@ use Rattle.vcode.specs.Operations.{held}
 use Rattle.vcode.specs.Places.{Values, virtual}
 use Rattle.vcode.specs.Step.{State, begin, weighs, goes_on, step}
 use Rattle.vcode.specs.Writes.{line_writes}
-use Rattle.vcode.specs.Acts.{Act, Fails, Spends, Gives, Candidates, Makes, Asks, given, left, act, written, Way, Lost, Enters, Answers, Halts, way}
+use Rattle.vcode.specs.Acts.{Act, Fails, Spends, Gives, Leaves, Makes, Asks, given, left, act, written, Way, Lost, Enters, Answers, Halts, way}
 use Rattle.vcode.specs.InPlace.{HasRoom}
 use Rattle.vcode.proofs.Lists.{all_at}
 use Rattle.vcode.proofs.Acting.{perform, lead, received, resumed}
@@ -105,7 +105,7 @@ module _ (globals : List Value) (candidate : Code ℕ) (i : Given) (calm : is_ca
   acts_later steps s to (Spends true w) begun log run on = tick_later steps w s (nat_lt s.spent.turns i.turns) refl log run on
   acts_later steps s to (Gives o) begun log run on =
       on (record s { next = s.next + 1; values = written to o s.values }) log refl refl (λ p. absurd p) (λ p. p) run
-  acts_later steps s to (Candidates m) begun log run on =
+  acts_later steps s to (Leaves m) begun log run on =
       on (record s { next = s.next + 1; memory = m }) log refl refl (λ p. absurd p) (λ p. p) run
   acts_later steps s to (Makes size) begun log run on =
       on

@@ -25,7 +25,7 @@ use Rattle.vcode.specs.Operations.{held, passed}
 use Rattle.vcode.specs.Places.{Values, virtual}
 use Rattle.vcode.specs.Step.{State, begin, value_of, operated, read_result, weighs, goes_on, step}
 use Rattle.vcode.specs.Writes.{line_writes}
-use Rattle.vcode.specs.Acts.{Act, Fails, Spends, Gives, Candidates, Makes, Asks, act, written, Way, entering, answering, way}
+use Rattle.vcode.specs.Acts.{Act, Fails, Spends, Gives, Leaves, Makes, Asks, act, written, Way, entering, answering, way}
 use Rattle.vcode.specs.InPlace.{IsCheaper, GoesSo, HasRoom}
 use Rattle.vcode.proofs.Acting.{perform, lead, received, resumed}
 use Rattle.vcode.proofs.Following.{AllFollow, ActFollows, act_follows, WayFollows, way_follows, then_follows, assign_follows}
@@ -180,7 +180,7 @@ module _ (c : Setting) (s : State ℕ) (g : Given) (went : Outcome) where
         moved = moved_follows c.base to f.0 o el l.values f.1.1 h.moved;
         cheap = h.cheap;
       }) gone run)
-  acts_go steps l b n el sp same wide low fine behind h on to (Candidates m) x calm f at log gone run =
+  acts_go steps l b n el sp same wide low fine behind h on to (Leaves m) x calm f at log gone run =
       let t : State ℕ = inside s l b n el sp in
       let u : State ℕ = record l { next = l.next + 1; memory = m } in
       does_goes c t (On (inside s u b (n + 1) el sp)) (at ∙ ap (perform c.given t (moved_to c.base to)) f)

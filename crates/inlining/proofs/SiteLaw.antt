@@ -28,7 +28,7 @@ use Rattle.vcode.specs.Operations.{held}
 use Rattle.vcode.specs.Places.{Values, virtual, unknown, put}
 use Rattle.vcode.specs.Step.{State, bound, begin, read_all, weighs, goes_on, step}
 use Rattle.vcode.specs.Writes.{place_of, line_writes}
-use Rattle.vcode.specs.Acts.{Act, Fails, Spends, Gives, Candidates, Makes, Asks, asked, act, written, Way, Lost, Enters, Answers, Halts, way}
+use Rattle.vcode.specs.Acts.{Act, Fails, Spends, Gives, Leaves, Makes, Asks, asked, act, written, Way, Lost, Enters, Answers, Halts, way}
 use Rattle.vcode.specs.InPlace.{IsCheaper, GoesSo, HasRoom}
 use Rattle.vcode.proofs.Acting.{perform, lead, received, resumed}
 use Rattle.vcode.proofs.Following.{AllFollow, ActFollows, act_follows, WayFollows, way_follows, assign_follows}
@@ -163,7 +163,7 @@ module _ (c : Setting) where
       does_goes c t (On (along u b (n + 1) el2 sp)) (at ∙ ap (perform c.given t to) f.1.0)
       (on u el2 sp log refl refl
       (record { follows = assign_follows to o f.0 s.values el f.1.1 h.follows; low = written_low c.base to o s.values place h.low; cheap = h.cheap }) (λ p. absurd p) (λ p. p) gone run)
-  acts_go steps s b n el sp h to place (Candidates m) x f at log gone run on =
+  acts_go steps s b n el sp h to place (Leaves m) x f at log gone run on =
       let t : State ℕ = along s b n el sp in
       let u : State ℕ = record s { next = s.next + 1; memory = m } in
       does_goes c t (On (along u b (n + 1) el sp)) (at ∙ ap (perform c.given t to) f)

@@ -1,17 +1,35 @@
 //! # Register allocation by linear scan
 //!
-//! [`linear_scan::LinearScan`] gives registers of the machine to those virtual registers that are used most often for their length, and shared slots to the
-//! others. Those it cuts: in parts of their lifetimes they stand in registers of the machine, and certificates move them there and to their slots. Its contract
-//! says that a certificate names places that there are (`specs/Scanned`); that no two registers meet in a place, and that moves are right, is for the checker to
-//! see, which stands on `certificates` and knows nothing of this crate.
+//! [`linear_scan::LinearScan`] gives registers of the machine to those virtual registers that are used most often for the length of their live intervals, and shared
+//! spill slots to the others. Those it splits: in parts of their live intervals they stand in registers of the machine, and certificates move them there and to their slots.
 //!
-//! What is known of a function is in the crate `live_intervals`, and which register gets which place, and what is cut, is decided in `interval_splitting`; neither has
-//! contracts. Here the places are put into a list (`linear_scan`), and `written` writes the certificate.
+//! The layers, in the order of the work:
 //!
-//! What the crate `certificates` has is here by the same names.
+//! | Layer | What it finds |
+//! |---|---|
+//! | `intervals` | where registers have values (their live intervals), what they are used for (their spill weights), which may have one place (coalescing) |
+//! | `places` | which of them gets which register of the machine, or which spill slot |
+//! | `parts` | the parts of a live interval, which of them one register of the machine serves together, and what that saves |
+//! | `splitting` | which parts of what has a slot stand in a register of the machine, and the moves for that |
+//! | `linear_scan` | the place of each register, by all of these |
+//! | `written` | the certificate of the places and the moves |
+//!
+//! `lists` has what several of them do with lists.
+//!
+//! The strategy's contract says that a certificate names only places that there are, in registers of the machine and in slots (`specs/Scanned`): `linear_scan` and
+//! `written` keep that. The layers above them in the table guess, and have no contracts: that no two registers meet in a place, and that moves are right, is for the
+//! checker (`alloc_check`) to see, which stands on `certificates` and knows nothing of this crate.
+//!
+//! The crate stands on `cfg_live` for liveness, on `flow` for the depths of blocks, on `vcode` for the code and its places, and on `certificates`, whose modules are
+//! here by the same names.
 #![tactic(auto)]
 
+mod intervals;
 pub mod linear_scan;
+mod lists;
+mod parts;
+mod places;
+mod splitting;
 mod written;
 
 pub use certificates::{certificate, list, spill_all, strategy};

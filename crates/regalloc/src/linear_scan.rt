@@ -5,23 +5,23 @@ ghost use Rattle.std.specs.List.{list_all};
 ghost use Rattle.vcode.specs.Named.{is_place};
 ghost use Rattle.regalloc.specs.Scanned.{IsScanned};
 
+use crate::intervals::accesses::Accesses;
+use crate::intervals::coalescing::{Group, groups_of};
+use crate::intervals::facts::{Facts, facts_of};
+use crate::intervals::positions::Range;
+use crate::places::candidates::{
+    Candidate, Ground, candidates, is_left_over, is_unplaced, singles, wishes,
+};
+use crate::places::choice::choice;
+use crate::places::rooms::{ROOMS, Rooms};
+use crate::places::slots::{Wish, shared_slots};
+use crate::splitting::splits::Splits;
+use crate::splitting::splitter::{Splitter, split_all};
 use crate::written::written;
 use certificates::certificate::Certificate;
 use certificates::spill_all::slots;
 use certificates::strategy::Strategy;
 use cfg_live::sets::Live;
-use interval_splitting::candidates::{
-    Candidate, Ground, candidates, is_left_over, is_unplaced, singles, wishes,
-};
-use interval_splitting::choice::choice;
-use interval_splitting::cuts::Cuts;
-use interval_splitting::cutting::{Cutter, cut_all};
-use interval_splitting::rooms::{ROOMS, Rooms};
-use interval_splitting::slots::{Wish, shared_slots};
-use live_intervals::accesses::Accesses;
-use live_intervals::facts::{Facts, facts_of};
-use live_intervals::groups::{Group, groups_of};
-use live_intervals::positions::Range;
 use std::alloc::{AllocError, Global};
 use std::mem::replace;
 use vcode::function::VFunc;
@@ -58,6 +58,7 @@ pub(crate) fn machine_register(registers: u32, k: u8) -> Location
     })
 }
 
+/// Puts the register into the place.
 fn set(list: &mut [Location], registers: u32, register: u32, place: Location)
     requires place { is_place registers place ≡ true }
     requires places { list_all (is_place registers) list.old ≡ true }
@@ -69,6 +70,7 @@ fn set(list: &mut [Location], registers: u32, register: u32, place: Location)
     }
 }
 
+/// Puts all the registers into the place.
 fn set_all(list: &mut [Location], registers: u32, members: &[u32], place: Location)
     requires place { is_place registers place ≡ true }
     requires places { list_all (is_place registers) list.old ≡ true }
@@ -80,7 +82,7 @@ fn set_all(list: &mut [Location], registers: u32, members: &[u32], place: Locati
     }
 }
 
-/// The k-th room for the registers of the group.
+/// Gives the registers of the group the k-th register of the machine.
 fn take(
     list: &mut [Location],
     registers: u32,
@@ -100,12 +102,13 @@ fn take(
     }
 }
 
-fn place(
+/// Gives the candidate a register of the machine, if one is chosen for it.
+fn place_candidate(
     alloc: Global,
     list: &mut [Location],
     registers: u32,
     rooms: &mut Rooms,
-    cutter: &mut Cutter,
+    splitter: &mut Splitter,
     ground: Ground,
     candidate: &Candidate,
 ) -> Result<(), AllocError>
@@ -114,9 +117,9 @@ fn place(
     ensures long { length list.new ≡ length list.old }
 {
     match ground.groups.get(candidate.group) {
-        Some(group) => match choice(alloc, rooms, cutter, ground, candidate, group)? {
+        Some(group) => match choice(alloc, rooms, splitter, ground, candidate, group)? {
             Some(k) => {
-                let ranges = group.ranges(ground.facts.lifetimes.as_slice());
+                let ranges = group.ranges(ground.facts.intervals.as_slice());
                 take(list, registers, rooms, k, group, ranges);
             }
             None => {}
@@ -126,12 +129,13 @@ fn place(
     Ok(())
 }
 
-fn place_all(
+/// Gives registers of the machine to the candidates in their order.
+fn place_candidates(
     alloc: Global,
     list: &mut [Location],
     registers: u32,
     rooms: &mut Rooms,
-    cutter: &mut Cutter,
+    splitter: &mut Splitter,
     ground: Ground,
     candidates: &[Candidate],
 ) -> Result<(), AllocError>
@@ -140,12 +144,12 @@ fn place_all(
     ensures long { length list.new ≡ length list.old }
 {
     for candidate in candidates {
-        place(alloc, list, registers, rooms, cutter, ground, candidate)?;
+        place_candidate(alloc, list, registers, rooms, splitter, ground, candidate)?;
     }
     Ok(())
 }
 
-/// Those that have no register of the machine yet stand in the slot.
+/// Puts those registers into the slot that have no register of the machine yet.
 fn stand(list: &mut [Location], registers: u32, members: &[u32], slot: u32)
     requires low { slot < registers }
     requires places { list_all (is_place registers) list.old ≡ true }
@@ -159,6 +163,7 @@ fn stand(list: &mut [Location], registers: u32, members: &[u32], slot: u32)
     }
 }
 
+/// Puts the registers of the wish's group that have no register of the machine into the slot.
 fn give_slot(list: &mut [Location], registers: u32, groups: &[Group], wish: &Wish, slot: usize)
     requires { list_all (is_place registers) list.old ≡ true }
     ensures places { list_all (is_place registers) list.new ≡ true }
@@ -174,6 +179,7 @@ fn give_slot(list: &mut [Location], registers: u32, groups: &[Group], wish: &Wis
     }
 }
 
+/// Puts the groups of all wishes into their slots.
 fn give_slots(
     list: &mut [Location],
     registers: u32,
@@ -193,13 +199,13 @@ fn give_slots(
     }
 }
 
-/// Registers of the machine for the groups, the most urgent first.
+/// Gives registers of the machine to the groups, the most urgent first.
 fn place_groups(
     alloc: Global,
     list: &mut [Location],
     registers: u32,
     rooms: &mut Rooms,
-    cutter: &mut Cutter,
+    splitter: &mut Splitter,
     ground: Ground,
 ) -> Result<(), AllocError>
     requires { list_all (is_place registers) list.old ≡ true }
@@ -208,10 +214,10 @@ fn place_groups(
 {
     let order = candidates(alloc, ground.groups, ground.facts)?;
     let candidates = order.as_slice();
-    place_all(alloc, list, registers, rooms, cutter, ground, candidates)
+    place_candidates(alloc, list, registers, rooms, splitter, ground, candidates)
 }
 
-/// Slots for what has no register of the machine.
+/// Gives slots to what has no register of the machine.
 fn place_in_slots(
     alloc: Global,
     list: &mut [Location],
@@ -223,8 +229,8 @@ fn place_in_slots(
     ensures long { length list.new ≡ length list.old }
 {
     let wishes = wishes(alloc, ground.groups, list, ground.facts)?;
-    let lifetimes = ground.facts.lifetimes.as_slice();
-    let slots = shared_slots(alloc, ground.groups, lifetimes, wishes.as_slice())?;
+    let intervals = ground.facts.intervals.as_slice();
+    let slots = shared_slots(alloc, ground.groups, intervals, wishes.as_slice())?;
     give_slots(
         list,
         registers,
@@ -235,13 +241,13 @@ fn place_in_slots(
     Ok(())
 }
 
-/// Registers of the machine for single registers of the groups that got none, and slots for what is left; that is cut where it can be.
+/// Gives registers of the machine to single registers of the groups that got none, and slots to what is left; the registers with slots are split where they can be.
 fn place_singles(
     alloc: Global,
     list: &mut [Location],
     registers: u32,
     rooms: &mut Rooms,
-    cutter: &mut Cutter,
+    splitter: &mut Splitter,
     ground: Ground,
 ) -> Result<(), AllocError>
     requires { list_all (is_place registers) list.old ≡ true }
@@ -255,51 +261,51 @@ fn place_singles(
     };
     let order = candidates(alloc, single.groups, single.facts)?;
     let candidates = order.as_slice();
-    place_all(alloc, list, registers, rooms, cutter, single, candidates)?;
+    place_candidates(alloc, list, registers, rooms, splitter, single, candidates)?;
     place_in_slots(alloc, list, registers, ground)?;
-    cut_all(alloc, cutter, rooms, list, single, candidates)
+    split_all(alloc, splitter, rooms, list, single, candidates)
 }
 
-/// Registers of the machine for groups, then for single registers of those that got none, and slots for what is left; that is cut where it can be.
-fn place_in_rooms(
+/// Gives registers of the machine to groups, then to single registers of those that got none, and slots to what is left; the registers with slots are split where they can be.
+fn place_registers(
     alloc: Global,
     list: &mut [Location],
     registers: u32,
     rooms: &mut Rooms,
-    cutter: &mut Cutter,
+    splitter: &mut Splitter,
     ground: Ground,
 ) -> Result<(), AllocError>
     requires { list_all (is_place registers) list.old ≡ true }
     ensures places { list_all (is_place registers) list.new ≡ true }
     ensures long { length list.new ≡ length list.old }
 {
-    place_groups(alloc, list, registers, rooms, cutter, ground)?;
+    place_groups(alloc, list, registers, rooms, splitter, ground)?;
     if is_left_over(list, ground.facts) {
-        place_singles(alloc, list, registers, rooms, cutter, ground)
+        place_singles(alloc, list, registers, rooms, splitter, ground)
     } else {
         Ok(())
     }
 }
 
-/// The same, with what is done where registers are cut.
-fn place_in(
+/// Gives each register its place; answers what is done where registers are split.
+fn place_and_split(
     alloc: Global,
     list: &mut [Location],
     registers: u32,
     accesses: Accesses,
     ground: Ground,
-) -> Result<Cuts, AllocError>
+) -> Result<Splits, AllocError>
     requires { list_all (is_place registers) list.old ≡ true }
     ensures places { list_all (is_place registers) list.new ≡ true }
     ensures long { length list.new ≡ length list.old }
 {
     let mut rooms = Rooms::new(alloc, ground.facts.text.points())?;
-    let mut cutter = Cutter::new(alloc, accesses);
-    place_in_rooms(alloc, list, registers, &mut rooms, &mut cutter, ground)?;
-    cutter.finish()
+    let mut splitter = Splitter::new(alloc, accesses);
+    place_registers(alloc, list, registers, &mut rooms, &mut splitter, ground)?;
+    splitter.finish()
 }
 
-/// Each register in its slot.
+/// The list that has each register in its own slot.
 #[tactic(auto, using(crate::proofs::Standing::slots_stand, crate::proofs::Standing::slots_count))]
 fn all_in_slots(alloc: Global, registers: u32) -> Result<Vec<Location>, AllocError>
     ensures places { IfOk result (λ v. list_all (is_place registers) v.items ≡ true) }
@@ -316,59 +322,37 @@ fn all_in_slots(alloc: Global, registers: u32) -> Result<Vec<Location>, AllocErr
 pub fn scanned(alloc: Global, function: &VFunc, live: &Live) -> Result<Certificate, AllocError>
     ensures { IfOk result (λ c. IsScanned function.now.registers c) }
 {
-    scanned_within(alloc, function, live, LIVE_A_LINE)
-}
-
-/// The same, with so many live registers named where blocks begin, for each line and jump, at most.
-///
-/// # Errors
-///
-/// Only where memory was refused.
-pub(crate) fn scanned_within(
-    alloc: Global,
-    function: &VFunc,
-    live: &Live,
-    live_a_line: usize,
-) -> Result<Certificate, AllocError>
-    ensures { IfOk result (λ c. IsScanned function.now.registers c) }
-{
-    let mut facts = facts_of(alloc, function, live, live_a_line)?;
-    scanned_by(alloc, function, live, &mut facts)
-}
-
-/// The certificate by what is known of the function; where registers are accessed is taken out of that.
-fn scanned_by(
-    alloc: Global,
-    function: &VFunc,
-    live: &Live,
-    facts: &mut Facts,
-) -> Result<Certificate, AllocError>
-    ensures { IfOk result (λ c. IsScanned function.now.registers c) }
-{
-    let groups = groups_of(
-        alloc,
-        function.registers,
-        facts.lifetimes.as_slice(),
-        &facts.demands,
-    )?;
+    let mut facts = facts_of(alloc, function, live, LIVE_A_LINE)?;
+    let intervals = facts.intervals.as_slice();
+    let groups = groups_of(alloc, function.registers, intervals, &facts.demands)?;
     let accesses = replace(&mut facts.accesses, Accesses::none(alloc));
     let ground = Ground {
         function,
-        facts: &*facts,
+        facts: &facts,
         live,
         groups: groups.groups.as_slice(),
     };
-    scanned_on(alloc, accesses, ground)
+    certificate_on(alloc, accesses, ground)
 }
 
-/// The certificate of the places and cuts that are chosen on this ground.
-fn scanned_on(alloc: Global, accesses: Accesses, ground: Ground) -> Result<Certificate, AllocError>
+/// The certificate of the places and splits that are chosen on this ground.
+fn certificate_on(
+    alloc: Global,
+    accesses: Accesses,
+    ground: Ground,
+) -> Result<Certificate, AllocError>
     ensures { IfOk result (λ c. IsScanned ground.entry.function.now.registers c) }
 {
     let registers = ground.function.registers;
     let mut list = all_in_slots(alloc, registers)?;
-    let cuts = place_in(alloc, list.as_mut_slice(), registers, accesses, ground)?;
-    written(alloc, ground.function, ground.facts, list.as_slice(), &cuts)
+    let splits = place_and_split(alloc, list.as_mut_slice(), registers, accesses, ground)?;
+    written(
+        alloc,
+        ground.function,
+        ground.facts,
+        list.as_slice(),
+        &splits,
+    )
 }
 
 impl Strategy for LinearScan {

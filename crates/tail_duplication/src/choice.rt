@@ -78,10 +78,7 @@ fn is_copied(block: &Block<u32>, sources: Sources, worth: Worth) -> bool {
 
 /// Whether the block counts: where there are no marks, all do.
 fn is_marked(marks: &[bool], block: usize) -> bool {
-    match marks.get(block) {
-        Some(mark) => *mark,
-        None => true,
-    }
+    marks.get(block).copied().unwrap_or(true)
 }
 
 fn is_worth(

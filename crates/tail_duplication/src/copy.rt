@@ -75,10 +75,7 @@ fn longer(
 
 /// Whether the block is chosen.
 fn is_listed(chosen: &[bool], block: usize) -> bool {
-    match chosen.get(block) {
-        Some(is_this) => *is_this,
-        None => false,
-    }
+    chosen.get(block).copied().unwrap_or(false)
 }
 
 /// The blocks, those that are chosen with copies of the ones that they go to.

@@ -4,6 +4,7 @@ use crate::lines::changed;
 use crate::steps::{is_word, pass};
 use crate::ways::{Order, bounds, is_known, is_linear, order_met, order_missed};
 use cfg_live::uses::line_writes;
+use flow::graph::successor;
 use il_ast::few::Few;
 use il_ast::list::Seq;
 use std::alloc::{AllocError, Global};
@@ -50,7 +51,7 @@ fn pass_lines(
 /// One fact more, if few are claimed.
 fn push_claim(known: &mut Vec<Fact>, fact: Fact) -> Result<(), AllocError> {
     if known.len() < CLAIMS {
-        known.push(fact)?;
+        known.extend_from_slice(&[fact])?;
     }
     Ok(())
 }
@@ -357,21 +358,20 @@ fn note_back(backs: &mut [Option<usize>], number: usize, to: Option<usize>) {
     }
 }
 
-fn targets(jump: &Jump<u32>) -> (Option<usize>, Option<usize>) {
-    match jump {
-        Jump::Goto(block) => (Some(*block), None),
-        Jump::Branch { met, otherwise, .. } => (Some(*met), Some(*otherwise)),
-        Jump::Return(_) | Jump::Halt => (None, None),
-    }
-}
-
 fn note_block(writing: &mut Writing, number: usize, block: &Block<u32>) -> Result<(), AllocError> {
     for line in block.lines.as_slice() {
         note_write(writing.blocks.as_mut_slice(), number, line)?;
     }
-    let (first, second) = targets(&block.jump);
-    note_back(writing.backs.as_mut_slice(), number, first);
-    note_back(writing.backs.as_mut_slice(), number, second);
+    note_back(
+        writing.backs.as_mut_slice(),
+        number,
+        successor(&block.jump, 0),
+    );
+    note_back(
+        writing.backs.as_mut_slice(),
+        number,
+        successor(&block.jump, 1),
+    );
     Ok(())
 }
 

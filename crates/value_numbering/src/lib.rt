@@ -12,7 +12,7 @@
 //!
 //! At most 64 facts are known at a time, so that it takes time as the text is long.
 //!
-//! The crate stands on `vcode` for the code, and on `il_ast` and `rv_isa` for the operations.
+//! The crate stands on `vcode` for the code, on `il_ast` and `rv_isa` for the operations, and for the guess on `flow` for where jumps lead.
 #![tactic(auto)]
 
 mod claims;

@@ -375,7 +375,7 @@ fn push_fact(facts: &mut Vec<Fact>, fact: Option<Fact>) -> Result<(), AllocError
     ensures { OnOk result (facts.new.items ≡ facts.old.items ++ with_front fact []) }
 {
     if let Some(fact) = fact {
-        facts.push(fact)?;
+        facts.extend_from_slice(&[fact])?;
     }
     Ok(())
 }
@@ -450,7 +450,7 @@ fn note(facts: &mut Vec<Fact>, made: Option<Fact>) -> Result<(), AllocError>
 {
     if let Some(fact) = made {
         if facts.len() < 64 {
-            facts.push(fact)?;
+            facts.extend_from_slice(&[fact])?;
         }
     }
     Ok(())

@@ -20,10 +20,7 @@ struct Link {
 
 /// Past the end, all have a mark.
 fn is_marked(marks: &[bool], block: usize) -> bool {
-    match marks.get(block) {
-        Some(mark) => *mark,
-        None => true,
-    }
+    marks.get(block).copied().unwrap_or(true)
 }
 
 /// A chain for each block.
@@ -41,17 +38,11 @@ fn single_links(alloc: Global, blocks: usize) -> Result<Vec<Link>, AllocError> {
 }
 
 fn behind(links: &[Link], block: usize) -> Option<usize> {
-    match links.get(block) {
-        Some(link) => link.behind,
-        None => None,
-    }
+    links.get(block)?.behind
 }
 
 fn before(links: &[Link], block: usize) -> Option<usize> {
-    match links.get(block) {
-        Some(link) => link.before,
-        None => None,
-    }
+    links.get(block)?.before
 }
 
 fn end(links: &[Link], block: usize) -> usize {
@@ -62,9 +53,8 @@ fn end(links: &[Link], block: usize) -> usize {
 }
 
 fn set_end(links: &mut [Link], block: usize, end: usize) {
-    match links.get_mut(block) {
-        Some(link) => link.end = end,
-        None => {}
+    if let Some(link) = links.get_mut(block) {
+        link.end = end;
     }
 }
 
@@ -84,13 +74,11 @@ fn join(links: &mut [Link], from: usize, to: usize) {
     }
     let first = end(links, from);
     let last = end(links, to);
-    match links.get_mut(from) {
-        Some(link) => link.behind = Some(to),
-        None => {}
+    if let Some(link) = links.get_mut(from) {
+        link.behind = Some(to);
     }
-    match links.get_mut(to) {
-        Some(link) => link.before = Some(from),
-        None => {}
+    if let Some(link) = links.get_mut(to) {
+        link.before = Some(from);
     }
     set_end(links, first, last);
     set_end(links, last, first);
@@ -221,9 +209,8 @@ fn first_of(links: &[Link], block: usize) -> usize {
 }
 
 fn close(is_open: &mut [bool], block: usize) {
-    match is_open.get_mut(block) {
-        Some(is_open) => *is_open = false,
-        None => {}
+    if let Some(is_open) = is_open.get_mut(block) {
+        *is_open = false;
     }
 }
 

@@ -127,10 +127,7 @@ fn wanted(
         } => {
             let one = written.in_front(*left);
             let other = written.in_front(*right);
-            match plan_of(before, register, *operation, one, other) {
-                Some(plan) => Some((*to, plan)),
-                None => None,
-            }
+            Some((*to, plan_of(before, register, *operation, one, other)?))
         }
         _ => None,
     }
@@ -171,15 +168,11 @@ fn part_of_sum(
     sum: u32,
     added: Operand<u32>,
 ) -> Option<Part> {
-    let Some((left, right)) = written.summands(sum) else {
-        return None;
-    };
+    let (left, right) = written.summands(sum)?;
     let (one, rest) = unchanged(written, &left, &right);
     let other = written.in_front(added);
-    match plan_of(before, register, Operation::Reg(RegOp::Add), one, other) {
-        Some(plan) => Some(Part { plan, sum, rest }),
-        None => None,
-    }
+    let plan = plan_of(before, register, Operation::Reg(RegOp::Add), one, other)?;
+    Some(Part { plan, sum, rest })
 }
 
 fn wanted_part(
@@ -419,10 +412,10 @@ fn credits(alloc: Global, blocks: &[Block<u32>]) -> Result<Vec<u128>, AllocError
 }
 
 fn push_to(blocks: &mut [BlockPlan], plan: Computation) -> Result<(), AllocError> {
-    if let Some(plans) = blocks.get_mut(plan.block) {
-        plans.behind.push(plan)?;
+    match blocks.get_mut(plan.block) {
+        Some(plans) => plans.behind.extend_from_slice(&[plan]),
+        None => Ok(()),
     }
-    Ok(())
 }
 
 /// The plans, block by block; with those for the lines of each block.

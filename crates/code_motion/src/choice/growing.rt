@@ -240,21 +240,17 @@ pub(crate) fn product_of(written: &Written, line: &Line<u32>) -> Option<(u32, Pr
             left: Operand::At(index),
             right: Operand::Number(number),
         } => {
-            let Some(factor) = factor_of(*operation, *number) else {
-                return None;
-            };
-            match written.own_growth(*index) {
-                Some(_) => Some((
-                    *to,
-                    Product {
-                        index: *index,
-                        operation: *operation,
-                        number: *number,
-                        factor,
-                    },
-                )),
-                None => None,
-            }
+            let factor = factor_of(*operation, *number)?;
+            written.own_growth(*index)?;
+            Some((
+                *to,
+                Product {
+                    index: *index,
+                    operation: *operation,
+                    number: *number,
+                    factor,
+                },
+            ))
         }
         _ => None,
     }

@@ -236,10 +236,7 @@ impl Written {
                 if writes.count == 0 {
                     return Some(operand);
                 }
-                match writes.instead {
-                    Some(instead) => Some(Operand::At(instead)),
-                    None => None,
-                }
+                Some(Operand::At(writes.instead?))
             }
             _ => Some(operand),
         }

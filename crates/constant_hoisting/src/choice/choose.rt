@@ -164,10 +164,7 @@ fn chosen_for(
 
 /// The k-th choice from the last.
 fn from_last(choices: &[Choice], k: usize) -> Option<Choice> {
-    match choices.len().checked_sub(k.saturating_add(1)) {
-        Some(place) => choices.get(place).copied(),
-        None => None,
-    }
+    choices.iter().rev().nth(k).copied()
 }
 
 fn has_loops(depths: &[u32]) -> bool {

@@ -6,9 +6,8 @@ use vcode::line::{Jump, Line};
 use vcode::place::{Argument, Operand};
 
 fn mark(named: &mut [bool], register: u32) {
-    match named.get_mut(register as usize) {
-        Some(mark) => *mark = true,
-        None => {}
+    if let Some(mark) = named.get_mut(register as usize) {
+        *mark = true;
     }
 }
 

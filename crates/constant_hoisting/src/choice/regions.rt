@@ -150,20 +150,16 @@ fn joined(alloc: Global, ways: Ways) -> Result<Regions, AllocError> {
 }
 
 fn count_entry(list: &mut [Region], region: usize) {
-    match list.get_mut(region) {
-        Some(region) => region.entries = region.entries.saturating_add(1),
-        None => {}
+    if let Some(region) = list.get_mut(region) {
+        region.entries = region.entries.saturating_add(1);
     }
 }
 
 /// Counts a block of the region.
 fn count_block(list: &mut [Region], region: usize, has_calls: bool) {
-    match list.get_mut(region) {
-        Some(region) => {
-            region.blocks = region.blocks.saturating_add(1);
-            region.has_calls = region.has_calls || has_calls;
-        }
-        None => {}
+    if let Some(region) = list.get_mut(region) {
+        region.blocks = region.blocks.saturating_add(1);
+        region.has_calls = region.has_calls || has_calls;
     }
 }
 

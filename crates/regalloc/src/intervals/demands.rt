@@ -1,0 +1,464 @@
+//! How often each register is used, and by what.
+ghost use Rattle.std.specs.Prelude.{◌≤◌};
+
+use crate::intervals::accesses::{Access, Accesses, Kind, sorted};
+use crate::intervals::positions::Range;
+use crate::intervals::text::Text;
+use std::alloc::{AllocError, Global};
+use vcode::code::{Block, Code};
+use vcode::line::{Jump, Line};
+use vcode::place::{Argument, Destination, Operand};
+
+/// What a register is used for.
+#[derive(Clone, Copy)]
+pub(crate) struct Demand {
+    /// the spill weight: twice the number of instructions that a register of the machine saves over a slot, where a block in a loop counts ten times as often
+    pub(crate) weight: u64,
+
+    pub(crate) is_param: bool,
+
+    /// the one of the eight registers that arguments are passed in that saves moves, as many as its weight, or one that none is passed in
+    pub(crate) hint: Hint,
+}
+
+/// A register of the machine that saves moves: one that arguments are passed in, by the number of its argument, or 8 for one that none is passed in.
+#[derive(Clone, Copy)]
+pub(crate) struct Hint {
+    pub(crate) argument: u8,
+    pub(crate) weight: u64,
+}
+
+impl Demand {
+    /// No use at all.
+    pub(crate) fn none() -> Demand {
+        Demand {
+            weight: 0,
+            is_param: false,
+            hint: Hint::none(),
+        }
+    }
+
+    /// What both are used for.
+    pub(crate) fn joined(self, other: Demand) -> Demand {
+        Demand {
+            weight: self.weight.saturating_add(other.weight),
+            is_param: self.is_param || other.is_param,
+            hint: self.hint.joined(other.hint),
+        }
+    }
+}
+
+impl Hint {
+    /// The hint at no register.
+    fn none() -> Hint {
+        Hint {
+            argument: 8,
+            weight: 0,
+        }
+    }
+
+    /// The number of its argument, if it saves anything.
+    pub(crate) fn wanted(self) -> Option<u8> {
+        if 0 < self.weight {
+            Some(self.argument)
+        } else {
+            None
+        }
+    }
+
+    /// The hint that weighs more, or at the same register both together.
+    fn joined(self, other: Hint) -> Hint {
+        if self.argument == other.argument {
+            Hint {
+                argument: self.argument,
+                weight: self.weight.saturating_add(other.weight),
+            }
+        } else if self.weight < other.weight {
+            other
+        } else {
+            self
+        }
+    }
+}
+
+/// A copy of a register to another. In the order of copies the one that is done most often is the last.
+#[derive(Clone, Copy, PartialEq, Eq, PartialOrd, Ord)]
+pub(crate) struct Copying {
+    pub(crate) weight: u64,
+    pub(crate) to: u32,
+    pub(crate) from: u32,
+}
+
+/// The demands of all registers, the copies between them, and for each point how many calls stand before it; nothing of that where there is no call.
+#[derive(Drop)]
+pub(crate) struct Demands {
+    pub(crate) registers: Vec<Demand>,
+    pub(crate) copies: Vec<Copying>,
+    pub(crate) calls: Vec<usize>,
+}
+
+impl Demands {
+    /// What the register is used for; nothing, if there is no such register.
+    pub(crate) fn of(&self, register: u32) -> Demand {
+        match self.registers.get(register as usize) {
+            Some(demand) => *demand,
+            None => Demand::none(),
+        }
+    }
+}
+
+/// How many calls stand before the point.
+fn calls_before(calls: &[usize], point: usize) -> usize {
+    calls.get(point).copied().unwrap_or(0)
+}
+
+/// Whether the positions right before and right after some call are both in the range. `calls` has for each point how many calls stand before it, or nothing.
+pub(crate) fn is_over_call(calls: &[usize], range: Range) -> bool {
+    if calls.is_empty() {
+        return false;
+    }
+    let first = range.start.saturating_add(1) / 2;
+    let end = range.end.saturating_add(1) / 2;
+    calls_before(calls, first) < calls_before(calls, end)
+}
+
+/// What is found on the way through the text.
+#[derive(Drop)]
+struct Counting {
+    demands: Demands,
+
+    /// the number of the next point, and how many calls stand before it
+    point: usize,
+    called: usize,
+
+    /// the accesses so far, where they are asked for
+    accesses: Option<Vec<Access>>,
+}
+
+/// Notes an access at the point, if they are asked for.
+fn push_access(
+    counting: &mut Counting,
+    register: u32,
+    kind: Kind,
+    weight: u64,
+    through: Hint,
+) -> Result<(), AllocError> {
+    let point = counting.point;
+    if let Some(accesses) = counting.accesses.as_mut() {
+        accesses.push(Access {
+            register,
+            kind,
+            argument: through.argument,
+            point,
+            weight,
+            through: through.weight,
+        })?;
+    }
+    Ok(())
+}
+
+/// Counts an access of the register that weighs so much.
+fn add(counting: &mut Counting, register: u32, kind: Kind, weight: u64) -> Result<(), AllocError> {
+    if let Some(demand) = counting.demands.registers.get_mut(register as usize) {
+        demand.weight = demand.weight.saturating_add(weight);
+    }
+    push_access(counting, register, kind, weight, Hint::none())
+}
+
+/// Counts that the value goes through the register of this argument, so often.
+fn add_hint(counting: &mut Counting, register: u32, argument: u8, weight: u64) {
+    if let Some(demand) = counting.demands.registers.get_mut(register as usize) {
+        demand.hint = demand.hint.joined(Hint { argument, weight });
+    }
+}
+
+/// Counts that what is called stands best where no argument is passed.
+fn keep_from_arguments(counting: &mut Counting, callee: &Operand<u32>, often: u64) {
+    if let Operand::At(register) = callee {
+        add_hint(counting, *register, 8, often);
+    }
+}
+
+/// The number of the k-th argument, where 8 stands for all that are passed on the stack.
+fn argument_number(k: usize) -> u8
+    ensures { result ≤ 8 }
+{
+    if k < 8 { k as u8 } else { 8 }
+}
+
+/// Counts a read of the operand.
+fn read(counting: &mut Counting, operand: &Operand<u32>, weight: u64) -> Result<(), AllocError> {
+    match operand {
+        Operand::At(register) => add(counting, *register, Kind::Read, weight),
+        _ => Ok(()),
+    }
+}
+
+/// Counts a read of both operands.
+fn read_both(
+    counting: &mut Counting,
+    left: &Operand<u32>,
+    right: &Operand<u32>,
+    weight: u64,
+) -> Result<(), AllocError> {
+    read(counting, left, weight)?;
+    read(counting, right, weight)
+}
+
+/// What the register of an argument saves where values come or go by it, so often.
+fn passed(argument: u8, often: u64) -> Hint {
+    if argument < 8 {
+        Hint {
+            argument,
+            weight: often.saturating_mul(2),
+        }
+    } else {
+        Hint::none()
+    }
+}
+
+/// Counts that an operand is passed: any place is as good as another for that, but for the register that it is passed in.
+fn pass(
+    counting: &mut Counting,
+    operand: &Operand<u32>,
+    argument: u8,
+    often: u64,
+) -> Result<(), AllocError> {
+    match operand {
+        Operand::At(register) => {
+            if argument < 8 {
+                add_hint(counting, *register, argument, often);
+            }
+            let through = passed(argument, often);
+            push_access(counting, *register, Kind::Read, 0, through)
+        }
+        _ => Ok(()),
+    }
+}
+
+/// Counts that the arguments are passed.
+fn pass_args(
+    counting: &mut Counting,
+    args: &[Argument<u32>],
+    often: u64,
+) -> Result<(), AllocError> {
+    for (k, arg) in args.iter().enumerate() {
+        pass(counting, &arg.value, argument_number(k), often)?;
+    }
+    Ok(())
+}
+
+/// Counts a parameter that comes as the argument of that number.
+fn count_param(counting: &mut Counting, register: u32, argument: u8) -> Result<(), AllocError> {
+    if let Some(demand) = counting.demands.registers.get_mut(register as usize) {
+        demand.is_param = true;
+    }
+    if argument < 8 {
+        add_hint(counting, register, argument, 1);
+        push_access(counting, register, Kind::Entry, 0, passed(argument, 1))
+    } else {
+        push_access(counting, register, Kind::Entry, 2, Hint::none())
+    }
+}
+
+/// Counts what parameters save in the registers that they come in.
+fn count_params(counting: &mut Counting, params: &[Destination<u32>]) -> Result<(), AllocError> {
+    for (k, param) in params.iter().enumerate() {
+        count_param(counting, param.place, argument_number(k))?;
+    }
+    Ok(())
+}
+
+/// Counts the result of a call, which is where the first argument is.
+fn receive(
+    counting: &mut Counting,
+    to: &Option<Destination<u32>>,
+    often: u64,
+) -> Result<(), AllocError> {
+    match to {
+        Some(destination) => {
+            add_hint(counting, destination.place, 0, often);
+            push_access(
+                counting,
+                destination.place,
+                Kind::Write,
+                0,
+                passed(0, often),
+            )
+        }
+        None => Ok(()),
+    }
+}
+
+/// Counts what the jump uses.
+fn count_jump(counting: &mut Counting, jump: &Jump<u32>, often: u64) -> Result<(), AllocError> {
+    match jump {
+        Jump::Branch { on, .. } => {
+            read_both(counting, &on.left, &on.right, often.saturating_mul(2))
+        }
+        Jump::Return(Some(returned)) => pass(counting, &returned.value, 0, often),
+        _ => Ok(()),
+    }
+}
+
+/// Counts a copy, which takes one instruction where either register is in a register of the machine, and none where both are in the same.
+fn copy(
+    counting: &mut Counting,
+    to: u32,
+    value: &Operand<u32>,
+    often: u64,
+) -> Result<(), AllocError> {
+    match value {
+        Operand::At(from) => {
+            add(counting, *from, Kind::Read, often)?;
+            add(counting, to, Kind::Write, often)?;
+            counting.demands.copies.push(Copying {
+                weight: often,
+                to,
+                from: *from,
+            })?;
+            Ok(())
+        }
+        _ => add(counting, to, Kind::Write, often.saturating_mul(2)),
+    }
+}
+
+/// Counts what the line uses. What a call takes and gives, and what is copied in memory, takes one instruction to or from a register as well as a slot.
+fn count_line(counting: &mut Counting, line: &Line<u32>, often: u64) -> Result<(), AllocError> {
+    let weight = often.saturating_mul(2);
+    match line {
+        Line::Tick { .. } | Line::Alloc { to: None, .. } => Ok(()),
+        Line::Set { to, value } => copy(counting, *to, value, often),
+        Line::Operate {
+            to,
+            left,
+            right,
+            ..
+        } => {
+            read_both(counting, left, right, weight)?;
+            add(counting, *to, Kind::Write, weight)
+        }
+        Line::Load { to, at, .. } => {
+            read(counting, &at.base, weight)?;
+            add(counting, *to, Kind::Write, weight)
+        }
+        Line::Store { value, at, .. } => read_both(counting, value, &at.base, weight),
+        Line::Alloc { to: Some(to), .. } => add(counting, *to, Kind::Write, weight),
+        Line::Blit { from, to, .. } => read_both(counting, from, to, 0),
+        Line::Call { to, callee, args } => {
+            read(counting, callee, weight)?;
+            keep_from_arguments(counting, callee, often);
+            pass_args(counting, args.as_slice(), often)?;
+            receive(counting, to, often)
+        }
+    }
+}
+
+/// Notes a call: how many calls stand before it, for its point and those before it that follow the last call.
+fn pass_call(counting: &mut Counting) -> Result<(), AllocError> {
+    let before = counting.called;
+    counting.called = before.saturating_add(1);
+    counting.demands.calls.resize(counting.point, before)
+}
+
+/// Counts what the line uses, and goes on behind its point, if it has one.
+fn pass_line(counting: &mut Counting, line: &Line<u32>, often: u64) -> Result<(), AllocError> {
+    if let Line::Tick { .. } = line {
+        return Ok(());
+    }
+    count_line(counting, line, often)?;
+    counting.point = counting.point.saturating_add(1);
+    match line {
+        Line::Call { .. } => pass_call(counting),
+        _ => Ok(()),
+    }
+}
+
+/// Counts what the block uses, which runs so often.
+fn count_block(counting: &mut Counting, block: &Block<u32>, often: u64) -> Result<(), AllocError> {
+    for line in block.lines.as_slice() {
+        pass_line(counting, line, often)?;
+    }
+    count_jump(counting, &block.jump, often)?;
+    counting.point = counting.point.saturating_add(1);
+    Ok(())
+}
+
+/// Counts what the code uses, block by block.
+fn count_code(counting: &mut Counting, code: &Code<u32>, text: &Text) -> Result<(), AllocError> {
+    count_params(counting, code.params.as_slice())?;
+    for (k, block) in code.blocks.as_slice().iter().enumerate() {
+        count_block(counting, block, text.often(k))?;
+    }
+    Ok(())
+}
+
+/// What is found in all of the code.
+fn counted(
+    alloc: Global,
+    code: &Code<u32>,
+    registers: u32,
+    text: &Text,
+    with_accesses: bool,
+) -> Result<Counting, AllocError> {
+    let mut counting = Counting {
+        demands: Demands {
+            registers: vec![in alloc; Demand::none(); registers as usize]?,
+            copies: Vec::new(alloc),
+            calls: Vec::new(alloc),
+        },
+        point: 0,
+        called: 0,
+        accesses: None,
+    };
+    if with_accesses {
+        let most = text.points().saturating_mul(2);
+        counting.accesses = Some(Vec::with_capacity(alloc, most)?);
+    }
+    count_code(&mut counting, code, text)?;
+    Ok(counting)
+}
+
+/// The accesses that were noted, none where they weren't asked for.
+fn accesses_in(alloc: Global, counting: &Counting, registers: u32) -> Result<Accesses, AllocError> {
+    match counting.accesses.as_ref() {
+        Some(accesses) => sorted(alloc, accesses.as_slice(), registers),
+        None => Ok(Accesses::none(alloc)),
+    }
+}
+
+/// The demands of the registers of this code, and all accesses of them if those are asked for.
+///
+/// # Errors
+///
+/// Only where memory was refused.
+pub(crate) fn demands_of(
+    alloc: Global,
+    code: &Code<u32>,
+    registers: u32,
+    text: &Text,
+    with_accesses: bool,
+) -> Result<(Demands, Accesses), AllocError> {
+    let mut counting = counted(alloc, code, registers, text, with_accesses)?;
+    if 0 < counting.called {
+        let behind = counting.point.saturating_add(1);
+        counting.demands.calls.resize(behind, counting.called)?;
+    }
+    let accesses = accesses_in(alloc, &counting, registers)?;
+    Ok((counting.demands, accesses))
+}
+
+/// All accesses of the registers of this code.
+///
+/// # Errors
+///
+/// Only where memory was refused.
+pub(crate) fn accesses_of(
+    alloc: Global,
+    code: &Code<u32>,
+    registers: u32,
+    text: &Text,
+) -> Result<Accesses, AllocError> {
+    let counting = counted(alloc, code, registers, text, true)?;
+    accesses_in(alloc, &counting, registers)
+}

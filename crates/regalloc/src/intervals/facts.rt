@@ -1,0 +1,90 @@
+//! All that is known of a function before registers are given.
+use crate::intervals::accesses::Accesses;
+use crate::intervals::demands::{Demands, demands_of};
+use crate::intervals::live_intervals::{LiveInterval, live_intervals};
+use crate::intervals::starts::{Known, Starts, line_count, starts_of};
+use crate::intervals::text::{Text, text_of};
+use cfg_live::sets::Live;
+use flow::depths::loop_depths;
+use flow::graph::predecessors;
+use std::alloc::{AllocError, Global};
+use vcode::code::Block;
+use vcode::function::VFunc;
+
+/// What is known of a function.
+#[derive(Drop)]
+pub(crate) struct Facts {
+    /// its blocks
+    pub(crate) text: Text,
+
+    /// what is live where blocks begin
+    pub(crate) starts: Starts,
+
+    /// the live interval of each register
+    pub(crate) intervals: Vec<LiveInterval>,
+
+    /// what registers are used for
+    pub(crate) demands: Demands,
+
+    /// where registers are accessed, if that had to be found already
+    pub(crate) accesses: Accesses,
+}
+
+/// The blocks, with their depths in loops.
+fn text(alloc: Global, blocks: &[Block<u32>]) -> Result<Text, AllocError> {
+    let sources = predecessors(alloc, blocks)?;
+    let depths = loop_depths(alloc, blocks, sources.as_slice())?;
+    text_of(alloc, blocks, depths.as_slice(), sources)
+}
+
+/// With more registers than this some of them are mostly split, for which all accesses have to be found.
+const FEW: u32 = 64;
+
+/// Finds what is live where blocks begin, and by that the live intervals.
+fn find_intervals(
+    alloc: Global,
+    facts: &mut Facts,
+    function: &VFunc,
+    live: &Live,
+    most: usize,
+) -> Result<(), AllocError> {
+    let registers = function.registers;
+    let known = Known {
+        text: &facts.text,
+        live,
+        accesses: &facts.accesses,
+        registers,
+    };
+    facts.starts = starts_of(alloc, known, most)?;
+    facts.intervals = live_intervals(alloc, registers, &function.code, &facts.starts, &facts.text)?;
+    Ok(())
+}
+
+/// The facts of the function, with so many live registers named where blocks begin, for each line and jump, at most.
+///
+/// # Errors
+///
+/// Only where memory was refused.
+pub(crate) fn facts_of(
+    alloc: Global,
+    function: &VFunc,
+    live: &Live,
+    live_a_line: usize,
+) -> Result<Facts, AllocError> {
+    let code = &function.code;
+    let registers = function.registers;
+    let text = text(alloc, code.blocks.as_slice())?;
+    let most = line_count(code.blocks.as_slice()).saturating_mul(live_a_line);
+    let asked = text.stretches.len().saturating_mul(registers as usize);
+    let with_accesses = FEW < registers || most < asked;
+    let (demands, accesses) = demands_of(alloc, code, registers, &text, with_accesses)?;
+    let mut facts = Facts {
+        text,
+        starts: Starts::none(alloc),
+        intervals: Vec::new(alloc),
+        demands,
+        accesses,
+    };
+    find_intervals(alloc, &mut facts, function, live, most)?;
+    Ok(facts)
+}

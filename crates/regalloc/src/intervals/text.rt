@@ -1,0 +1,130 @@
+//! The blocks of a function: where they stand in its text, how often they run, and which lead to which.
+use flow::depths::frequency;
+use flow::graph::successor;
+use il_ast::few::Few;
+use std::alloc::{AllocError, Global};
+use vcode::code::Block;
+use vcode::line::Line;
+
+/// A block in the text.
+#[derive(Clone, Copy)]
+pub(crate) struct Stretch {
+    /// its first point
+    pub(crate) first: usize,
+
+    /// the point of its jump, the last one
+    pub(crate) jump: usize,
+
+    /// in how many loops it lies
+    pub(crate) depth: u32,
+
+    /// the blocks that it may lead to
+    pub(crate) next: Option<usize>,
+    pub(crate) other: Option<usize>,
+}
+
+/// All blocks of a function.
+#[derive(Drop)]
+pub(crate) struct Text {
+    pub(crate) stretches: Vec<Stretch>,
+
+    /// the blocks that lead to each block
+    sources: Vec<Few<usize>>,
+}
+
+impl Text {
+    /// The block with that number, if there is one.
+    pub(crate) fn stretch(&self, block: usize) -> Option<Stretch> {
+        self.stretches.get(block).copied()
+    }
+
+    /// The blocks that lead to this one.
+    pub(crate) fn sources(&self, block: usize) -> &[usize] {
+        match self.sources.get(block) {
+            Some(sources) => sources.as_slice(),
+            None => &[],
+        }
+    }
+
+    /// The number of the block with this point; 0 where there is no such point.
+    pub(crate) fn block_of(&self, point: usize) -> usize {
+        let before = self
+            .stretches
+            .partition_point(|stretch| stretch.jump < point);
+        if before < self.stretches.len() {
+            before
+        } else {
+            0
+        }
+    }
+
+    /// How many points the function has.
+    pub(crate) fn points(&self) -> usize {
+        match self.stretches.last() {
+            Some(last) => last.jump.saturating_add(1),
+            None => 0,
+        }
+    }
+
+    /// In how many loops the block lies.
+    pub(crate) fn depth(&self, block: usize) -> u32 {
+        match self.stretch(block) {
+            Some(stretch) => stretch.depth,
+            None => 0,
+        }
+    }
+
+    /// How often the block runs, where one that lies in no loop runs once.
+    pub(crate) fn often(&self, block: usize) -> u64 {
+        frequency(self.depth(block))
+    }
+}
+
+/// The point of the jump behind these lines, the first of which has the given point.
+fn jump_point(first: usize, lines: &[Line<u32>]) -> usize {
+    let mut point = first;
+    for line in lines {
+        match line {
+            Line::Tick { .. } => {}
+            _ => point = point.saturating_add(1),
+        }
+    }
+    point
+}
+
+/// Where the blocks stand in the text, and in how many loops each lies.
+fn stretches(
+    alloc: Global,
+    blocks: &[Block<u32>],
+    depths: &[u32],
+) -> Result<Vec<Stretch>, AllocError> {
+    let mut stretches = Vec::with_capacity(alloc, blocks.len())?;
+    let mut first = 0usize;
+    for (number, block) in blocks.iter().enumerate() {
+        let jump = jump_point(first, block.lines.as_slice());
+        stretches.push(Stretch {
+            first,
+            jump,
+            depth: depths.get(number).copied().unwrap_or(0),
+            next: successor(&block.jump, 0),
+            other: successor(&block.jump, 1),
+        })?;
+        first = jump.saturating_add(1);
+    }
+    Ok(stretches)
+}
+
+/// The blocks, which lie in so many loops each, with those that lead to each of them.
+///
+/// # Errors
+///
+/// Only where memory was refused.
+pub(crate) fn text_of(
+    alloc: Global,
+    blocks: &[Block<u32>],
+    depths: &[u32],
+    sources: Vec<Few<usize>>,
+) -> Result<Text, AllocError> {
+    let stretches = stretches(alloc, blocks, depths)?;
+    Ok(Text { stretches, sources })
+}

@@ -1,0 +1,109 @@
+//! What a region saves over the spill slot, and what its moves cost.
+
+/// How many registers there are that arguments are passed in.
+pub(crate) const ARGUMENTS: usize = 8;
+
+/// What a region saves over the slot, in half instructions, and what its moves cost.
+#[derive(Clone, Copy)]
+pub(crate) struct Balance {
+    /// what its accesses save
+    pub(crate) gain: u64,
+
+    /// what else it saves in the register of each argument, by which the value comes or goes
+    pub(crate) through: [u64; ARGUMENTS],
+
+    /// what loading costs
+    pub(crate) loads: u64,
+
+    /// what saving costs where each new value is saved at once
+    pub(crate) eager: u64,
+
+    /// what it costs where values are saved as far as the slot is wanted
+    pub(crate) lazy: u64,
+
+    /// whether it has new values
+    pub(crate) has_new: bool,
+}
+
+/// The sums for each argument.
+fn sums(left: [u64; ARGUMENTS], right: [u64; ARGUMENTS]) -> [u64; ARGUMENTS] {
+    let mut sums = left;
+    for argument in 0..ARGUMENTS {
+        sums[argument] = left[argument].saturating_add(right[argument]);
+    }
+    sums
+}
+
+impl Balance {
+    /// The balance of nothing.
+    pub(crate) fn none() -> Balance {
+        Balance {
+            gain: 0,
+            through: [0; ARGUMENTS],
+            loads: 0,
+            eager: 0,
+            lazy: 0,
+            has_new: false,
+        }
+    }
+
+    /// The balance of both.
+    pub(crate) fn joined(self, other: Balance) -> Balance {
+        Balance {
+            gain: self.gain.saturating_add(other.gain),
+            through: sums(self.through, other.through),
+            loads: self.loads.saturating_add(other.loads),
+            eager: self.eager.saturating_add(other.eager),
+            lazy: self.lazy.saturating_add(other.lazy),
+            has_new: self.has_new || other.has_new,
+        }
+    }
+
+    /// Whether each new value is saved at once, or there is none.
+    pub(crate) fn is_saved(&self) -> bool {
+        !self.has_new || self.eager < self.lazy
+    }
+
+    /// What saving new values costs.
+    fn stores(&self) -> u64 {
+        if !self.has_new {
+            0
+        } else {
+            self.eager.min(self.lazy)
+        }
+    }
+
+    /// What is left of a gain.
+    fn left_of(&self, gain: u64) -> u64 {
+        gain.saturating_sub(self.loads)
+            .saturating_sub(self.stores())
+    }
+
+    /// What it saves besides, in the register of that argument.
+    pub(crate) fn through(&self, argument: usize) -> u64 {
+        if argument < ARGUMENTS {
+            self.through[argument]
+        } else {
+            0
+        }
+    }
+
+    /// What is left of the gain, in the register of that argument.
+    pub(crate) fn net_in(&self, argument: usize) -> u64 {
+        self.left_of(self.gain.saturating_add(self.through(argument)))
+    }
+
+    /// What is left of it in the register that saves most.
+    pub(crate) fn best(&self) -> u64 {
+        let mut most = 0u64;
+        for through in self.through {
+            most = most.max(through);
+        }
+        self.left_of(self.gain.saturating_add(most))
+    }
+
+    /// What is left of it in any register.
+    pub(crate) fn net(&self) -> u64 {
+        self.left_of(self.gain)
+    }
+}

@@ -1,0 +1,194 @@
+//! Parts of a register's live interval that one register of the machine may serve together, and what that saves.
+use crate::intervals::accesses::Access;
+use crate::intervals::text::Text;
+use crate::lists::{part, rest, set};
+use crate::parts::nodes::{Node, Nodes};
+use cfg_live::sets::Live;
+use std::alloc::{AllocError, Global};
+
+/// Which parts go together.
+#[derive(Clone, Copy)]
+pub(crate) enum Reach {
+    /// those that lie in so many loops, and lead to one another
+    Loops(u32),
+
+    /// those that the register is accessed in, and that lead to one another
+    Accessed,
+
+    /// each part alone
+    Alone,
+}
+
+/// What a region is seen with.
+#[derive(Clone, Copy)]
+pub(crate) struct View<'a> {
+    pub(crate) text: &'a Text,
+    pub(crate) live: &'a Live,
+    pub(crate) register: u32,
+    pub(crate) accesses: &'a [Access],
+
+    /// for each part the number of the part that its region is named by; none where it goes with no region
+    pub(crate) leaders: &'a [Option<usize>],
+}
+
+/// Whether the part may go with a region.
+fn is_eligible(text: &Text, node: &Node, reach: Reach) -> bool {
+    if node.room.is_some() || (node.is_passed() && !node.enters) {
+        return false;
+    }
+    match reach {
+        Reach::Loops(depth) => match text.stretch(node.block) {
+            Some(stretch) => depth <= stretch.depth,
+            None => false,
+        },
+        Reach::Accessed | Reach::Alone => !node.is_passed(),
+    }
+}
+
+/// The part that names the region of this one; the way there is shortened.
+fn leader_of(leaders: &mut [Option<usize>], number: usize) -> Option<usize> {
+    let mut at = number;
+    for _ in 0..leaders.len() {
+        let next = leaders.get(at).copied().flatten()?;
+        if next == at {
+            return Some(at);
+        }
+        let over = leaders.get(next).copied().flatten()?;
+        set(leaders, at, Some(over));
+        at = over;
+    }
+    Some(at)
+}
+
+/// Joins the regions of two parts; the first part of both names it.
+fn join(leaders: &mut [Option<usize>], left: usize, right: usize) {
+    match (leader_of(leaders, left), leader_of(leaders, right)) {
+        (Some(left), Some(right)) => {
+            let first = left.min(right);
+            set(leaders, left.max(right), Some(first));
+        }
+        _ => {}
+    }
+}
+
+/// Joins the part's region with that of the part that the block begins with.
+fn join_next(leaders: &mut [Option<usize>], nodes: &Nodes, number: usize, block: Option<usize>) {
+    if let Some(block) = block {
+        if let Some(next) = nodes.entering(block) {
+            join(leaders, number, next);
+        }
+    }
+}
+
+/// Joins the regions of parts that lead to one another.
+fn join_all(leaders: &mut [Option<usize>], text: &Text, nodes: &Nodes) {
+    for (number, node) in nodes.list.iter().enumerate() {
+        if node.leaves {
+            if let Some(stretch) = text.stretch(node.block) {
+                join_next(leaders, nodes, number, stretch.next);
+                join_next(leaders, nodes, number, stretch.other);
+            }
+        }
+    }
+}
+
+/// Notes for each part the one that names its region, and none on the way there.
+fn settle(leaders: &mut [Option<usize>]) {
+    for number in 0..leaders.len() {
+        let leader = leader_of(leaders, number);
+        set(leaders, number, leader);
+    }
+}
+
+/// For each part the one that names its region.
+///
+/// # Errors
+///
+/// Only where memory was refused.
+pub(crate) fn leaders(
+    alloc: Global,
+    text: &Text,
+    nodes: &Nodes,
+    reach: Reach,
+) -> Result<Vec<Option<usize>>, AllocError> {
+    let mut leaders = vec![in alloc; None; nodes.list.len()]?;
+    for (number, leader) in leaders.iter_mut().enumerate() {
+        match nodes.list.get(number) {
+            Some(node) if is_eligible(text, node, reach) => *leader = Some(number),
+            _ => {}
+        }
+    }
+    match reach {
+        Reach::Loops(_) | Reach::Accessed => {
+            join_all(leaders.as_mut_slice(), text, nodes);
+            settle(leaders.as_mut_slice());
+        }
+        Reach::Alone => {}
+    }
+    Ok(leaders)
+}
+
+/// A part, and the one that names its region. In the order of members those of a region stand together.
+#[derive(Clone, Copy, PartialEq, Eq, PartialOrd, Ord)]
+pub(crate) struct Member {
+    pub(crate) leader: usize,
+    pub(crate) node: usize,
+}
+
+/// The members of all regions, those of a region together.
+///
+/// # Errors
+///
+/// Only where memory was refused.
+pub(crate) fn members(alloc: Global, leaders: &[Option<usize>]) -> Result<Vec<Member>, AllocError> {
+    let mut members = Vec::new(alloc);
+    for (node, leader) in leaders.iter().enumerate() {
+        if let Some(leader) = leader {
+            members.push(Member {
+                leader: *leader,
+                node,
+            })?;
+        }
+    }
+    members.sort()?;
+    Ok(members)
+}
+
+/// The members of the region that begins with the member of that number; none where there is no such member.
+pub(crate) fn region_from(members: &[Member], first: usize) -> &[Member] {
+    let from = rest(members, first);
+    let Some(leading) = from.first() else {
+        return &[];
+    };
+    let mut count = 0usize;
+    for member in from {
+        if member.leader != leading.leader {
+            break;
+        }
+        count = count.saturating_add(1);
+    }
+    part(from, 0, count)
+}
+
+impl<'a> View<'a> {
+    /// Whether that part goes with the region.
+    pub(crate) fn is_inside(&self, number: Option<usize>, leader: usize) -> bool {
+        match number {
+            Some(number) => self.leaders.get(number).copied().flatten() == Some(leader),
+            None => false,
+        }
+    }
+
+    /// Whether the register is live where the block begins.
+    pub(crate) fn is_wanted(&self, block: usize) -> bool {
+        match self.text.stretch(block) {
+            Some(stretch) => self.live.holds(stretch.first, self.register),
+            None => false,
+        }
+    }
+
+    /// The accesses of a part.
+    pub(crate) fn accesses_of(&self, node: &Node) -> &'a [Access] {
+        part(self.accesses, node.first, node.end)
+    }
+}

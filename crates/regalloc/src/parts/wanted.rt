@@ -1,0 +1,67 @@
+//! Which parts are worth a register of the machine: those with accesses, and those that the register passes through on its way to one.
+use crate::intervals::text::Text;
+use crate::lists::set;
+use crate::parts::nodes::Nodes;
+use std::alloc::{AllocError, Global};
+
+/// The part at the end of the block, if it is only passed through and isn't known to be wanted.
+fn new_passed(nodes: &Nodes, wanted: &[bool], block: usize) -> Option<usize> {
+    let number = nodes.leaving(block)?;
+    let node = nodes.node(number)?;
+    if node.is_passed() && wanted.get(number) == Some(&false) {
+        Some(number)
+    } else {
+        None
+    }
+}
+
+/// Marks the parts that lead to this block as wanted, and opens their blocks.
+fn want_sources(
+    text: &Text,
+    nodes: &Nodes,
+    wanted: &mut [bool],
+    open: &mut Vec<usize>,
+    block: usize,
+) -> Result<(), AllocError> {
+    for source in text.sources(block) {
+        if let Some(number) = new_passed(nodes, wanted, *source) {
+            set(wanted, number, true);
+            open.push(*source)?;
+        }
+    }
+    Ok(())
+}
+
+/// Marks the parts that are accessed, and those from which an access is reached through passed parts alone. Each part is opened once.
+fn want_all(
+    alloc: Global,
+    text: &Text,
+    nodes: &Nodes,
+    wanted: &mut [bool],
+) -> Result<(), AllocError> {
+    let mut open = Vec::new(alloc);
+    for (node, at) in nodes.list.iter().zip(wanted.iter_mut()) {
+        *at = !node.is_passed();
+        if node.enters && *at {
+            open.push(node.block)?;
+        }
+    }
+    for _ in 0..nodes.list.len().saturating_mul(2) {
+        match open.pop() {
+            Some(block) => want_sources(text, nodes, wanted, &mut open, block)?,
+            None => return Ok(()),
+        }
+    }
+    Ok(())
+}
+
+/// Of each part whether it is accessed, or an access is reached from it through passed parts alone.
+///
+/// # Errors
+///
+/// Only where memory was refused.
+pub(crate) fn wanted(alloc: Global, text: &Text, nodes: &Nodes) -> Result<Vec<bool>, AllocError> {
+    let mut wanted = vec![in alloc; false; nodes.list.len()]?;
+    want_all(alloc, text, nodes, wanted.as_mut_slice())?;
+    Ok(wanted)
+}

@@ -1,0 +1,199 @@
+//! What stands for registers of the machine, and in which order.
+use crate::intervals::coalescing::Group;
+use crate::intervals::demands::{Demand, Demands, is_over_call};
+use crate::intervals::facts::Facts;
+use crate::intervals::positions::Range;
+use crate::places::slots::Wish;
+use cfg_live::sets::Live;
+use std::alloc::{AllocError, Global};
+use vcode::function::VFunc;
+use vcode::place::Location;
+
+/// What registers of the machine are given by.
+#[derive(Clone, Copy)]
+pub(crate) struct Ground<'a> {
+    pub(crate) function: &'a VFunc,
+
+    /// what is known of the function
+    pub(crate) facts: &'a Facts,
+
+    /// what is live at each of its points
+    pub(crate) live: &'a Live,
+
+    /// the groups that candidates stand for
+    pub(crate) groups: &'a [Group],
+}
+
+/// A group that may stand in a register of the machine. In the order of candidates the one that is used most often for its length is the last.
+#[derive(Clone, Copy, PartialEq, Eq, PartialOrd, Ord)]
+pub(crate) struct Candidate {
+    priority: u64,
+    pub(crate) weight: u64,
+    pub(crate) group: usize,
+
+    /// whether it has a value over a call
+    pub(crate) over_call: bool,
+
+    /// the register of arguments that saves moves, by the number of its argument
+    pub(crate) hint: Option<u8>,
+}
+
+/// What all of these registers are used for.
+fn joined_demand(demands: &Demands, members: &[u32]) -> Demand {
+    let mut all = Demand::none();
+    for register in members {
+        all = all.joined(demands.of(*register));
+    }
+    all
+}
+
+/// How many positions there are in the ranges, or a few less.
+fn length(ranges: &[Range]) -> usize {
+    let mut length = 1usize;
+    for range in ranges {
+        length = length.saturating_add(range.end.saturating_sub(range.start));
+    }
+    length
+}
+
+/// Whether one of the ranges is over a call.
+fn are_over_call(calls: &[usize], ranges: &[Range]) -> bool {
+    for range in ranges {
+        if is_over_call(calls, *range) {
+            return true;
+        }
+    }
+    false
+}
+
+/// The candidate for the group of that number.
+fn candidate_of(group: &Group, ranges: &[Range], number: usize, demands: &Demands) -> Candidate {
+    let demand = joined_demand(demands, group.members.as_slice());
+    let length = length(ranges) as u64;
+    Candidate {
+        priority: demand.weight.saturating_mul(1024) / length.max(1),
+        weight: demand.weight,
+        group: number,
+        over_call: are_over_call(demands.calls.as_slice(), ranges),
+        hint: demand.hint.wanted(),
+    }
+}
+
+/// Whether the list has a slot for the register, and no register of the machine yet.
+pub(crate) fn is_unplaced(list: &[Location], register: u32) -> bool {
+    match list.get(register as usize) {
+        Some(Location::Slot(_)) => true,
+        _ => false,
+    }
+}
+
+/// The groups that have values somewhere, the most urgent first.
+///
+/// # Errors
+///
+/// Only where memory was refused.
+pub(crate) fn candidates(
+    alloc: Global,
+    groups: &[Group],
+    facts: &Facts,
+) -> Result<Vec<Candidate>, AllocError> {
+    let mut candidates = Vec::with_capacity(alloc, groups.len())?;
+    for (number, group) in groups.iter().enumerate() {
+        let ranges = group.ranges(facts.intervals.as_slice());
+        if ranges.len() > 0 {
+            let candidate = candidate_of(group, ranges, number, &facts.demands);
+            candidates.push(candidate)?;
+        }
+    }
+    if 1 < candidates.len() {
+        candidates.sort()?;
+        candidates.reverse();
+    }
+    Ok(candidates)
+}
+
+/// Whether some register that has values has no register of the machine yet.
+pub(crate) fn is_left_over(list: &[Location], facts: &Facts) -> bool {
+    for (register, interval) in facts.intervals.iter().enumerate() {
+        if let Some(Location::Slot(_)) = list.get(register) {
+            if interval.ranges.len() > 0 {
+                return true;
+            }
+        }
+    }
+    false
+}
+
+/// Adds a group for each of the registers that has no register of the machine yet, but for those that have values throughout.
+fn push_singles(
+    alloc: Global,
+    singles: &mut Vec<Group>,
+    list: &[Location],
+    facts: &Facts,
+    members: &[u32],
+) -> Result<(), AllocError> {
+    for register in members {
+        if is_unplaced(list, *register) && !facts.starts.is_throughout(*register) {
+            singles.push(Group::single(alloc, *register)?)?;
+        }
+    }
+    Ok(())
+}
+
+/// A group for each register that has no register of the machine yet, but for those that have values throughout.
+///
+/// # Errors
+///
+/// Only where memory was refused.
+pub(crate) fn singles(
+    alloc: Global,
+    groups: &[Group],
+    list: &[Location],
+    facts: &Facts,
+) -> Result<Vec<Group>, AllocError> {
+    let mut singles = Vec::new(alloc);
+    for group in groups {
+        let members = group.members.as_slice();
+        push_singles(alloc, &mut singles, list, facts, members)?;
+    }
+    Ok(singles)
+}
+
+/// What the registers that have no register of the machine yet are used for; none where all have one.
+fn left_over(list: &[Location], demands: &Demands, members: &[u32]) -> Option<Demand> {
+    let mut all: Option<Demand> = None;
+    for register in members {
+        if is_unplaced(list, *register) {
+            let demand = demands.of(*register);
+            all = match all {
+                Some(other) => Some(other.joined(demand)),
+                None => Some(demand),
+            };
+        }
+    }
+    all
+}
+
+/// The groups of which some register has no register of the machine.
+///
+/// # Errors
+///
+/// Only where memory was refused.
+pub(crate) fn wishes(
+    alloc: Global,
+    groups: &[Group],
+    list: &[Location],
+    facts: &Facts,
+) -> Result<Vec<Wish>, AllocError> {
+    let mut wishes = Vec::new(alloc);
+    for (number, group) in groups.iter().enumerate() {
+        if let Some(demand) = left_over(list, &facts.demands, group.members.as_slice()) {
+            wishes.push(Wish {
+                group: number,
+                weight: demand.weight,
+                is_param: demand.is_param,
+            })?;
+        }
+    }
+    Ok(wishes)
+}

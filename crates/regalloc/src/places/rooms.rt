@@ -1,0 +1,234 @@
+//! Which positions each register of the machine is free at.
+use crate::intervals::positions::Range;
+use crate::parts::balance::Balance;
+use crate::places::candidates::Candidate;
+use std::alloc::{AllocError, Global};
+
+/// How many registers of the machine there are: the first eight are those of arguments, the last argument's first.
+pub(crate) const ROOMS: usize = 23;
+
+/// How many of them come first that callees don't keep.
+const SCRATCH: usize = 11;
+
+/// The positions at which each register of the machine is taken, one bit each.
+#[derive(Drop)]
+pub(crate) struct Rooms {
+    /// those of the first 64, which stand here so that small functions take no memory for them
+    first: [u64; ROOMS],
+
+    /// those behind, as many words for each register
+    more: Vec<u64>,
+    words: usize,
+
+    /// whether some value stands in it
+    used: [bool; ROOMS],
+}
+
+/// The bits of the k-th word that belong to positions of the range.
+fn mask(range: Range, k: usize) -> u64 {
+    let low = if range.start / 64 == k {
+        u64::MAX << (range.start % 64)
+    } else {
+        u64::MAX
+    };
+    let high = if range.end / 64 == k {
+        u64::MAX >> (63 - range.end % 64)
+    } else {
+        u64::MAX
+    };
+    low & high
+}
+
+impl Rooms {
+    /// Registers that are free at all positions of so many points.
+    ///
+    /// # Errors
+    ///
+    /// Only where memory was refused.
+    pub(crate) fn new(alloc: Global, points: usize) -> Result<Rooms, AllocError> {
+        let words = points.saturating_mul(2) / 64;
+        Ok(Rooms {
+            first: [0; ROOMS],
+            more: vec![in alloc; 0u64; words.saturating_mul(ROOMS)]?,
+            words,
+            used: [false; ROOMS],
+        })
+    }
+
+    /// The number of the w-th word behind the first one of the k-th register.
+    fn behind(&self, k: usize, w: usize) -> usize {
+        k.saturating_mul(self.words).saturating_add(w)
+    }
+
+    /// The w-th 64 positions of the k-th register, if there are that many.
+    fn word(&self, k: usize, w: usize) -> Option<u64> {
+        match w.checked_sub(1) {
+            Some(w) if w < self.words => self.more.get(self.behind(k, w)).copied(),
+            Some(_) => None,
+            None => { if k < ROOMS { Some(self.first[k]) } else { None } }
+        }
+    }
+
+    /// Takes some of the w-th 64 positions of the k-th register, if there are that many.
+    fn add(&mut self, k: usize, w: usize, positions: u64) {
+        match w.checked_sub(1) {
+            Some(w) => {
+                if w < self.words {
+                    let at = self.behind(k, w);
+                    if let Some(word) = self.more.get_mut(at) {
+                        *word |= positions;
+                    }
+                }
+            }
+            None => {
+                if k < ROOMS {
+                    self.first[k] |= positions;
+                }
+            }
+        }
+    }
+
+    /// Whether the k-th register is free at all positions of the range.
+    fn is_free_at(&self, k: usize, range: Range) -> bool {
+        for w in range.start / 64..range.end / 64 + 1 {
+            match self.word(k, w) {
+                Some(word) => {
+                    if word & mask(range, w) != 0 {
+                        return false;
+                    }
+                }
+                None => return false,
+            }
+        }
+        true
+    }
+
+    /// Takes the k-th register at all positions of the range.
+    fn take_at(&mut self, k: usize, range: Range) {
+        for w in range.start / 64..range.end / 64 + 1 {
+            self.add(k, w, mask(range, w));
+        }
+    }
+
+    /// Whether the k-th register is free at all positions of the ranges.
+    fn is_free(&self, k: usize, ranges: &[Range]) -> bool {
+        for range in ranges {
+            if !self.is_free_at(k, *range) {
+                return false;
+            }
+        }
+        true
+    }
+
+    /// Whether some value stands in the k-th register.
+    fn is_used(&self, k: usize) -> bool {
+        k < ROOMS && self.used[k]
+    }
+
+    /// Takes the k-th register at all positions of the ranges.
+    pub(crate) fn take(&mut self, k: usize, ranges: &[Range]) {
+        if k < ROOMS {
+            self.used[k] = true;
+        }
+        for range in ranges {
+            self.take_at(k, *range);
+        }
+    }
+}
+
+/// Whether the k-th register may hold a value, also over a call if it must.
+fn may_hold(k: usize, over_call: bool) -> bool {
+    SCRATCH <= k || !over_call
+}
+
+/// The register that saves moves, by the number of its argument; the one behind those of arguments for what is called.
+fn hinted(hint: u8) -> usize {
+    let hint = usize::from(hint);
+    7usize.checked_sub(hint).unwrap_or(hint)
+}
+
+/// The register that the hint names, if it is free.
+fn hinted_room(rooms: &Rooms, hint: Option<u8>, ranges: &[Range]) -> Option<usize> {
+    match hint {
+        Some(hint) if rooms.is_free(hinted(hint), ranges) => Some(hinted(hint)),
+        _ => None,
+    }
+}
+
+/// A register that is free.
+#[derive(Clone, Copy)]
+pub(crate) enum Choice {
+    /// it costs nothing
+    Free(usize),
+
+    /// it costs the two instructions that save and restore it
+    Unused(usize),
+}
+
+/// The first register that is free for the ranges and costs nothing, or else the first one that is free.
+fn free_room(rooms: &Rooms, over_call: bool, ranges: &[Range]) -> Option<Choice> {
+    let mut unused = None;
+    for k in 0..ROOMS {
+        if may_hold(k, over_call) && rooms.is_free(k, ranges) {
+            if k < SCRATCH || rooms.is_used(k) {
+                return Some(Choice::Free(k));
+            }
+            if unused.is_none() {
+                unused = Some(Choice::Unused(k));
+            }
+        }
+    }
+    unused
+}
+
+/// The register for a candidate with these ranges: the one that it would save moves in, or else the first one that is free, one that costs nothing if there is one.
+pub(crate) fn room_for_candidate(
+    rooms: &Rooms,
+    candidate: &Candidate,
+    ranges: &[Range],
+) -> Option<Choice> {
+    match hinted_room(rooms, candidate.hint, ranges) {
+        Some(k) if may_hold(k, candidate.over_call) => Some(Choice::Free(k)),
+        _ => free_room(rooms, candidate.over_call, ranges),
+    }
+}
+
+/// Of the registers of arguments by which the value of a part comes or goes the one that saves most, among those that are free.
+fn argument_room(rooms: &Rooms, balance: Balance, ranges: &[Range]) -> Option<usize> {
+    let mut most = 0u64;
+    let mut best = None;
+    for argument in 0..8u8 {
+        let number = usize::from(argument);
+        let through = balance.through(number);
+        if most < through && 0 < balance.net_in(number) {
+            if let Some(k) = hinted_room(rooms, Some(argument), ranges) {
+                most = through;
+                best = Some(k);
+            }
+        }
+    }
+    best
+}
+
+/// The register for a part of a live interval, over no call: one that the value comes or goes in, or another that is free at these positions and saves something.
+pub(crate) fn room_for_part(
+    rooms: &Rooms,
+    hint: Option<u8>,
+    balance: Balance,
+    ranges: &[Range],
+) -> Option<usize> {
+    if let Some(k) = argument_room(rooms, balance, ranges) {
+        return Some(k);
+    }
+    if balance.net() == 0 {
+        return None;
+    }
+    if let Some(k) = hinted_room(rooms, hint, ranges) {
+        return Some(k);
+    }
+    match free_room(rooms, false, ranges) {
+        Some(Choice::Free(k)) => Some(k),
+        Some(Choice::Unused(k)) if 4 < balance.net() => Some(k),
+        _ => None,
+    }
+}

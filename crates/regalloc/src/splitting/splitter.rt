@@ -1,0 +1,171 @@
+//! Splits the registers that no register of the machine is free for: in parts of their live intervals one may be.
+use crate::intervals::accesses::Accesses;
+use crate::intervals::demands::accesses_of;
+use crate::parts::nodes::Nodes;
+use crate::places::candidates::{Candidate, Ground, is_unplaced};
+use crate::places::rooms::Rooms;
+use crate::splitting::credit::{Credit, credit_of};
+use crate::splitting::outcome::splits_of;
+use crate::splitting::reaches::{Subject, give_all, subject_of, view};
+use crate::splitting::splits::{Move, Splits};
+use crate::splitting::worth::split_costs_over_kept;
+use std::alloc::{AllocError, Global};
+use vcode::place::Location;
+
+/// What splitting has come to.
+#[derive(Drop)]
+pub(crate) struct Splitter {
+    /// the parts of the register that is looked at
+    nodes: Nodes,
+
+    /// the accesses of all registers, found where they are first asked for
+    accesses: Accesses,
+
+    credit: Credit,
+    splits: Splits,
+}
+
+impl Splitter {
+    /// Nothing is split yet. The accesses may be unknown.
+    pub(crate) fn new(alloc: Global, accesses: Accesses) -> Splitter {
+        Splitter {
+            nodes: Nodes::new(alloc),
+            accesses,
+            credit: Credit::none(alloc),
+            splits: Splits::new(alloc),
+        }
+    }
+
+    /// Finds the accesses, if they are unknown.
+    fn find_accesses(&mut self, alloc: Global, ground: Ground) -> Result<(), AllocError> {
+        if self.accesses.are_unknown() {
+            let function = ground.function;
+            let text = &ground.facts.text;
+            self.accesses = accesses_of(alloc, &function.code, function.registers, text)?;
+        }
+        Ok(())
+    }
+
+    /// What is done where registers are split, in the order of the text.
+    ///
+    /// # Errors
+    ///
+    /// Only where memory was refused.
+    pub(crate) fn finish(self) -> Result<Splits, AllocError> {
+        let mut splits = self.splits;
+        splits.sort()?;
+        Ok(splits)
+    }
+}
+
+/// Pays for the moves, as long as credit is left; says whether all are paid for.
+fn pay_all(credit: &mut Credit, moves: &[Move]) -> bool {
+    for one in moves {
+        if !credit.pay(one.point) {
+            return false;
+        }
+    }
+    true
+}
+
+/// Whether the register may be split. Parameters come once: where blocks lead back to the first one, they aren't split.
+fn may_be_split(subject: Subject) -> bool {
+    let facts = subject.facts;
+    !facts.demands.of(subject.register).is_param || facts.text.sources(0).is_empty()
+}
+
+/// Splits the register, if the moves are paid for.
+fn split(
+    alloc: Global,
+    nodes: &mut Nodes,
+    credit: &mut Credit,
+    splits: &mut Splits,
+    rooms: &mut Rooms,
+    subject: Subject,
+) -> Result<(), AllocError> {
+    if !may_be_split(subject) {
+        return Ok(());
+    }
+    nodes.fill(alloc, subject.facts, subject.accesses, subject.register)?;
+    give_all(alloc, subject, nodes, rooms)?;
+    let own = splits_of(alloc, view(subject, &[]), nodes)?;
+    if pay_all(credit, own.moves.as_slice()) {
+        splits.append(&own)
+    } else {
+        Ok(())
+    }
+}
+
+/// Splits those of the registers that the list has slots for.
+fn split_members(
+    alloc: Global,
+    splitter: &mut Splitter,
+    rooms: &mut Rooms,
+    list: &[Location],
+    ground: Ground,
+    members: &[u32],
+) -> Result<(), AllocError> {
+    for register in members {
+        if is_unplaced(list, *register) {
+            let subject = subject_of(ground, &splitter.accesses, *register);
+            split(
+                alloc,
+                &mut splitter.nodes,
+                &mut splitter.credit,
+                &mut splitter.splits,
+                rooms,
+                subject,
+            )?;
+        }
+    }
+    Ok(())
+}
+
+/// Splits the registers that the list has slots for, the most urgent first, as far as the ticks of the function pay for it.
+///
+/// # Errors
+///
+/// Only where memory was refused.
+pub(crate) fn split_all(
+    alloc: Global,
+    splitter: &mut Splitter,
+    rooms: &mut Rooms,
+    list: &[Location],
+    ground: Ground,
+    candidates: &[Candidate],
+) -> Result<(), AllocError> {
+    if candidates.is_empty() {
+        return Ok(());
+    }
+    splitter.find_accesses(alloc, ground)?;
+    let blocks = ground.function.code.blocks.as_slice();
+    splitter.credit = credit_of(alloc, blocks, &ground.facts.text)?;
+    for candidate in candidates {
+        if let Some(group) = ground.groups.get(candidate.group) {
+            let members = group.members.as_slice();
+            split_members(alloc, splitter, rooms, list, ground, members)?;
+        }
+    }
+    Ok(())
+}
+
+/// Whether registers should stand in one that callees keep, which costs two instructions, the first time that it is used: splitting them would cost more.
+///
+/// # Errors
+///
+/// Only where memory was refused.
+pub(crate) fn should_keep(
+    alloc: Global,
+    splitter: &mut Splitter,
+    ground: Ground,
+    members: &[u32],
+) -> Result<bool, AllocError> {
+    splitter.find_accesses(alloc, ground)?;
+    let mut cost = 0u64;
+    for register in members {
+        let subject = subject_of(ground, &splitter.accesses, *register);
+        let more = split_costs_over_kept(alloc, &mut splitter.nodes, subject)?;
+        cost = cost.saturating_add(more);
+    }
+    Ok(4 < cost)
+}

@@ -1,0 +1,101 @@
+//! The moves before each point.
+ghost use Rattle.std.specs.Prelude.{◌≡◌, ◌<◌, true, OnOk, IfOk};
+ghost use Rattle.std.specs.List.{list_all};
+ghost use Rattle.vcode.specs.Named.{is_place};
+ghost use Rattle.regalloc.specs.Scanned.{are_between};
+
+use crate::lists::part;
+use crate::splitting::splits::{Move, Way, moves_end};
+use crate::written::points::{own_place, room_place};
+use certificates::certificate::Transfer;
+use il_ast::list::Seq;
+use std::alloc::{AllocError, Global};
+use vcode::place::Location;
+
+/// Adds the move between the slot and the register of the machine, that way.
+fn push_transfer(
+    transfers: &mut Seq<Transfer>,
+    registers: u32,
+    way: Way,
+    slot: Location,
+    machine: Location,
+) -> Result<(), AllocError>
+    requires slot { is_place registers slot ≡ true }
+    requires machine { is_place registers machine ≡ true }
+    requires between { are_between registers transfers.old ≡ true }
+    ensures { are_between registers transfers.new ≡ true }
+{
+    match way {
+        Way::Save => transfers.push(Transfer {
+            from: machine,
+            to: slot,
+        }),
+        Way::Load => transfers.push(Transfer {
+            from: slot,
+            to: machine,
+        }),
+    }
+}
+
+/// Adds the move, if both its places are there.
+fn push_move(
+    transfers: &mut Seq<Transfer>,
+    list: &[Location],
+    registers: u32,
+    one: &Move,
+) -> Result<(), AllocError>
+    requires list { list_all (is_place registers) list.now ≡ true }
+    requires between { are_between registers transfers.old ≡ true }
+    ensures { are_between registers transfers.new ≡ true }
+{
+    let slot = own_place(list, registers, one.register);
+    let machine = room_place(registers, one.room);
+    match (slot, machine) {
+        (Some(slot), Some(machine)) => push_transfer(transfers, registers, one.way, slot, machine),
+        _ => Ok(()),
+    }
+}
+
+/// The moves before a point, each once.
+fn moves_of(
+    alloc: Global,
+    list: &[Location],
+    registers: u32,
+    moves: &[Move],
+) -> Result<Seq<Transfer>, AllocError>
+    requires { list_all (is_place registers) list.now ≡ true }
+    ensures { IfOk result (λ ms. are_between registers ms ≡ true) }
+{
+    let mut transfers = Seq::new(alloc);
+    let mut last: Option<Move> = None;
+    for one in moves {
+        if last != Some(*one) {
+            push_move(&mut transfers, list, registers, one)?;
+        }
+        last = Some(*one);
+    }
+    Ok(transfers)
+}
+
+/// Adds the moves before each of so many points.
+pub(crate) fn push_moves(
+    alloc: Global,
+    lists: &mut Seq<Seq<Transfer>>,
+    list: &[Location],
+    registers: u32,
+    moves: &[Move],
+    points: usize,
+) -> Result<(), AllocError>
+    requires list { list_all (is_place registers) list.now ≡ true }
+    requires between { list_all (are_between registers) lists.old ≡ true }
+    ensures { OnOk result (list_all (are_between registers) lists.new ≡ true) }
+{
+    let mut first = 0usize;
+    for point in 0..points {
+        let end = moves_end(moves, first, point);
+        let transfers = moves_of(alloc, list, registers, part(moves, first, end))?;
+        lists.push(transfers)?;
+        first = end;
+    }
+    Ok(())
+}

@@ -1,0 +1,254 @@
+//! The places of the registers that each point names.
+ghost use Rattle.std.specs.Prelude.{◌≡◌, ◌<◌, true, OnOk, IfOk, IfSome};
+ghost use Rattle.std.specs.List.{list_all};
+ghost use Rattle.vcode.specs.Named.{is_place};
+ghost use Rattle.regalloc.specs.Scanned.{are_placed};
+
+use crate::intervals::reads::{Reads, jump_reads, line_reads, register_of};
+use crate::linear_scan::machine_register;
+use crate::lists::part;
+use crate::splitting::splits::{Stay, stays_end};
+use crate::written::written;
+use certificates::certificate::Equality;
+use cfg_live::uses::line_writes;
+use il_ast::list::Seq;
+use std::alloc::{AllocError, Global};
+use vcode::code::Block;
+use vcode::line::Line;
+use vcode::place::{Argument, Location};
+
+/// The register of the machine with that number, if there is one.
+pub(crate) fn room_place(registers: u32, room: usize) -> Option<Location>
+    ensures { IfSome result (λ q. is_place registers q ≡ true) }
+{
+    if room < 23 {
+        Some(machine_register(registers, room as u8))
+    } else {
+        None
+    }
+}
+
+/// The place that the list has for the register.
+pub(crate) fn own_place(list: &[Location], registers: u32, register: u32) -> Option<Location>
+    requires { list_all (is_place registers) list.now ≡ true }
+    ensures { IfSome result (λ q. is_place registers q ≡ true) }
+{
+    list.get(register as usize).copied()
+}
+
+/// Adds that the register is at the place, if there is one.
+pub(crate) fn push_at(
+    equalities: &mut Seq<Equality>,
+    registers: u32,
+    register: u32,
+    place: Option<Location>,
+) -> Result<(), AllocError>
+    requires place { IfSome place (λ q. is_place registers q ≡ true) }
+    requires placed { are_placed registers equalities.old ≡ true }
+    ensures { are_placed registers equalities.new ≡ true }
+{
+    match place {
+        Some(place) => equalities.push(Equality { register, place }),
+        None => Ok(()),
+    }
+}
+
+/// Where the register is at a point with these stays.
+fn place_at(list: &[Location], registers: u32, stays: &[Stay], register: u32) -> Option<Location>
+    requires { list_all (is_place registers) list.now ≡ true }
+    ensures { IfSome result (λ q. is_place registers q ≡ true) }
+{
+    for stay in stays {
+        if stay.register == register {
+            return room_place(registers, stay.room);
+        }
+    }
+    own_place(list, registers, register)
+}
+
+/// Whether the register is among them.
+fn has(equalities: &[Equality], register: u32) -> bool {
+    for equality in equalities {
+        if equality.register == register {
+            return true;
+        }
+    }
+    false
+}
+
+/// Adds the place of the register, unless it is there already.
+fn push_once(
+    equalities: &mut Seq<Equality>,
+    list: &[Location],
+    registers: u32,
+    stays: &[Stay],
+    register: u32,
+) -> Result<(), AllocError>
+    requires list { list_all (is_place registers) list.now ≡ true }
+    requires placed { are_placed registers equalities.old ≡ true }
+    ensures { are_placed registers equalities.new ≡ true }
+{
+    if has(equalities.as_slice(), register) {
+        return Ok(());
+    }
+    let place = place_at(list, registers, stays, register);
+    push_at(equalities, registers, register, place)
+}
+
+/// Adds the place of the register that is read or written, if there is one.
+fn push_some(
+    equalities: &mut Seq<Equality>,
+    list: &[Location],
+    registers: u32,
+    stays: &[Stay],
+    register: Option<u32>,
+) -> Result<(), AllocError>
+    requires list { list_all (is_place registers) list.now ≡ true }
+    requires placed { are_placed registers equalities.old ≡ true }
+    ensures { are_placed registers equalities.new ≡ true }
+{
+    match register {
+        Some(register) => push_once(equalities, list, registers, stays, register),
+        None => Ok(()),
+    }
+}
+
+/// Adds the places of the registers that are passed.
+fn push_args(
+    equalities: &mut Seq<Equality>,
+    list: &[Location],
+    registers: u32,
+    stays: &[Stay],
+    args: &[Argument<u32>],
+) -> Result<(), AllocError>
+    requires list { list_all (is_place registers) list.now ≡ true }
+    requires placed { are_placed registers equalities.old ≡ true }
+    ensures { are_placed registers equalities.new ≡ true }
+{
+    for arg in args {
+        let register = register_of(&arg.value);
+        push_some(equalities, list, registers, stays, register)?;
+    }
+    Ok(())
+}
+
+/// How many registers a point names at most.
+fn most_named(reads: Reads, written: Option<u32>) -> usize {
+    let mut most = reads.args.len();
+    for one in &[reads.first, reads.second, written] {
+        if one.is_some() {
+            most = most.saturating_add(1);
+        }
+    }
+    most
+}
+
+/// Adds the places of the registers that a point names, each once.
+fn push_named(
+    equalities: &mut Seq<Equality>,
+    list: &[Location],
+    registers: u32,
+    stays: &[Stay],
+    reads: Reads,
+    written: Option<u32>,
+) -> Result<(), AllocError>
+    requires list { list_all (is_place registers) list.now ≡ true }
+    requires placed { are_placed registers equalities.old ≡ true }
+    ensures { are_placed registers equalities.new ≡ true }
+{
+    push_some(equalities, list, registers, stays, reads.first)?;
+    push_some(equalities, list, registers, stays, reads.second)?;
+    push_args(equalities, list, registers, stays, reads.args)?;
+    push_some(equalities, list, registers, stays, written)
+}
+
+/// The places of the registers that a point names, each once.
+fn places_of(
+    alloc: Global,
+    list: &[Location],
+    registers: u32,
+    stays: &[Stay],
+    reads: Reads,
+    written: Option<u32>,
+) -> Result<Seq<Equality>, AllocError>
+    requires { list_all (is_place registers) list.now ≡ true }
+    ensures { IfOk result (λ es. are_placed registers es ≡ true) }
+{
+    let most = most_named(reads, written);
+    let mut equalities = Seq::from_vec(Vec::with_capacity(alloc, most)?);
+    push_named(&mut equalities, list, registers, stays, reads, written)?;
+    Ok(equalities)
+}
+
+/// Adds the places of the next point; answers the number behind the stays that belong to it.
+fn push_point(
+    alloc: Global,
+    places: &mut Seq<Seq<Equality>>,
+    list: &[Location],
+    registers: u32,
+    stays: &[Stay],
+    first: usize,
+    reads: Reads,
+    written: Option<u32>,
+) -> Result<usize, AllocError>
+    requires list { list_all (is_place registers) list.now ≡ true }
+    requires placed { list_all (are_placed registers) places.old ≡ true }
+    ensures { list_all (are_placed registers) places.new ≡ true }
+{
+    let end = stays_end(stays, first, places.len());
+    let here = part(stays, first, end);
+    let named = places_of(alloc, list, registers, here, reads, written)?;
+    places.push(named)?;
+    Ok(end)
+}
+
+/// Adds the places of a block's lines; answers the number behind the stays that belong to them.
+fn push_lines(
+    alloc: Global,
+    places: &mut Seq<Seq<Equality>>,
+    list: &[Location],
+    registers: u32,
+    stays: &[Stay],
+    first: usize,
+    lines: &[Line<u32>],
+) -> Result<usize, AllocError>
+    requires list { list_all (is_place registers) list.now ≡ true }
+    requires placed { list_all (are_placed registers) places.old ≡ true }
+    ensures { list_all (are_placed registers) places.new ≡ true }
+{
+    let mut from = first;
+    for line in lines {
+        match line {
+            Line::Tick { .. } => {}
+            _ => {
+                let reads = line_reads(line);
+                let written = line_writes(line);
+                from = push_point(alloc, places, list, registers, stays, from, reads, written)?;
+            }
+        }
+    }
+    Ok(from)
+}
+
+/// Adds the places of all points.
+pub(crate) fn push_places(
+    alloc: Global,
+    places: &mut Seq<Seq<Equality>>,
+    list: &[Location],
+    registers: u32,
+    stays: &[Stay],
+    blocks: &[Block<u32>],
+) -> Result<(), AllocError>
+    requires list { list_all (is_place registers) list.now ≡ true }
+    requires placed { list_all (are_placed registers) places.old ≡ true }
+    ensures { OnOk result (list_all (are_placed registers) places.new ≡ true) }
+{
+    let mut first = 0usize;
+    for block in blocks {
+        let lines = block.lines.as_slice();
+        first = push_lines(alloc, places, list, registers, stays, first, lines)?;
+        let reads = jump_reads(&block.jump);
+        first = push_point(alloc, places, list, registers, stays, first, reads, None)?;
+    }
+    Ok(())
+}
