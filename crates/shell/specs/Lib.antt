@@ -4,3 +4,4 @@ pub mod MemoryDisk
 pub mod Digits
 pub mod Lines
 pub mod SystemFaults
+pub mod SystemFiles

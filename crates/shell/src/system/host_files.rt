@@ -1,14 +1,17 @@
 //! The files of the system.
-ghost use Rattle.std.specs.Prelude.{◌≡◌, IfOk};
+ghost use Rattle.std.specs.Prelude.{◌≡◌, ◌↔◌, Contains, IfOk, IsTrue};
+ghost use Rattle.std.specs.Fs.{permissions_mode};
 ghost use Rattle.std.specs.Io.KnownBytes.{Appends};
 ghost use Rattle.std.specs.IoError.{error_kind};
 ghost use Rattle.shell.specs.Disk.{no_failed_calls, told_faults};
 ghost use Rattle.shell.specs.SystemFaults.{fault_of};
+ghost use Rattle.shell.specs.SystemFiles.{executable_mode};
 
 use crate::disk::{Access, Disk, Faults, FileFault};
 use crate::system::stream::Stream;
 use crate::write_exe::write_exe;
 use std::alloc::Global;
+use std::fs::{Metadata, Permissions};
 use std::io::{Error, ErrorKind, Read, Write};
 use std::os::unix::fs::{MetadataExt, PermissionsExt};
 use std::rt::Files;
@@ -20,13 +23,51 @@ const STANDARD_INPUT: &str = "-";
 /// How many bytes are read of what is no plain file, and may have no end: more than any text has, and any executable that is built.
 const LONGEST_STREAM: u64 = 0x400_0000;
 
+/// Which file it is, whatever path leads to it.
+#[derive(Clone, Copy)]
+struct FileId {
+    /// what it is kept on
+    device: u64,
+    /// its number there
+    number: u64,
+}
+
+impl FileId {
+    /// That of the file of which the system tells this.
+    fn of(metadata: &Metadata) -> FileId {
+        FileId {
+            device: metadata.dev(),
+            number: metadata.ino(),
+        }
+    }
+}
+
+/// Whether the two are one file.
+fn is_same_file(one: FileId, other: FileId) -> bool
+    ensures { IsTrue result ↔ (one ≡ other) }
+{
+    one.device == other.device && one.number == other.number
+}
+
+/// Whether a file is one of these.
+fn is_among(file: FileId, files: &[FileId]) -> bool
+    ensures { IsTrue result ↔ Contains files.now file }
+{
+    for other in files {
+        if is_same_file(*other, file) {
+            return true;
+        }
+    }
+    false
+}
+
 /// The files of the system, and which calls failed. A file that was read isn't written.
 #[derive(Drop)]
 pub struct HostFiles<'r, R> {
     rt: &'r R,
     faults: Faults,
-    /// the plain files that were read, by their devices and numbers
-    inputs: Vec<(u64, u64)>,
+    /// the plain files that were read
+    inputs: Vec<FileId>,
 }
 
 impl<'r, R: Files + Input + AllocGlobal> HostFiles<'r, R> {
@@ -52,7 +93,7 @@ impl<'r, R: Files + Input + AllocGlobal> HostFiles<'r, R> {
         if !metadata.is_file() {
             return read_stream(self.rt.alloc(), fs::open(self.rt, path)?);
         }
-        if self.inputs.push((metadata.dev(), metadata.ino())).is_err() {
+        if self.inputs.push(FileId::of(&metadata)).is_err() {
             return Err(Error::from(ErrorKind::OutOfMemory));
         }
         fs::read(self.rt, path)
@@ -69,7 +110,7 @@ impl<'r, R: Files + Input + AllocGlobal> HostFiles<'r, R> {
     /// Whether a path leads to a file that was read.
     fn is_input(&self, path: &str) -> bool {
         match fs::metadata(self.rt, path) {
-            Ok(metadata) => self.inputs.contains(&(metadata.dev(), metadata.ino())),
+            Ok(metadata) => is_among(FileId::of(&metadata), self.inputs.as_slice()),
             Err(_) => false,
         }
     }
@@ -96,14 +137,25 @@ fn fault_of(error: &Error) -> FileFault
     }
 }
 
+/// The mode with which those who may read a file may execute it too.
+fn executable_mode(mode: u32) -> u32
+    ensures { result ≡ executable_mode mode }
+{
+    mode | (mode & 0o444) >> 2
+}
+
+/// The permissions with which those who may read a file may execute it too.
+fn executable(permissions: Permissions) -> Permissions
+    ensures { permissions_mode result ≡ executable_mode (permissions_mode permissions) }
+{
+    Permissions::from_mode(executable_mode(permissions.mode()))
+}
+
 /// Lets those who may read a file execute it, as other compilers do. What is no plain file, as a device, stays as it is.
 fn make_executable<R: Files>(rt: &R, path: &str) -> io::Result<()> {
     let metadata = fs::metadata(rt, path)?;
     if metadata.is_file() {
-        let mut permissions = metadata.permissions();
-        let mode = permissions.mode();
-        permissions.set_mode(mode | (mode & 0o444) >> 2);
-        fs::set_permissions(rt, path, permissions)?;
+        fs::set_permissions(rt, path, executable(metadata.permissions()))?;
     }
     Ok(())
 }
