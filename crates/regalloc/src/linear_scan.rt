@@ -7,7 +7,7 @@ ghost use Rattle.regalloc.specs.Scanned.{IsScanned};
 
 use crate::intervals::accesses::Accesses;
 use crate::intervals::coalescing::{Group, groups_of};
-use crate::intervals::facts::{Facts, facts_of};
+use crate::intervals::facts::facts_of;
 use crate::intervals::positions::Range;
 use crate::places::candidates::{
     Candidate, Ground, candidates, is_left_over, is_unplaced, singles, wishes,
@@ -27,7 +27,8 @@ use std::mem::replace;
 use vcode::function::VFunc;
 use vcode::place::Location;
 
-/// Answers for each register one of x5 to x27 or a slot, or several of them one after another, with moves where it changes its place; no places where memory is refused.
+/// Answers for each register one of x5 to x27 or a slot, or several of them one after another, with moves where it changes its place; no places where memory is
+/// refused.
 #[derive(Drop)]
 pub struct LinearScan {
     alloc: Global,
@@ -266,7 +267,8 @@ fn place_singles(
     split_all(alloc, splitter, rooms, list, single, candidates)
 }
 
-/// Gives registers of the machine to groups, then to single registers of those that got none, and slots to what is left; the registers with slots are split where they can be.
+/// Gives registers of the machine to groups, then to single registers of those that got none, and slots to what is left; the registers with slots are split where
+/// they can be.
 fn place_registers(
     alloc: Global,
     list: &mut [Location],

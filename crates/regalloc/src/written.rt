@@ -1,6 +1,6 @@
 //! The certificate of places and splits: `points` has the places at each point, `moves` the moves before it, `starts` the places where blocks begin, and `params` those
 //! of parameters.
-ghost use Rattle.std.specs.Prelude.{◌≡◌, ◌<◌, true, OnOk, IfOk};
+ghost use Rattle.std.specs.Prelude.{◌≡◌, true, OnOk, IfOk};
 ghost use Rattle.std.specs.List.{list_all};
 ghost use Rattle.vcode.specs.Named.{is_place};
 ghost use Rattle.regalloc.specs.Scanned.{IsScanned};

@@ -129,7 +129,8 @@ fn depth_left(subject: Subject, nodes: &Nodes) -> Option<u32> {
 /// How many loops around one another are looked at, at most.
 const LOOPS: u32 = 8;
 
-/// Gives registers of the machine to all of the live interval at once; else to what lies in loops, the outer ones first; else to what is accessed, and at last to each part alone.
+/// Gives registers of the machine to all of the live interval at once; else to what lies in loops, the outer ones first; else to what is accessed, and at last to
+/// each part alone.
 pub(crate) fn give_all(
     alloc: Global,
     subject: Subject,

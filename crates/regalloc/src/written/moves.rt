@@ -1,5 +1,5 @@
 //! The moves before each point.
-ghost use Rattle.std.specs.Prelude.{◌≡◌, ◌<◌, true, OnOk, IfOk};
+ghost use Rattle.std.specs.Prelude.{◌≡◌, true, OnOk, IfOk};
 ghost use Rattle.std.specs.List.{list_all};
 ghost use Rattle.vcode.specs.Named.{is_place};
 ghost use Rattle.regalloc.specs.Scanned.{are_between};

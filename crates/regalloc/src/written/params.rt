@@ -1,5 +1,5 @@
 //! The places that parameters come in.
-ghost use Rattle.std.specs.Prelude.{◌≡◌, ◌<◌, true, OnOk, IfSome};
+ghost use Rattle.std.specs.Prelude.{◌≡◌, true, OnOk, IfSome};
 ghost use Rattle.std.specs.List.{list_all};
 ghost use Rattle.vcode.specs.Named.{is_place};
 

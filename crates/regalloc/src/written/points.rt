@@ -1,5 +1,5 @@
 //! The places of the registers that each point names.
-ghost use Rattle.std.specs.Prelude.{◌≡◌, ◌<◌, true, OnOk, IfOk, IfSome};
+ghost use Rattle.std.specs.Prelude.{◌≡◌, true, OnOk, IfOk, IfSome};
 ghost use Rattle.std.specs.List.{list_all};
 ghost use Rattle.vcode.specs.Named.{is_place};
 ghost use Rattle.regalloc.specs.Scanned.{are_placed};
@@ -8,7 +8,6 @@ use crate::intervals::reads::{Reads, jump_reads, line_reads, register_of};
 use crate::linear_scan::machine_register;
 use crate::lists::part;
 use crate::splitting::splits::{Stay, stays_end};
-use crate::written::written;
 use certificates::certificate::Equality;
 use cfg_live::uses::line_writes;
 use il_ast::list::Seq;

@@ -1,5 +1,5 @@
 //! The places of the registers that are live where blocks begin.
-ghost use Rattle.std.specs.Prelude.{◌≡◌, ◌<◌, true, OnOk};
+ghost use Rattle.std.specs.Prelude.{◌≡◌, true, OnOk};
 ghost use Rattle.std.specs.List.{list_all};
 ghost use Rattle.vcode.specs.Named.{is_place};
 ghost use Rattle.regalloc.specs.Scanned.{are_placed};
