@@ -15,6 +15,7 @@ use Rattle.abi_frames.specs.Emission.{lines_items, jump_items, block_items}
 use Rattle.abi_frames.specs.BareWays.{is_kept_block, bare_layout, fronts_from, front_label, raised, copied_items, begin_items, front_items, front_of, fronts_items, kept_block_items, kept_items}
 use Rattle.operation_code.proofs.Leading.{Site, StandAt}
 use Rattle.abi_frames.proofs.Starting.{stand_after, BlockCode}
+use Rattle.std.proofs.lemmas.Option.{same_Some}
 
 -- ---- code without what follows it, and with lower labels
 
@@ -77,9 +78,6 @@ pub record FrontCode (c : Site) (y : Layout) (rs : List ℕ) (itself : List Item
   pub place : ℕ
   pub stands : StandAt c (front_items y rs itself enter k b (front_of (slice_get parts k)) ++ (Label (front_label y (k + 1)) ∷ rest)) place
 
-some_block : (a b : Block Location) → Some a ≡ Some b → a ≡ b
-some_block a b e = cc
-
 pub fronts_stand : (c : Site) (y : Layout) (rs : List ℕ) (itself : List Item) (parts : List Part) (enter k : ℕ) (blocks : List (Block Location)) (tail : List Item) (a : ℕ)
     → y.leave ≡ k + length blocks → StandAt c (fronts_items y rs itself parts enter k blocks ++ (Label (front_label y y.leave) ∷ tail)) a
     → (i : ℕ) (b : Block Location) → slice_get blocks i ≡ Some b → FrontCode c y rs itself parts enter b (k + i)
@@ -94,7 +92,7 @@ fronts_stand c y rs itself parts enter k (d ∷ blocks) tail a leave stands zero
       place = a;
       stands = subst (λ x. StandAt c (here ++ x) a) next.same (subst (λ l. StandAt c l a) (append_assoc here more last) stands);
     } in
-    subst (λ x. FrontCode c y rs itself parts enter x (k + zero)) (some_block d b e) (subst (λ n. FrontCode c y rs itself parts enter d n) (no_more k) code)
+    subst (λ x. FrontCode c y rs itself parts enter x (k + zero)) (same_Some d b e) (subst (λ n. FrontCode c y rs itself parts enter d n) (no_more k) code)
   where
     no_more : (n : ℕ) → n ≡ n + zero
     no_more n = omega arith
@@ -159,7 +157,7 @@ kept_stand c y rs parts k (d ∷ blocks) tail a leave stands zero b e kept =
       rest = next.rest;
       stands = subst (λ x. StandAt c (body ++ x) (c.label k)) next.same (at_label c k (body ++ (more ++ last)) a whole);
     } in
-    subst (λ x. BlockCode c y rs x (k + zero)) (some_block d b e) (subst (λ n. BlockCode c y rs d n) (no_more k) code)
+    subst (λ x. BlockCode c y rs x (k + zero)) (same_Some d b e) (subst (λ n. BlockCode c y rs d n) (no_more k) code)
   where
     no_more : (n : ℕ) → n ≡ n + zero
     no_more n = omega arith

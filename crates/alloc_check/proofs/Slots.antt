@@ -34,6 +34,7 @@ use Rattle.alloc_check.specs.Walk.{moves_before}
 use Rattle.alloc_check.proofs.Agreeing.{same_is}
 use Rattle.alloc_check.proofs.Certifies.{line_on}
 use Rattle.alloc_check.proofs.Regular.{slots_regular, slots_known, slots_near, slots_apart}
+use Rattle.il_ast.proofs.Truth.{and_true}
 
 -- ---- the code
 
@@ -201,10 +202,6 @@ all_append test (x ∷ xs) ys = ap (λ b. test x && b) (all_append test xs ys) �
     and_three : (a b d : Bool) → (a && (b && d)) ≡ ((a && b) && d)
     and_three true b d = refl
     and_three false b d = refl
-
-pub and_true : (b : Bool) → (b && true) ≡ b
-and_true true = refl
-and_true false = refl
 
 pub operand_in : (test : ℕ → Bool) (rs : List ℕ) (a : Operand ℕ) → list_all test (with_operand rs a) ≡ (list_all test rs && operand_keeps test a)
 operand_in test rs (At r) = all_append test rs (r ∷ []) ∙ ap (λ b. list_all test rs && b) (and_true (test r))

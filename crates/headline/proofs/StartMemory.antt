@@ -17,22 +17,9 @@ use Rattle.headline.specs.Places.{Places, CellStands, CellsStand, BlocksStand, D
 use Rattle.headline.proofs.LayersKeep.{shows_grown}
 use Rattle.headline.proofs.Blocks.{SpotsShow, spots_append, BlockShows, AllShow, all_append, AllApart, Between, apart_from, apart_append, shows_all}
 use Rattle.headline.proofs.StartBytes.{BytesKnown, known_split, plain_shown, words_shown, words_between, words_apart, StandFrom, pointers_shown}
+use Rattle.il_ast.proofs.Listed.{get_before, get_behind}
 
 -- ---- lists
-
-pub get_behind : {A : Type 0} (xs ys : List A) (j : ℕ) → slice_get (xs ++ ys) (length xs + j) ≡ slice_get ys j
-get_behind [] ys j = let same : 0 + j ≡ j = omega arith in ap (slice_get ys) same
-get_behind (x ∷ xs) ys j =
-    let same : suc (length xs) + j ≡ suc (length xs + j) = omega arith in
-    ap (slice_get (x ∷ (xs ++ ys))) same ∙ get_behind xs ys j
-
-pub get_within : {A : Type 0} (xs ys : List A) (b : ℕ) (a : A) → slice_get xs b ≡ Some a → slice_get (xs ++ ys) b ≡ Some a
-get_within [] ys b a h = absurd (nothing h)
-  where
-    nothing : None ≡ Some a → ⊥
-    nothing g = cc
-get_within (x ∷ xs) ys zero a h = h
-get_within (x ∷ xs) ys (suc b) a h = get_within xs ys b a h
 
 stand_by : (p : Bases) (ys zs : List ℕ) (k : ℕ) → ((j : ℕ) → p (k + j) ≡ slice_get (ys ++ zs) j) → StandFrom p k ys
 stand_by p [] zs k h = tt
@@ -236,7 +223,7 @@ start_shown p at x words s starts there few short =
     let list = list_cells (length p.objects) (length words) in
     let size = length_arguments words in
     let below = there.below in
-    let grown : Grown (λ b. slice_get at.objects b) q = λ b a h. get_within at.objects later b a h in
+    let grown : Grown (λ b. slice_get at.objects b) q = λ b a h. get_before at.objects later b a h in
     let known : DataKnown f (byte_in x) at.low at.high =
     record { bytes = s.bytes; known = λ a low high. spot_in_data at words s a low high; same = λ a b h. starts.bytes a b h }
     in

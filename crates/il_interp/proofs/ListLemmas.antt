@@ -1,13 +1,9 @@
--- Lists: what is found one by one, and what stands in a mapped list.
-use Rattle.std.proofs.Common.{◌≡◌, ℕ, zero, suc, ◌+◌, ◌<◌, ◌≤◌, List, [], ◌∷◌, ◌++◌, length, map, drop, get_or, refl, ap, sym, ◌∙◌, arith, append_assoc}
-use Rattle.std.specs.Prelude.{slice_get, Option, Some, None}
+-- Lists: what is found one by one, and what stands in a slice_get-map list.
+use Rattle.std.proofs.Common.{◌≡◌, ℕ, zero, suc, ◌+◌, ◌<◌, ◌≤◌, List, [], ◌∷◌, ◌++◌, length, drop, get_or, refl, ap, sym, ◌∙◌, arith, append_assoc}
+use Rattle.std.specs.Prelude.{Option, Some, None}
 use Rattle.std.specs.Option.{option_map, option_and_then}
 use Rattle.std.proofs.lemmas.List.{drop_more, append-nil}
-
-pub mapped : {A B : Type 0} (f : A → B) (xs : List A) (i : ℕ) → slice_get (map f xs) i ≡ option_map f (slice_get xs i)
-mapped f [] i = refl
-mapped f (x ∷ xs) zero = refl
-mapped f (x ∷ xs) (suc i) = mapped f xs i
+use Rattle.std.proofs.lemmas.Option.{slice_get-map}
 
 -- ---- values found one by one, or none where one is missing
 

@@ -13,6 +13,7 @@ use Rattle.vcode.specs.Step.{State, step}
 use Rattle.vcode.specs.InPlace.{IsCheaper, GoesSo, HasRoom, RunsAs}
 use Rattle.inlining.specs.InPlace.{Site, IsSite, in_place}
 use Rattle.inlining.specs.Candidates.{IsCandidateOf}
+use Rattle.std.proofs.lemmas.List.{append_assoc}
 
 -- ---- what is given
 
@@ -100,13 +101,9 @@ cheaper_both a b x y g h =
       output = ap (λ ks. ks ++ x.output) g.output ∙ ap (λ ks. b.output ++ ks) h.output;
     }
 
-appended : (xs ys zs : List ℕ) → (xs ++ ys) ++ zs ≡ xs ++ (ys ++ zs)
-appended [] ys zs = refl
-appended (x ∷ xs) ys zs = ap (λ ks. x ∷ ks) (appended xs ys zs)
-
 pub cheaper_turned : (a b x : Spent) → IsCheaper (both (both a b) x) (both a (both b x))
 cheaper_turned a b x =
-    record { turns = omega arith; weight = omega arith; calls = omega arith; output = appended a.output b.output x.output }
+    record { turns = omega arith; weight = omega arith; calls = omega arith; output = append_assoc a.output b.output x.output }
 
 nothing_more : (xs : List ℕ) → xs ≡ xs ++ []
 nothing_more [] = refl

@@ -45,6 +45,7 @@ use Rattle.promote.specs.declared.mention.Role.TheVariants.{Used}
 use Rattle.promote.specs.Uses.{item_mentions, inst_mentions, end_mentions, phi_mentions, block_mentions, param_mentions, mentions_of}
 use Rattle.promote.specs.Promoted.{Widths, Rewrites, promoted, promoted_line, promoted_block, taken_from, made_in, stored_in, storing, loading}
 use Rattle.promote.proofs.Respect.{Suited, Respected, respected_first, respected_then}
+use Rattle.il_ast.proofs.Truth.{and_false}
 
 -- ---- lists of changed items
 
@@ -325,10 +326,6 @@ any_stays w p h params blocks =
 
 abbrev given : Class → ℕ → Definer → Bool
 given c t d = nat_eq d.temp t && same_class d.class c
-
-and_false : (b : Bool) → (b && false) ≡ false
-and_false true = refl
-and_false false = refl
 
 word_stays : (w : Widths) (params : List Param) (blocks : List Block) (t : ℕ) → is_given W t (definers_in params (map (promoted_block w) blocks)) ≡ is_given W t (definers_in params blocks)
 word_stays w params blocks t = any_stays w (given W t) (λ line p s e. and_false (nat_eq p t)) params blocks

@@ -40,11 +40,10 @@ use Rattle.phi_copies.specs.Endings.{Endings}
 use Rattle.phi_copies.specs.Lowered.{Edge, block_edges, all_edges, target, straight, straight_if, IsGoto, IsJumpEnding, IsEndEnding, IsBlockEnding, AreEndings, AreOnEdges, IsLowered}
 use Rattle.phi_copies.specs.Source.{value_or_zero, source}
 use Rattle.phi_copies.proofs.EdgePlaces.{AllLess, come_up}
-use Rattle.phi_copies.proofs.MoreKnown.{get_more}
-use Rattle.phi_copies.proofs.Lists.{get_past}
 use Rattle.select.specs.Typed.{Classes, Fits, ArgsFit, HasResult, InstFits, CopiesFit, ReturnFits, EndingFits, ParamsFit, IsTyped}
 use Rattle.select.specs.Classes.{class_given, or_long, all_phis, classes_in}
 use Rattle.select.proofs.Typing.{Among, among_left, among_right, among_at, neither_second, not_broken, none_among, class_is, OwnTemps, own_class, value_fits, operand_fits}
+use Rattle.il_ast.proofs.Listed.{get_before, get_behind}
 
 -- ---- where a thing among others comes from
 
@@ -203,10 +202,10 @@ phi_place [] k j b p here at = absurd (let no : ⊥ = cc in no)
 phi_place (c ∷ blocks) zero j b p here at =
     let same : c ≡ b = cc in
     let none : 0 + j ≡ j = omega arith in
-    ap (slice_get (c.phis ++ all_phis blocks)) none ∙ get_more c.phis (all_phis blocks) j p (ap (λ (x : Block). slice_get x.phis j) same ∙ at)
+    ap (slice_get (c.phis ++ all_phis blocks)) none ∙ get_before c.phis (all_phis blocks) j p (ap (λ (x : Block). slice_get x.phis j) same ∙ at)
 phi_place (c ∷ blocks) (suc k) j b p here at =
     let past : length c.phis + phis_before blocks k + j ≡ length c.phis + (phis_before blocks k + j) = omega arith in
-    ap (slice_get (c.phis ++ all_phis blocks)) past ∙ get_past c.phis (all_phis blocks) (phis_before blocks k + j) ∙ phi_place blocks k j b p here at
+    ap (slice_get (c.phis ++ all_phis blocks)) past ∙ get_behind c.phis (all_phis blocks) (phis_before blocks k + j) ∙ phi_place blocks k j b p here at
 
 -- a phi whose own temporary has number n
 record PhiFits (f : Func) (n : ℕ) (p : Phi) : Type 0 where

@@ -18,6 +18,8 @@ use Rattle.il_types.specs.Sites.{definers_of, operands_of}
 use Rattle.il_types.specs.Locals.{two_types, misplaced, undefined_temp, fits, is_defined, has_wrong_result, in_insts, in_returns}
 use Rattle.select.specs.Typed.{Fits}
 use Rattle.select.specs.Classes.{class_given, or_long, all_phis, classes_in}
+use Rattle.il_ast.proofs.Truth.{and_first}
+use Rattle.il_ast.proofs.Alike.{class_itself}
 
 -- ---- what a list has
 
@@ -83,14 +85,10 @@ found_any p (y ∷ xs) h = by (p y) refl h (found_any p xs)
 
 -- ---- definers
 
-same_self : (c : Class) → same_class c c ≡ true
-same_self W = refl
-same_self L = refl
-
 given : (f : Func) (d : Definer) → Among d (definers_of f) → is_given d.class d.temp (definers_of f) ≡ true
 given f d a =
     any_among (λ (e : Definer). nat_eq e.temp d.temp && same_class e.class d.class) (definers_of f) d
-    (and_from (nat_eq d.temp d.temp) (same_class d.class d.class) (let e : nat_eq d.temp d.temp ≡ true = grind (arith, nat_tests) in e) (same_self d.class)) a
+    (and_from (nat_eq d.temp d.temp) (same_class d.class d.class) (let e : nat_eq d.temp d.temp ≡ true = grind (arith, nat_tests) in e) (class_itself d.class)) a
 
 -- a definer's class is its temporary's
 pub class_is : (f : Func) (d : Definer) → two_types f ≡ None → Among d (definers_of f) → class_given f d.temp ≡ d.class
@@ -116,14 +114,10 @@ OwnTemps f = (d : Definer) → Among d (definers_of f) → d.temp < length f.tem
 pub own_class : (f : Func) (t : ℕ) → t < length f.temps → classes_in f t ≡ class_given f t
 own_class f t lt = let e : nat_lt t (length f.temps) ≡ true = grind (arith, nat_tests) in ap (λ b. cond b (class_given f t) (or_long (slice_get (all_phis f.blocks) (t - length f.temps)))) e
 
-same_number : (a b : Bool) → (a && b) ≡ true → a ≡ true
-same_number true b h = refl
-same_number false b h = h
-
 pub assigned_own : (f : Func) → OwnTemps f → (c : Class) (t : ℕ) → is_given c t (definers_of f) ≡ true → t < length f.temps
 assigned_own f own c t h =
     let r = found_any (λ (d : Definer). nat_eq d.temp t && same_class d.class c) (definers_of f) h in
-    let e = same_number (nat_eq r.item.temp t) (same_class r.item.class c) r.passes in
+    let e = and_first (nat_eq r.item.temp t) (same_class r.item.class c) r.passes in
     let is : r.item.temp ≡ t = grind (arith, nat_tests) in
     subst (λ n. n < length f.temps) is (own r.item r.there)
 

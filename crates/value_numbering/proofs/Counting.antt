@@ -18,6 +18,7 @@ use Rattle.vcode.specs.Operations.{operate}
 use Rattle.vcode.specs.Step.{operated}
 use Rattle.value_numbering.specs.Known.{linear, grows}
 use Rattle.value_numbering.specs.Steps.{stands, further, behind}
+use Rattle.il_ast.proofs.Wrapping.{further_sum}
 
 abbrev modulus : ℕ
 modulus = 2 ^ 64
@@ -26,9 +27,6 @@ modulus = 2 ^ 64
 
 again : (x y : ℕ) → ((x + y) % 2 ^ 64 + 0) % 2 ^ 64 ≡ (x + y) % 2 ^ 64
 again x y = omega arith
-
-further_sum : (x o n : ℕ) → ((x + o % 2 ^ 64) % 2 ^ 64 + n % 2 ^ 64) % 2 ^ 64 ≡ (x + (o + n) % 2 ^ 64 % 2 ^ 64) % 2 ^ 64
-further_sum x o n = omega arith
 
 -- of a product p, what more was added to it as r, which is q modulo 2^64, is taken off the offset
 balanced : (y o p q r a b : ℕ) → a ≡ (p + r) % 2 ^ 64 → r % 2 ^ 64 ≡ q % 2 ^ 64 → b ≡ p % 2 ^ 64
