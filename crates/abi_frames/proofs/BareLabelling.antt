@@ -378,7 +378,7 @@ bare_labelled f slots copies parts first ways is near =
     lt_is : (a b : ℕ) → nat_lt a b ≡ true → a < b
     lt_is a b h = grind (arith, nat_tests)
 
--- ---- all_at block can be made
+-- ---- each block can be made
 
 pub can_stand : (f : Code Location) (slots : ℕ) (copies : Bool) → IsCode f slots → length f.blocks + 1 < 2 ^ 62 → (i : ℕ) (b : Block Location) → slice_get f.blocks i ≡ Some b → i < 2 ^ 62
     → CanStand (layout f slots copies) i b

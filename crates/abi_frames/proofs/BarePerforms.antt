@@ -36,14 +36,14 @@ use Rattle.operation_code.proofs.Leading.{Site, StandAt, Reaches, Leads, leads_t
 use Rattle.abi_frames.proofs.Activations.{Setting, IsSetting, site, bottom, value_at, place_is, is_held, held_below, Framed}
 use Rattle.abi_frames.proofs.Saving.{held_all, few_saved_registers}
 use Rattle.abi_frames.proofs.FrameEnds.{savable, PointerMoved, leads_lower, AllSaved, leads_save_all}
-use Rattle.abi_frames.proofs.JumpCode.{moved_scratched}
+use Rattle.abi_frames.proofs.JumpCode.{moved_scratched, label_place}
 use Rattle.abi_frames.proofs.Pacing.{landing}
 use Rattle.abi_frames.proofs.Sizes.{prologue_size, entry_size}
 use Rattle.abi_frames.proofs.Entering.{Entering, ArePassed, CanTake, argument_in, leads_entry}
 use Rattle.abi_frames.proofs.Simulation.{BlockStands, CodeStands, Landed, Handed, framed_same}
 use Rattle.abi_frames.proofs.Simulating.{follows, enter}
 use Rattle.abi_frames.proofs.Starting.{stand_after, BlockCode, begun_spots, block_within, made_first, block_stands, classes, length-classes, are_passed, ready_passes, setting, is_setting, never}
-use Rattle.abi_frames.proofs.BareStanding.{lowered, at_label, label_is, fronts_begin, FrontCode, fronts_stand, copy_stands, kept_stand, first_kept}
+use Rattle.abi_frames.proofs.BareStanding.{lowered, at_label, fronts_begin, FrontCode, fronts_stand, copy_stands, kept_stand, first_kept}
 use Rattle.abi_frames.proofs.BareFacts.{IsBare, params_bare, EntryRight, entry_right, PartRight, part_right, has_copy, CopyRight, copy_right, begin_right, kept_right}
 use Rattle.il_ast.proofs.Truth.{equals_itself}
 use Rattle.il_ast.proofs.Listed.{all_at}
@@ -570,7 +570,7 @@ performs_bare w at label global addresses f slots copies parts first ways is wor
     let in_code = fronts_code c f slots parts first code in
     enter z f in_code j r n (follows z f in_code j r n) 0 (flat_begin f (sp - area f) j) m.steps m.after entry.first
     (record {
-      place = sym (label_is (site c) (front_label y 0) begins.rest m.after.pc (subst (λ l. StandAt (site c) l m.after.pc) begins.same m.stands));
+      place = sym (label_place (site c) (front_label y 0) begins.rest m.after.pc (subst (λ l. StandAt (site c) l m.after.pc) begins.same m.stands));
       fixed = m.fixed;
       framed = entered_framed c parts numbers j.memory m.after m.holds.framed;
       comes = m.comes;

@@ -16,6 +16,7 @@ use Rattle.abi_frames.specs.BareWays.{is_kept_block, bare_layout, fronts_from, f
 use Rattle.operation_code.proofs.Leading.{Site, StandAt}
 use Rattle.abi_frames.proofs.Starting.{stand_after, BlockCode}
 use Rattle.std.proofs.lemmas.Option.{same_Some}
+use Rattle.abi_frames.proofs.JumpCode.{label_place}
 
 -- ---- code without what follows it, and with lower labels
 
@@ -39,10 +40,6 @@ lower c n (Relocated r ∷ is) a stands = (stands.0, stands.1, lower c n is stan
 pub at_label : (c : Site) (l : ℕ) (is : List Item) (a : ℕ) → StandAt c (Label l ∷ is) a → StandAt c is (c.label l)
 unfolding Stand Stands
 at_label c l is a stands = subst (λ x. StandAt c is x) (stands.1.1 ∙ sym stands.1.0) stands.2
-
-pub label_is : (c : Site) (l : ℕ) (is : List Item) (a : ℕ) → StandAt c (Label l ∷ is) a → c.label l ≡ a
-unfolding Stand Stands
-label_is c l is a stands = stands.1.0
 
 -- ---- what stands in front
 
@@ -182,7 +179,7 @@ pub first_kept : (c : Site) (y : Layout) (rs : List ℕ) (parts : List Part) (k 
     → (i : ℕ) → i ≤ length blocks → ((q : ℕ) → q < i → is_kept_block parts (k + q) ≡ false) → c.label (k + i) ≡ a
 first_kept c y rs parts k blocks tail a leave stands zero inside none =
     let begins = kept_begins y rs parts k blocks tail leave in
-    ap c.label (let same : k + zero ≡ k = omega arith in same) ∙ label_is c k begins.rest a (subst (λ l. StandAt c l a) begins.same stands)
+    ap c.label (let same : k + zero ≡ k = omega arith in same) ∙ label_place c k begins.rest a (subst (λ l. StandAt c l a) begins.same stands)
 first_kept c y rs parts k [] tail a leave stands (suc i) inside none = absurd (let no : ⊥ = omega (arith, inside) in no)
 first_kept c y rs parts k (d ∷ blocks) tail a leave stands (suc i) inside none =
     let more : List Item = kept_items y rs parts (k + 1) blocks in
@@ -194,7 +191,7 @@ first_kept c y rs parts k (d ∷ blocks) tail a leave stands (suc i) inside none
     ap c.label place
     ∙ (first_kept c y rs parts (k + 1) blocks tail (c.label k) (later leave) (at_label c k (more ++ last) a whole) i (omega (arith, inside))
     (λ q few. ap (is_kept_block parts) (next q) ∙ none (suc q) (omega (arith, few)))
-    ∙ label_is c k (more ++ last) a whole)
+    ∙ label_place c k (more ++ last) a whole)
   where
     no_more : (n : ℕ) → n ≡ n + zero
     no_more n = omega arith

@@ -183,7 +183,7 @@ resumed c f b to callee args lines fs k u a at given d wants before t x now back
     }
 
 -- how a number stands in a place is how it is passed
-held_is_passed : (q : Class) (n : ℕ) → passed q n ≡ held q n
+pub held_is_passed : (q : Class) (n : ℕ) → passed q n ≡ held q n
 held_is_passed W n = refl
 held_is_passed L n = refl
 

@@ -393,7 +393,7 @@ sends c is numbers memory s framed (a ∷ args) good xs known (suc i) k n e d =
 
 -- ---- the machine is ready for the callee
 
-byte_has_access : (m : Spot) (n : ℕ) → m ≡ ThisByte n → m ≡ NoAccess → ⊥
+pub byte_has_access : (m : Spot) (n : ℕ) → m ≡ ThisByte n → m ≡ NoAccess → ⊥
 byte_has_access m n e f = let no : ⊥ = cc in no
 
 spots_then : (c : Setting) → IsSetting c → (numbers : Numbers) (memory : Spots) (s u v : State) (args : List (Argument Location)) → Framed c numbers memory s

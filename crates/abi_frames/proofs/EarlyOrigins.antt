@@ -5,7 +5,7 @@ use Rattle.std.specs.List.{list_any}
 use Rattle.std.proofs.lemmas.Bool.{and_parts, eqb-true}
 use Rattle.rv_isa.specs.Memory.{number_at}
 use Rattle.vcode.specs.declared.place.Location.{Location}
-use Rattle.vcode.specs.declared.place.Location.TheVariants.{Register as InRegister, Slot}
+use Rattle.vcode.specs.declared.place.Location.TheVariants.{Register as InRegister}
 use Rattle.vcode.specs.declared.place.Destination.{Destination}
 use Rattle.vcode.specs.declared.place.Operand.{Operand}
 use Rattle.vcode.specs.declared.place.Operand.TheVariants.{At, Number, Name}
@@ -14,7 +14,7 @@ use Rattle.vcode.specs.Named.{is_place, are_distinct}
 use Rattle.flat_code.specs.Step.{Numbers, put, bound, held, number_of}
 use Rattle.abi_frames.specs.EarlyReturns.{argument_register, origin, operand_origin, is_bare, no_frame}
 use Rattle.abi_frames.proofs.Activations.{Setting, IsSetting, value_at, operand_in}
-use Rattle.abi_frames.proofs.Entering.{argument_in, ArePassed}
+use Rattle.abi_frames.proofs.Entering.{argument_in, ArePassed, same_is}
 use Rattle.std.proofs.lemmas.Option.{same_Some, none-some}
 
 -- ---- where there is no frame
@@ -42,12 +42,6 @@ bare_setting c is =
     }
 
 -- ---- numbers of parameters
-
-same_is : (p q : Location) → same_location p q ≡ true → p ≡ q
-same_is (InRegister a) (InRegister b) h = ap InRegister (eqb-true a b h)
-same_is (InRegister a) (Slot b) h = absurd (let no : ⊥ = cc in no)
-same_is (Slot a) (InRegister b) h = absurd (let no : ⊥ = cc in no)
-same_is (Slot a) (Slot b) h = ap Slot (eqb-true a b h)
 
 -- no parameter of these has the place
 abbrev is_elsewhere : Location → List (Destination Location) → Bool

@@ -25,7 +25,7 @@ use Rattle.abi_frames.proofs.Activations.{beyond, Setting, IsSetting, site, bott
 use Rattle.abi_frames.proofs.Saving.{AllMayWrite}
 use Rattle.abi_frames.proofs.Arranging.{leads_copy, InRegisters, leads_passed}
 use Rattle.abi_frames.proofs.Sources.{source, sources_stand, source_at, AllApart, apart_more, source_is}
-use Rattle.abi_frames.proofs.Simulation.{framed_same}
+use Rattle.abi_frames.proofs.Simulation.{framed_same, next_index}
 use Rattle.std.proofs.lemmas.Option.{same_Some, none-some}
 use Rattle.il_ast.proofs.Truth.{neither_holds}
 
@@ -224,7 +224,7 @@ bound_unset slots numbers (d ∷ ds) (x ∷ xs) good h i far =
 no_place : (slots i : ℕ) → slots ≤ i → is_place slots (Slot i) ≡ false
 no_place slots i far = grind (arith, nat_tests)
 
-same_is : (p q : Location) → same_location p q ≡ true → p ≡ q
+pub same_is : (p q : Location) → same_location p q ≡ true → p ≡ q
 same_is (InRegister a) (InRegister b) h = ap InRegister (eqb-true a b h)
 same_is (InRegister a) (Slot b) h = absurd (let no : ⊥ = cc in no)
 same_is (Slot a) (InRegister b) h = absurd (let no : ⊥ = cc in no)
@@ -346,9 +346,6 @@ place_of slots (x ∷ ds) (suc i) d h e =
 no_more : (k : ℕ) → k ≡ k + zero
 no_more k = omega arith
 
-one_more : (k i : ℕ) → k + 1 + i ≡ k + suc i
-one_more k i = omega arith
-
 -- the first of them, and the others
 group_values : (c : Setting) (params from : ℕ) (test : ℕ → Location → Bool) (k : ℕ) (d : Destination Location) (ds : List (Destination Location)) (s u w : State)
     → is_place c.slots d.place ≡ true → AllApart (d ∷ ds) → One c params from test k d.place s u → Group c params from test (k + 1) ds u w
@@ -363,7 +360,7 @@ group_values c params from test k d ds s u w good apart one two zero e is passes
     some_destination : (a b : Destination Location) → Some a ≡ Some b → a ≡ b
     some_destination a b e = cc
 group_values c params from test k d ds s u w good apart one two (suc i) e is passes =
-    two.values i e is (ap (λ n. test n e.place) (one_more k i) ∙ passes) ∙ ap (argument_in c c.start) (one_more k i)
+    two.values i e is (ap (λ n. test n e.place) (next_index k i) ∙ passes) ∙ ap (argument_in c c.start) (next_index k i)
 
 leads_group : (c : Setting) → IsSetting c → (params from : ℕ) (test : ℕ → Location → Bool) → IsGroup test from → (k : ℕ) (ds : List (Destination Location)) (s : State)
     → CanTake c params k ds → AllApart ds → Entering c params from nothing s
@@ -384,7 +381,7 @@ leads_group c is params from test group k (d ∷ ds) s can apart entering =
       entering = two.entering;
       values = group_values c params from test k d ds s u w good apart one two;
       kept = λ q h other.
-          two.kept q h (λ i e is t. other (suc i) e is (ap (λ n. test n e.place) (sym (one_more k i)) ∙ t))
+          two.kept q h (λ i e is t. other (suc i) e is (ap (λ n. test n e.place) (sym (next_index k i)) ∙ t))
           ∙ one.kept q h (λ t. other zero d refl (ap (λ n. test n d.place) (sym (no_more k)) ∙ t));
     }))
 
@@ -487,7 +484,7 @@ bound_hold c u k [] xs numbers all passed before p v known = before p v known
 bound_hold c u k (d ∷ ds) [] numbers all passed before p v known = before p v known
 bound_hold c u k (d ∷ ds) (x ∷ xs) numbers all passed before p v known =
     bound_hold c u (k + 1) ds xs (put d.place (Some (held d.class x)) numbers)
-    (λ i e is. all (suc i) e is ∙ ap (argument_in c c.start) (sym (one_more k i))) passed.1 (λ q y e. by_test q y (same_location q d.place) refl e) p v known
+    (λ i e is. all (suc i) e is ∙ ap (argument_in c c.start) (sym (next_index k i))) passed.1 (λ q y e. by_test q y (same_location q d.place) refl e) p v known
   where
     by_test : (q : Location) (y : ℕ) (t : Bool) → same_location q d.place ≡ t → (if t then Some (held d.class x) else numbers q) ≡ Some y → value_at c u q ≡ y
     by_test q y true e f =
@@ -516,6 +513,7 @@ on_stack_group = record {
   away = λ k p e i lo hi same. absurd (let no : ⊥ = omega (arith, lo, hi) in no);
 }
 
+-- the places of two parameters differ
 same_back : (p q : Location) → p ≡ q → same_location p q ≡ true
 same_back p q e = ap (same_location p) (sym e) ∙ same_itself p
 

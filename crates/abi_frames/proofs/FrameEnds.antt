@@ -65,9 +65,6 @@ leads_move_pointer c s n = by_test (is_immediate n) refl
 same_pointer : (c : Site) (s : State) (v : ℕ) → s.registers 2 ≡ v → Leads c [] s (PointerMoved s v)
 same_pointer c s v e = leads_nowhere c s (PointerMoved s v) (record { value = e; others = λ m lo other. refl; bytes = refl; output = refl })
 
-eq_zero : (n : ℕ) → nat_eq n 0 ≡ true → n ≡ 0
-eq_zero n h = grind (arith, nat_tests)
-
 pub leads_lower : (c : Site) (s : State) (size : ℕ) → Leads c (lower_pointer size) s (PointerMoved s ((s.registers 2 + (2 ^ 64 - size)) % 2 ^ 64))
 leads_lower c s size = by_test (nat_eq size 0) refl
   where
@@ -78,7 +75,7 @@ leads_lower c s size = by_test (nat_eq size 0) refl
         → Leads c (if b then [] else move_pointer (2 ^ 64 - size)) s (PointerMoved s ((s.registers 2 + (2 ^ 64 - size)) % 2 ^ 64))
     by_test true e =
         leads_fixed c [] s (PointerMoved s ((s.registers 2 + (2 ^ 64 - size)) % 2 ^ 64))
-        (λ fixed. same_pointer c s ((s.registers 2 + (2 ^ 64 - size)) % 2 ^ 64) (none (s.registers 2) size (fixed.words 2) (eq_zero size e)))
+        (λ fixed. same_pointer c s ((s.registers 2 + (2 ^ 64 - size)) % 2 ^ 64) (none (s.registers 2) size (fixed.words 2) (eqb-true size 0 e)))
     by_test false e = leads_move_pointer c s (2 ^ 64 - size)
 
 leads_raise : (c : Site) (s : State) (size : ℕ) → Leads c (raise_pointer size) s (PointerMoved s ((s.registers 2 + size) % 2 ^ 64))
@@ -90,7 +87,7 @@ leads_raise c s size = by_test (nat_eq size 0) refl
     by_test : (b : Bool) → nat_eq size 0 ≡ b → Leads c (if b then [] else move_pointer size) s (PointerMoved s ((s.registers 2 + size) % 2 ^ 64))
     by_test true e =
         leads_fixed c [] s (PointerMoved s ((s.registers 2 + size) % 2 ^ 64))
-        (λ fixed. same_pointer c s ((s.registers 2 + size) % 2 ^ 64) (none (s.registers 2) size (fixed.words 2) (eq_zero size e)))
+        (λ fixed. same_pointer c s ((s.registers 2 + size) % 2 ^ 64) (none (s.registers 2) size (fixed.words 2) (eqb-true size 0 e)))
     by_test false e = leads_move_pointer c s size
 
 -- ---- saved registers

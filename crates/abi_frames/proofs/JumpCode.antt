@@ -133,7 +133,7 @@ jumps_goto c y s next l = by_test y.falls refl (nat_eq l next) refl
 abbrev pub way_by : (t : Bool) → (met otherwise : ℕ) → ℕ
 way_by t met otherwise = if t then met else otherwise
 
-label_place : (c : Site) (next : ℕ) (rest : List Item) (b : ℕ) → StandAt c (Label next ∷ rest) b → c.label next ≡ b
+pub label_place : (c : Site) (next : ℕ) (rest : List Item) (b : ℕ) → StandAt c (Label next ∷ rest) b → c.label next ≡ b
 unfolding Stand Stands
 label_place c next rest b stands = stands.1.0
 

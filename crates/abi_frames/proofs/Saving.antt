@@ -108,7 +108,7 @@ written_saved f r from is kept = by_test (makes_call f) (written_among f r calle
     by_test true e = later (nat_eq r 1) e
     by_test false e = e
 
--- ---- destinations
+    -- ---- destinations
 
     first : (t : Bool) → t ≡ true → (t || list_any test xs) ≡ true
     first true d = refl

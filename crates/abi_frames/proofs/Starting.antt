@@ -7,7 +7,6 @@ use Rattle.std.proofs.lemmas.Bool.{and_parts, not-true, leb-true}
 use Rattle.std.proofs.lemmas.List.Sums.{sum_by-cons}
 use Rattle.std.proofs.lemmas.Bool.Decides.{nat_tests}
 use Rattle.il_ast.specs.declared.operation.Class.{Class}
-use Rattle.il_ast.specs.declared.operation.Class.TheVariants.{W, L}
 use Rattle.rv_isa.specs.State.{State}
 use Rattle.rv_isa.specs.Memory.{number_at}
 use Rattle.rv_isa.specs.Labels.{longest_size}
@@ -23,9 +22,9 @@ use Rattle.vcode.specs.declared.code.Code.{Code}
 use Rattle.vcode.specs.Named.{is_place, block_keeps, line_keeps, jump_keeps}
 use Rattle.vcode.specs.Cost.{is_paid}
 use Rattle.vcode.specs.Regular.{area, turns_of, is_alloc, allocs_first, alloc_bytes, leads_inside}
-use Rattle.flat_code.specs.Spots.{Spot, NoAccess, ThisByte, Spots, Clear}
+use Rattle.flat_code.specs.Spots.{ThisByte, Spots, Clear}
 use Rattle.flat_code.specs.Flat.{FlatGiven}
-use Rattle.flat_code.specs.Step.{Numbers, bound, held, flat_begin, flat_step}
+use Rattle.flat_code.specs.Step.{Numbers, bound, flat_begin, flat_step}
 use Rattle.abi_frames.specs.Calls.{World, IsWorld, GoodStack, Ready, HoldsSpots, passed}
 use Rattle.abi_frames.specs.Performs.{KeepsFrame}
 use Rattle.abi_frames.specs.Layout.{layout, outgoing, saved_registers, frame_size, frame_bound}
@@ -45,6 +44,8 @@ use Rattle.abi_frames.proofs.Simulation.{BlockStands, CodeStands}
 use Rattle.abi_frames.proofs.Simulating.{follows, enter}
 use Rattle.il_ast.proofs.Listed.{all_at}
 use Rattle.std.proofs.lemmas.Option.{same_Some}
+use Rattle.abi_frames.proofs.CallCase.{held_is_passed}
+use Rattle.abi_frames.proofs.Calling.{byte_has_access}
 
 -- ---- where the parts stand
 
@@ -125,9 +126,6 @@ leave_stands c l is a stands =
 
 -- ---- the begin of the frame
 
-byte_has_access : (m : Spot) (k : ℕ) → m ≡ ThisByte k → m ≡ NoAccess → ⊥
-byte_has_access m k e f = let no : ⊥ = cc in no
-
 pub begun_spots : (c : Setting) → IsSetting c → (u w : State) → Clear c.world.bottom c.sp c.before → HoldsSpots c.world.memory_map c.before c.start
     → u.bytes ≡ c.start.bytes → AllSaved c c.layout.saves c.saved u w → (x n : ℕ) → c.before x ≡ ThisByte n → w.bytes x ≡ n
 begun_spots c is u w clear holds same saved x n known =
@@ -196,10 +194,6 @@ begun c is pointer clear holds =
 abbrev pub classes : List (Destination Location) → List Class
 classes ds = map (λ (d : Destination Location). d.class) ds
 
-same_held : (k : Class) (n : ℕ) → passed k n ≡ held k n
-same_held W n = refl
-same_held L n = refl
-
 pub length-classes : (ds : List (Destination Location)) → length (classes ds) ≡ length ds
 length-classes [] = refl
 length-classes (d ∷ ds) = let rest = length-classes ds in omega (arith, rest)
@@ -209,7 +203,7 @@ pub are_passed : (c : Setting) (k : ℕ) (ds : List (Destination Location)) (xs 
 are_passed c k [] xs all = tt
 are_passed c k (d ∷ ds) [] all = tt
 are_passed c k (d ∷ ds) (x ∷ xs) all = (
-  ap (argument_in c c.start) (no_more k) ∙ all zero x d.class refl refl ∙ same_held d.class x,
+  ap (argument_in c c.start) (no_more k) ∙ all zero x d.class refl refl ∙ held_is_passed d.class x,
   are_passed c (k + 1) ds xs (λ i n a e f. ap (argument_in c c.start) (one_more k i) ∙ all (suc i) n a e f),
 )
   where

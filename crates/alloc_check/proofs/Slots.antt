@@ -35,6 +35,7 @@ use Rattle.alloc_check.proofs.Agreeing.{same_is}
 use Rattle.alloc_check.proofs.Certifies.{line_on}
 use Rattle.alloc_check.proofs.Regular.{slots_regular, slots_known, slots_near, slots_apart}
 use Rattle.il_ast.proofs.Truth.{and_true}
+use Rattle.alloc_check.proofs.Untouched.{owned}
 
 -- ---- the code
 
@@ -221,9 +222,6 @@ args_in test rs (a ∷ args) =
 
 pub two_in : (test : ℕ → Bool) (a b : Operand ℕ) → list_all test (with_operand (with_operand [] a) b) ≡ (operand_keeps test a && operand_keeps test b)
 two_in test a b = operand_in test (with_operand [] a) b ∙ ap (λ x. x && operand_keeps test b) (operand_in test [] a)
-
-owned : (own : Owners) (q : Location) (r : ℕ) → own q ≡ Some r → owns own q r ≡ true
-owned own q r h = ap (λ (o : Option ℕ). option_map_or (λ k. nat_eq k r) o false) h ∙ (let e : nat_eq r r ≡ true = grind (arith, nat_tests) in e)
 
 operand_found : (wanted : Wanted) (c : Certificate) (p : ℕ) (own : Owners) (a : Operand ℕ) → Full wanted p own → operand_keeps (own_at c p) a ≡ true → operand_keeps (wanted p) a ≡ true
     → operand_held own (layout_at c p) a ≡ true

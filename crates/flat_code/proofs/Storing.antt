@@ -19,7 +19,7 @@ use Rattle.flat_code.proofs.Changing.{Changed, MemoryFollows, IsWritten, is_writ
 
 -- ---- the cells of a value are shown by the bytes of its number
 
-byte_later : (j n : ℕ) → byte_at j (n / 256) ≡ byte_at (suc j) n
+pub byte_later : (j n : ℕ) → byte_at j (n / 256) ≡ byte_at (suc j) n
 byte_later zero n = refl
 byte_later (suc i) n =
     let power : 256 * 256 ^ suc i ≡ 256 ^ suc (suc i) = (let e : 256 ^ suc (suc i) ≡ 256 ^ suc i * 256 = pow-suc 256 (suc i) in omega arith) in
@@ -93,7 +93,7 @@ number_inside f at n z k h =
 number_outside : (f : Spots) (at n z x : ℕ) → (x < at) ⊎ (at + n ≤ x) → with_number f at n z x ≡ f x
 number_outside f at n z x h = ap (λ (t : Bool). if t then ThisByte (byte_at (x - at) z) else f x) (out_of_range at n x h)
 
-known_is : (a b : ℕ) → ThisByte a ≡ ThisByte b → a ≡ b
+pub known_is : (a b : ℕ) → ThisByte a ≡ ThisByte b → a ≡ b
 known_is a b h = cc
 
 number_bytes : (f : Spots) → ((x i : ℕ) → f x ≡ ThisByte i → i < 256) → (at n z x i : ℕ) → with_number f at n z x ≡ ThisByte i → i < 256

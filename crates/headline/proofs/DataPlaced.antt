@@ -48,6 +48,7 @@ use Rattle.headline.specs.Places.{CellStands, CellsStand, BlocksStand, DataStand
 use Rattle.headline.specs.Executables.{entries_of, places_of, NamesAreThere, ProgramsHaveNames, PlacedStands}
 use Rattle.headline.proofs.PlacedWords.{ground_of, words_stand}
 use Rattle.il_ast.proofs.Measured.{length_bytes}
+use Rattle.obj_link.proofs.ImageLemmas.{slots_count}
 
 -- ---- addresses of functions
 
@@ -334,14 +335,6 @@ field_long globals (Zeros k) = length-replicate k (Plain 0)
 object_long : (p : Program) (d : InText DataDef) → length (object_cells p d) ≡ object_size d.item
 object_long p d = all_long (field_cells (globals_of p d.text)) field_size (field_long (globals_of p d.text)) d.item.fields
 
-slot_long : (bs : List ℕ) → length (in_slots bs) ≡ round_16 (length bs)
-unfolding in_slots
-slot_long bs =
-    let both = length-append bs (replicate (round_16 (length bs) - length bs) 0) in
-    let nought : ℕ = 0 in
-    let zeros : length (replicate (round_16 (length bs) - length bs) nought) ≡ round_16 (length bs) - length bs = length-replicate (round_16 (length bs) - length bs) nought in
-    omega (arith, both, zeros)
-
 slot_starts : (byte : ℕ → Option ℕ) (bs : List ℕ) (at : ℕ) → BytesStand byte (in_slots bs) at → BytesStand byte bs at
 unfolding in_slots
 slot_starts byte bs at h = (bytes_split byte bs (replicate (round_16 (length bs) - length bs) 0) at h).first
@@ -386,7 +379,7 @@ objects_stand p codes has w byte high (d ∷ ds) from at le b fits =
     let there = fields_there (length p.functions) (length p.objects) (globals_of p d.text) (names_there p has d.text) d.item.fields in
     let long : length bytes ≡ length cells = length-map cells (cell_byte a) in
     let size : length cells ≡ object_size d.item = object_long p d in
-    let slot : length (object_bytes a p d) ≡ round_16 (length bytes) = slot_long bytes in
+    let slot : length (object_bytes a p d) ≡ round_16 (length bytes) = slots_count bytes in
     let both : length (object_bytes a p d ++ rest) ≡ length (object_bytes a p d) + length rest = length-append (object_bytes a p d) rest in
     let whole : length (object_bytes a p d) ≡ round_16 (object_size d.item) = slot ∙ ap round_16 (long ∙ size) in
     let next : at + length (object_bytes a p d) ≡ at + round_16 (object_size d.item) = omega (arith, whole) in (

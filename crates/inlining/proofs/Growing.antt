@@ -3,7 +3,6 @@ use Rattle.std.proofs.Common.{◌≡◌, ℕ, zero, suc, ◌+◌, ◌<◌, ◌�
 use Rattle.std.specs.Prelude.{slice_set}
 use Rattle.std.specs.List.{list_all, list_any, sum_by}
 use Rattle.std.proofs.lemmas.Bool.{and_parts, and_from}
-use Rattle.std.proofs.lemmas.Bool.Decides.{nat_tests}
 use Rattle.std.proofs.lemmas.List.Sums.{sum_by-cons, sum_by-append}
 use Rattle.il_ast.specs.declared.operation.Class.{Class}
 use Rattle.il_ast.specs.declared.limits.TheConstants.{ARGUMENTS, FUNCTION_WEIGHT, ALLOC_BYTES}
@@ -34,6 +33,7 @@ use Rattle.inlining.proofs.Listing.{all_taken, all_left, all_set, all_changed, a
 use Rattle.inlining.proofs.Fitting.{IsPlain, arguments_plain, result_plain, plain_sum, plain_all, arguments_named, candidate_named, block_weaker, below_more, inside_more, inside_moved, target_at}
 use Rattle.il_ast.proofs.Listed.{all_at, length_slice_set, all_append}
 use Rattle.std.proofs.lemmas.Option.{slice_get_within}
+use Rattle.vcode.proofs.Measuring.{still_within}
 
 -- ---- sums over lines
 
@@ -230,9 +230,6 @@ few_candidate first behind base k to b h =
     all_append passes_few (map (moved_line base) b.lines) (result_brought base k to b.jump) (all_changed passes_few passes_few (moved_line base) (few_moved base) b.lines h)
     (plain_all passes_few (λ l p. p.few) (result_brought base k to b.jump) (result_plain base k to b.jump))
 
-still_few : (less n most : ℕ) → less ≤ n → nat_le n most ≡ true → nat_le less most ≡ true
-still_few less n most le h = grind (arith, nat_tests)
-
 -- ---- the whole
 
 count_in_place : (blocks : List (Block ℕ)) (candidate : Code ℕ) (base k j : ℕ) (s : Site) → length (blocks_in_place blocks candidate base k j s) ≡ length blocks + (1 + length candidate.blocks)
@@ -273,11 +270,11 @@ paced_in_place blocks candidate base k j s at call own other =
     let parts = parts_take turns_of turns first base j candidate.params s call in
     let here = all_at (λ (b : Block ℕ). nat_le (sum_by turns_of b.lines) FUNCTION_WEIGHT) blocks k s.block own at in
     all_in_place (λ (b : Block ℕ). nat_le (sum_by turns_of b.lines) FUNCTION_WEIGHT) blocks candidate base k j s own
-    (still_few (in_block turns_of up) (in_block turns_of s.block) FUNCTION_WEIGHT (omega (arith, parts)) here)
-    (still_few (in_block turns_of rest) (in_block turns_of s.block) FUNCTION_WEIGHT (omega (arith, parts)) here)
+    (still_within (in_block turns_of up) (in_block turns_of s.block) FUNCTION_WEIGHT (omega (arith, parts)) here)
+    (still_within (in_block turns_of rest) (in_block turns_of s.block) FUNCTION_WEIGHT (omega (arith, parts)) here)
     (all_changed (λ (b : Block ℕ). nat_le (sum_by turns_of b.lines) FUNCTION_WEIGHT) (λ (b : Block ℕ). nat_le (sum_by turns_of b.lines) FUNCTION_WEIGHT)
     (candidate_block first behind base candidate.result s.to)
-    (λ b h. let same = candidate_takes turns_of turns first behind base candidate.result s.to b in still_few (in_block turns_of (candidate_block first behind base candidate.result s.to b)) (in_block turns_of b) FUNCTION_WEIGHT (omega (arith, same)) h)
+    (λ b h. let same = candidate_takes turns_of turns first behind base candidate.result s.to b in still_within (in_block turns_of (candidate_block first behind base candidate.result s.to b)) (in_block turns_of b) FUNCTION_WEIGHT (omega (arith, same)) h)
     candidate.blocks other)
 
 few_in_place : (blocks : List (Block ℕ)) (candidate : Code ℕ) (base k j : ℕ) (s : Site) → slice_get blocks k ≡ Some s.block → list_all (λ (b : Block ℕ). list_all passes_few b.lines) blocks ≡ true
@@ -349,7 +346,7 @@ regular_in_place w candidate base k j s at stands answers good paid =
       few_params = good.few_params;
       inside = inside_in_place w.blocks f base k j s at answers.begins good.inside other.inside;
       first = plain_in_place w.blocks f base k j s at stands answers.calm good.first;
-      small = still_few (area (with_these w (blocks_in_place w.blocks f base k j s))) (area w) ALLOC_BYTES (small_in_place w.blocks f base k j s at stands answers.calm) good.small;
+      small = still_within (area (with_these w (blocks_in_place w.blocks f base k j s))) (area w) ALLOC_BYTES (small_in_place w.blocks f base k j s at stands answers.calm) good.small;
       paid = paid;
       paced = paced_in_place w.blocks f base k j s at stands.call good.paced other.paced;
       few_args = few_in_place w.blocks f base k j s at good.few_args other.few_args;

@@ -143,7 +143,7 @@ field_count : (a : Addresses) (targets : List (List Target)) (t : ℕ) (f : Fiel
 field_count a targets t (Items size is) = flat_count (item_bytes a targets t size) (item_size size) (item_count a targets t size) is
 field_count a targets t (Zeros n) = length-replicate n 0
 
-slots_count : (xs : List ℕ) → length (in_slots xs) ≡ round_16 (length xs)
+pub slots_count : (xs : List ℕ) → length (in_slots xs) ≡ round_16 (length xs)
 unfolding in_slots
 slots_count xs =
     let sum = length-append xs (replicate (round_16 (length xs) - length xs) 0) in

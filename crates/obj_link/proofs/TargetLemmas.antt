@@ -16,7 +16,7 @@ abbrev pub found_then : {A : Type 0} → List A → Option (List A) → Option (
 found_then found None = None
 found_then found (Some rest) = Some (found ++ rest)
 
-join : {A : Type 0} (found : List A) (x : A) (o : Option (List A)) → found_then found (option_map (λ rest. x ∷ rest) o) ≡ found_then (found ++ x ∷ []) o
+pub join : {A : Type 0} (found : List A) (x : A) (o : Option (List A)) → found_then found (option_map (λ rest. x ∷ rest) o) ≡ found_then (found ++ x ∷ []) o
 join found x None = refl
 join found x (Some rest) = ap Some (sym (append_assoc found (x ∷ []) rest))
 

@@ -161,7 +161,7 @@ starts (Used ∷ rs) = false
 abbrev Fresh : Widths → ℕ → List Mention → Type 0
 Fresh w n ms = (t : ℕ) (s : Size) → w t ≡ Some s → n ≤ t → starts (roles t ms) ≡ true
 
--- as many have come after the one as after the less_differs
+-- as many have come after the one as after the other
 abbrev Alike : Widths → List Mention → List ℕ → Type 0
 Alike w ms us = (n : ℕ) → Fresh w n ms → come_after n us ≡ come_after n (temps ms)
 
@@ -253,7 +253,7 @@ item_alike w (Call to callee args) = alike_same w (item_mentions (Call to callee
 
 -- ---- blocks
 
-map_flat : {X Y : Type 0} (f : X → X) (g : X → List Y) (xs : List X) → flat_map g (map f xs) ≡ flat_map (λ x. g (f x)) xs
+pub map_flat : {X Y : Type 0} (f : X → X) (g : X → List Y) (xs : List X) → flat_map g (map f xs) ≡ flat_map (λ x. g (f x)) xs
 map_flat f g [] = refl
 map_flat f g (x ∷ xs) = ap (λ ys. g (f x) ++ ys) (map_flat f g xs)
 

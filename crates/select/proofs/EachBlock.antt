@@ -25,7 +25,8 @@ use Rattle.phi_copies.specs.Lowered.{target, Edge, edge_with, edge, jump_edges, 
 use Rattle.vcode.specs.declared.code.Block.{Block as VirtualBlock}
 use Rattle.select.specs.Selected.{block_of, edge_of, blocks_of}
 use Rattle.select.specs.Typed.{Classes}
-use Rattle.select.proofs.Typing.{Among, among_left, among_right, neither_first, not_broken, none_among}
+use Rattle.phi_copies.proofs.PhiRules.{not_broken, neither_first, none_among}
+use Rattle.phi_copies.proofs.Members.{Among, among_left, among_right}
 
 -- ---- blocks, and the edges behind them
 

@@ -42,11 +42,13 @@ use Rattle.vcode.specs.declared.line.Comparison.{Comparison}
 use Rattle.vcode.specs.Named.{operand_keeps, line_keeps, jump_keeps, block_keeps, keeps_places, is_below}
 use Rattle.select.specs.Selected.{are_whole, word, words_compared, comparison_of, operand_of, argument_of, inst_lines, turn_lines, all_lines, copy_lines, assignment_lines, ending_lines, jump_of, block_of, edge_of, blocks_of, parameter_of, selected, binary_lines}
 use Rattle.select.specs.Typed.{Classes}
-use Rattle.select.proofs.Typing.{Among, among_left, among_right, neither_first, neither_second, not_broken, none_among, assigned_own}
+use Rattle.select.proofs.Typing.{assigned_own}
 use Rattle.select.proofs.LoweredTyping.{own_temps, param_among}
 use Rattle.select.proofs.EachBlock.{blocks_all, edges_all}
 use Rattle.select.proofs.UsedPlaces.{AllKeep, copy_sets, unary_sets, binary_sets, sets_keep}
 use Rattle.il_ast.proofs.Listed.{all_append}
+use Rattle.phi_copies.proofs.PhiRules.{not_broken, neither_first, neither_second, none_among}
+use Rattle.phi_copies.proofs.Members.{Among, among_left, among_right}
 
 -- how many registers there are: one for each temporary, and one for each phi
 abbrev pub registers : Func → ℕ

@@ -49,11 +49,11 @@ use Rattle.select.specs.Typed.{Classes}
 use Rattle.select.specs.Classes.{classes_in}
 use Rattle.select.specs.Tables.{listed}
 use Rattle.select.specs.Narrow.{narrow, narrow_val, narrow_dest, narrow_arg, narrow_parameter, narrow_inst, narrow_turns, narrow_copies, narrow_ending, narrow_leave, narrow_block, narrow_edge, narrow_blocks, narrow_code}
-use Rattle.select.proofs.Typing.{Among, among_left}
 use Rattle.select.proofs.LoweredTyping.{own_temps, param_among}
 use Rattle.select.proofs.TableOf.{same_classes}
 use Rattle.select.proofs.Known.{registers, Below, Within, within, AllCopies, EndingKeeps, end_ending_keeps, on_edge_keeps}
 use Rattle.il_ast.proofs.Truth.{and_first}
+use Rattle.phi_copies.proofs.Members.{Among, among_left}
 
 -- ---- operands
 

@@ -1,5 +1,5 @@
 -- Virtual registers hold what temporaries hold, words sign-extended.
-use Rattle.std.proofs.Common.{◌≡◌, ℕ, zero, suc, ◌%◌, ◌^◌, ◌<◌, Bool, true, false, cond, nat_eq, List, [], ◌∷◌, map, refl, sym, ◌∙◌, ap, subst, arith}
+use Rattle.std.proofs.Common.{◌≡◌, ℕ, zero, suc, ◌%◌, ◌^◌, Bool, true, false, cond, nat_eq, List, [], ◌∷◌, map, refl, sym, ◌∙◌, ap, subst, arith}
 use Rattle.std.specs.Prelude.{slice_get, slice_set, Option, Some, None}
 use Rattle.std.specs.Option.{option_map, option_and_then, option_flatten}
 use Rattle.std.proofs.lemmas.Bool.Decides.{nat_tests}
@@ -22,6 +22,7 @@ use Rattle.select.specs.Selected.{is_whole, word, operand_of, argument_of}
 use Rattle.select.specs.Typed.{Classes, Fits, ArgsFit}
 use Rattle.il_ast.proofs.Truth.{eq_zero_suc, eq_suc_zero, eq_suc_suc}
 use Rattle.il_ast.proofs.Chosen.{same_chosen}
+use Rattle.select.proofs.WholeWords.{extended_low}
 
 -- what a temporary holds, its register holds in the form of its class
 abbrev pub Holds : Classes → List (Option Value) → Values ℕ → Type 0
@@ -57,12 +58,9 @@ pub record Reads (globals : List Value) (values : Values ℕ) (a : Operand ℕ) 
   pub is : value_of globals values a ≡ Some value
   pub read_as : in_place k value ≡ Some u
 
-low_bits : (n : ℕ) → n < 2 ^ 32 → sign_extended n % 2 ^ 32 ≡ n
-low_bits n h = grind (arith, ints)
-
 -- a word is read as it was given, whichever class it was written in
 words_are_read : (c : Class) (v : Value) → in_place W (held c v) ≡ in_place W v
-words_are_read W (Integer n) = ap (λ k. Some (Integer k)) (low_bits (n % 2 ^ 32) (omega arith))
+words_are_read W (Integer n) = ap (λ k. Some (Integer k)) (extended_low (n % 2 ^ 32) (omega arith))
 words_are_read W (Pointer b o) = refl
 words_are_read W (Function f) = refl
 words_are_read L v = refl

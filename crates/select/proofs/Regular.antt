@@ -36,11 +36,12 @@ use Rattle.vcode.specs.Cost.{is_paid}
 use Rattle.vcode.specs.Regular.{is_target as is_target_in, leads_inside, is_alloc, allocs_first, alloc_bytes, turns_of, passes_few, IsRegular}
 use Rattle.select.specs.Selected.{operand_of, destination_of, argument_of, inst_lines, turn_lines, all_lines, copy_lines, assignment_lines, ending_lines, jump_of, block_of, edge_of, blocks_of, parameter_of, selected, binary_lines}
 use Rattle.select.specs.Typed.{Classes}
-use Rattle.select.proofs.Typing.{Among, neither_first, neither_second, not_broken, none_among}
 use Rattle.select.proofs.Paying.{ending_pays, insts_pay, end_ending_pays, edge_pays}
 use Rattle.select.proofs.EachBlock.{blocks_all, Branches, Leaves, edges_all, IsTarget, is_target}
 use Rattle.select.proofs.UsedPlaces.{copy_sets, unary_sets, binary_sets, no_alloc, no_area, no_turn, all_few}
 use Rattle.il_ast.proofs.Truth.{and_first, and_second}
+use Rattle.phi_copies.proofs.PhiRules.{not_broken, neither_first, neither_second, none_among}
+use Rattle.phi_copies.proofs.Members.{Among}
 
 -- ---- tests
 

@@ -35,11 +35,12 @@ use Rattle.vcode.specs.declared.code.Block.{Block as VirtualBlock}
 use Rattle.vcode.specs.Regular.{code_weight, weight_of}
 use Rattle.select.specs.Selected.{operand_of, inst_lines, turn_lines, all_lines, copy_lines, unary_lines, binary_lines, assignment_lines, ending_lines, edge_of, blocks_of, selected}
 use Rattle.select.specs.Typed.{Classes}
-use Rattle.select.proofs.Typing.{Among, neither_second, not_broken, none_among}
 use Rattle.select.proofs.UsedPlaces.{Sets, copy_sets, unary_sets, binary_sets}
 use Rattle.select.proofs.EachBlock.{IsTarget, is_target}
 use Rattle.select.proofs.Sums.{total, one, sum_total, count_total, total_plus, total_both, total_less, total_ones, exchanged, at_most_once}
 use Rattle.il_ast.proofs.Truth.{equal_turned}
+use Rattle.phi_copies.proofs.PhiRules.{not_broken, neither_second, none_among}
+use Rattle.phi_copies.proofs.Members.{Among}
 
 -- ---- what lines weigh
 

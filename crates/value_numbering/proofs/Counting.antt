@@ -19,6 +19,7 @@ use Rattle.vcode.specs.Step.{operated}
 use Rattle.value_numbering.specs.Known.{linear, grows}
 use Rattle.value_numbering.specs.Steps.{stands, further, behind}
 use Rattle.il_ast.proofs.Wrapping.{further_sum}
+use Rattle.rv_isa.proofs.RangeLemmas.{word_value_fits}
 
 abbrev modulus : ℕ
 modulus = 2 ^ 64
@@ -124,12 +125,9 @@ IsWord (Some (Function f)) = ⊥
 extended_again : (n : ℕ) → n < 2 ^ 32 → cast_unsigned w64 (cast_signed w32 (cast_unsigned w64 (cast_signed w32 n) % 2 ^ 32)) ≡ cast_unsigned w64 (cast_signed w32 n)
 extended_again n h = grind (arith, ints)
 
-word_small : (op : RegWOp) (a b : ℕ) → a < 2 ^ 32 → b < 2 ^ 32 → word_value op a b < 2 ^ 32
-word_small op a b h k = grind (arith, ints)
-
 words_give : (m : Memory) (op : RegWOp) (u v : Value) → IsWord (operate m (RegW op) u v)
 unfolding operate
-words_give m op (Integer a) (Integer b) = extended_again (word_value op (a % 2 ^ 32) (b % 2 ^ 32)) (word_small op (a % 2 ^ 32) (b % 2 ^ 32) (omega arith) (omega arith))
+words_give m op (Integer a) (Integer b) = extended_again (word_value op (a % 2 ^ 32) (b % 2 ^ 32)) (word_value_fits op (a % 2 ^ 32) (b % 2 ^ 32) (omega arith) (omega arith))
 words_give m op (Integer a) (Pointer b o) = tt
 words_give m op (Integer a) (Function f) = tt
 words_give m op (Pointer b o) v = tt

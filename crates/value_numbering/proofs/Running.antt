@@ -54,10 +54,10 @@ use Rattle.value_numbering.specs.Steps.{product_in, product, product_of, beyond,
 use Rattle.value_numbering.proofs.Counting.{number, nothing_more, whole_grows, index_grows, shift_is_product, IsWord, word_given, number_stands, word_again, grown_same, grown_word, Less, LessLong, less_grows, less_long_grows}
 use Rattle.value_numbering.proofs.Narrowing.{narrow_same}
 use Rattle.value_numbering.specs.Extensions.{other_way}
-use Rattle.value_numbering.proofs.Extending.{itself_same, reloaded_same}
+use Rattle.value_numbering.proofs.Extending.{itself_same, reloaded_same, gives_one}
 use Rattle.value_numbering.specs.Narrow.{IsNarrow}
 use Rattle.value_numbering.specs.Regrouped.{Adds, IsSum, InOrder, Turned, IsRegrouped}
-use Rattle.value_numbering.proofs.Regrouping.{equal_turned as sum_turned, regrouped}
+use Rattle.value_numbering.proofs.Regrouping.{turned as sum_turned, regrouped}
 use Rattle.value_numbering.specs.Shifts.{IsHalfway}
 use Rattle.value_numbering.proofs.Shifting.{less_back}
 use Rattle.value_numbering.specs.Reused.{Holds, Found, Already, Counted, Made, Itself, Copy, Narrow, FirstRegrouped, SecondRegrouped, Halfway, Reloaded, Again, claims_at, order_met, order_missed, IsKnown, Listed, OfCopies, Bounded, is_limit, limits, bounds, AllKnown, LeadsWell, AreReused, AllReused}
@@ -120,9 +120,6 @@ put_nothing (Linear b i c o) = refl
 put_nothing (Growing a n) = refl
 
 -- ---- copies
-
-gives_one : (o p : Option Value) → Gives o ≡ Gives p → o ≡ p
-gives_one o p h = cc
 
 copy_same : (globals : List Value) (m : Memory) (values : Values ℕ) (f : Fact) (r q : ℕ) → IsTrueOf globals m values f → (if nat_eq f.register r then copied_from f.value else None) ≡ Some q → values q ≡ values r
 copy_same globals m values f r q is e = by (nat_eq f.register r) refl e
