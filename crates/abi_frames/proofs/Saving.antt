@@ -108,16 +108,7 @@ written_saved f r from is kept = by_test (makes_call f) (written_among f r calle
     by_test true e = later (nat_eq r 1) e
     by_test false e = e
 
-    -- ---- destinations
-
-    first : (t : Bool) → t ≡ true → (t || list_any test xs) ≡ true
-    first true d = refl
-    first false d = absurd (let no : ⊥ = cc in no)
-any_at test (y ∷ xs) (suc i) x e h = later (test y) (any_at test xs i x e h)
-  where
-    later : (t : Bool) → list_any test xs ≡ true → (t || list_any test xs) ≡ true
-    later true d = refl
-    later false d = d
+-- ---- destinations
 
 or_right : (a b : Bool) → b ≡ true → (a || b) ≡ true
 or_right true b e = refl

@@ -1,5 +1,5 @@
 -- Calls that are kept because nothing is owed, or because nothing is done.
-use Rattle.std.proofs.Common.{◌≡◌, ℕ, Bool, true, false, refl, ap, arith}
+use Rattle.std.proofs.Common.{sym, ◌≡◌, ℕ, Bool, true, false, refl, ap, arith}
 use Rattle.std.specs.Prelude.{if◌then◌else◌}
 use Rattle.il_ast.specs.declared.value.End.TheVariants.{Undefined, Stack, Turns}
 use Rattle.il_ast.specs.Run.{Spent, nothing, Outcome, Ended}
