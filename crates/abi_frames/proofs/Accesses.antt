@@ -1,8 +1,7 @@
 -- Loads and stores of any size, at an offset from a register; and the bytes that they change.
-use Rattle.std.proofs.Common.{◌≡◌, ℕ, zero, suc, ◌+◌, ◌-◌, ◌*◌, ◌/◌, ◌%◌, ◌^◌, ◌<◌, ◌≤◌, Bool, true, [], ◌∷◌, refl, sym, ◌∙◌, ap, subst, arith, lit<}
+use Rattle.std.proofs.Common.{◌≡◌, ℕ, zero, suc, ◌+◌, ◌-◌, ◌/◌, ◌%◌, ◌^◌, ◌<◌, ◌≤◌, Bool, true, [], ◌∷◌, refl, sym, ◌∙◌, ap, subst, arith, lit<}
 use Rattle.std.specs.Prelude.{nat_le, Ok}
 use Rattle.std.specs.Int.{byte_at}
-use Rattle.std.proofs.Math.Nat.{pow-suc, div-div-eq-div-mul}
 use Rattle.std.proofs.lemmas.Bool.{and_from}
 use Rattle.std.proofs.lemmas.Bool.Decides.{nat_tests}
 use Rattle.rv_isa.specs.State.{State}
@@ -21,6 +20,7 @@ use Rattle.operation_code.specs.Fields.{reg}
 use Rattle.operation_code.specs.Fields.{store_from, store_at}
 use Rattle.operation_code.proofs.Leading.{Site, Leads, leads_by, IsReg, register_reg, in_register}
 use Rattle.abi_frames.proofs.StackAccesses.{UsableFrom}
+use Rattle.flat_code.proofs.Storing.{byte_later}
 
 -- ---- a store
 
@@ -67,12 +67,6 @@ leads_store_any c s op v base o a is is_base fixed there usable =
     (leads_store_any_in c s op v base (low o) a fixed (ap (λ x. moved x (low o).value) (register_reg s base is_base) ∙ there) usable)
 
 -- ---- the bytes that are stored
-
-pub byte_later : (j n : ℕ) → byte_at j (n / 256) ≡ byte_at (suc j) n
-byte_later zero n = refl
-byte_later (suc i) n =
-    let power : 256 * 256 ^ suc i ≡ 256 ^ suc (suc i) = (let e : 256 ^ suc (suc i) ≡ 256 ^ suc i * 256 = pow-suc 256 (suc i) in omega arith) in
-    ap (λ d. d % 256) (div-div-eq-div-mul n 256 (256 ^ suc i) ∙ ap (λ d. n / d) power)
 
 pub stored_byte : (f : ℕ → ℕ) (a n v k : ℕ) → k < n → stored f a n v (a + k) ≡ byte_at k v
 unfolding stored

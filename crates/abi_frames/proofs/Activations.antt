@@ -2,9 +2,9 @@
 use Rattle.std.proofs.Common.{◌≡◌, ◌≢◌, ℕ, ◌+◌, ◌-◌, ◌*◌, ◌%◌, ◌^◌, ◌<◌, ◌≤◌, Bool, true, false, List, [], ◌∷◌, refl, sym, ◌∙◌, ap, arith, lit<}
 use Rattle.std.specs.Prelude.{◌&&◌, ◌||◌, not, length, nat_eq, nat_lt, nat_le, if◌then◌else◌, slice_get, Option, Some, None}
 use Rattle.std.specs.List.{list_all}
-use Rattle.std.proofs.lemmas.Bool.{and_parts}
+use Rattle.std.proofs.lemmas.Bool.{and_parts, eqb-true, eqb-false}
 use Rattle.std.proofs.lemmas.Bool.Decides.{nat_tests}
-use Rattle.std.proofs.lemmas.Option.{slice_get_within}
+use Rattle.std.proofs.lemmas.Option.{slice_get_within, same_Some}
 use Rattle.rv_isa.specs.State.{State}
 use Rattle.rv_isa.specs.Memory.{number_at, stored}
 use Rattle.rv_isa.specs.Labelled.{Ground}
@@ -21,6 +21,7 @@ use Rattle.abi_frames.specs.declared.layout.Layout.{Layout}
 use Rattle.abi_frames.specs.Emission.{slot_offset}
 use Rattle.operation_code.proofs.Leading.{Site, IsReg}
 use Rattle.abi_frames.proofs.StackAccesses.{UsableFrom}
+use Rattle.il_ast.proofs.Truth.{not_both}
 
 -- registers that a frame can save
 abbrev pub can_save : ℕ → Bool
@@ -146,13 +147,10 @@ pub record Framed (c : Setting) (numbers : Numbers) (memory : Spots) (u : State)
   pub others : (x : ℕ) → c.sp ≤ x → c.before x ≡ NoAccess → u.bytes x ≡ c.start.bytes x
   pub unset : (i : ℕ) → c.slots ≤ i → numbers (Slot i) ≡ None
 
-some_is : (a b : ℕ) → Some a ≡ Some b → a ≡ b
-some_is a b e = cc
-
 pub operand_known : (c : Setting) (numbers : Numbers) (memory : Spots) (u : State) (a : Operand Location) (v : ℕ) → IsSetting c
     → Framed c numbers memory u → operand_keeps (is_place c.slots) a ≡ true → number_of c.addresses numbers a ≡ Some v → operand_in c u a ≡ v
 operand_known c numbers memory u (At p) v is framed good known = framed.places p v good known
-operand_known c numbers memory u (Number n) v is framed good known = some_is (n % 2 ^ 64) v known
+operand_known c numbers memory u (Number n) v is framed good known = same_Some (n % 2 ^ 64) v known
 operand_known c numbers memory u (Name g) v is framed good known = is.globals g v known
 
 -- ---- a place takes a value; of the other registers only scratch may have changed
@@ -177,12 +175,6 @@ pub assigned_output : (c : Setting) (s : State) (p : Location) (v : ℕ) (u : St
 assigned_output c s (InRegister r) v u h = h.output
 assigned_output c s (Slot i) v u h = h.output
 
-eq_is : (a b : ℕ) → nat_eq a b ≡ true → a ≡ b
-eq_is a b h = grind (arith, nat_tests)
-
-ne_is : (a b : ℕ) → nat_eq a b ≡ false → a ≢ b
-ne_is a b h e = absurd (let no : ⊥ = grind (arith, nat_tests) in no)
-
 -- ---- the registers that a callee keeps
 
 pub held_below : (n : ℕ) → is_held n ≡ true → n < 28
@@ -199,12 +191,9 @@ abbrev pub MayWrite : List ℕ → Location → Type 0
 MayWrite rs (InRegister r) = is_kept r ≡ true → is_among r rs ≡ true
 MayWrite rs (Slot i) = Unit {0}
 
-two_ways : (b : Bool) → b ≡ true → b ≡ false → ⊥
-two_ways b e d = cc
-
 not_written : (rs : List ℕ) (n r : ℕ) → 5 ≤ r → is_held n ≡ true → is_among n rs ≡ false → MayWrite rs (InRegister r) → n ≢ r
 not_written rs n r from kept out may e =
-    two_ways (is_among n rs) (ap (λ m. is_among m rs) e ∙ may (held_kept r from (ap is_held (sym e) ∙ kept))) out
+    not_both (is_among n rs) (ap (λ m. is_among m rs) e ∙ may (held_kept r from (ap is_held (sym e) ∙ kept))) out
 
 -- a register is written
 register_place : (c : Setting) (numbers : Numbers) (memory : Spots) (s u : State) (r v : ℕ) (o : Option ℕ) → Framed c numbers memory s
@@ -213,10 +202,10 @@ register_place : (c : Setting) (numbers : Numbers) (memory : Spots) (s u : State
 register_place c numbers memory s u r v o framed h value (InRegister n) x good known = by_test (nat_eq n r) refl known
   where
     by_test : (t : Bool) → nat_eq n r ≡ t → (if t then o else numbers (InRegister n)) ≡ Some x → u.registers n ≡ x
-    by_test true e k = ap u.registers (eq_is n r e) ∙ (h.value ∙ value x k)
+    by_test true e k = ap u.registers (eqb-true n r e) ∙ (h.value ∙ value x k)
     by_test false e k =
         let hi = (place_is c.slots n good).to_27 in
-        h.others n (omega (arith, hi)) (ne_is n r e) ∙ framed.places (InRegister n) x good k
+        h.others n (omega (arith, hi)) (eqb-false n r e) ∙ framed.places (InRegister n) x good k
 register_place c numbers memory s u r v o framed h value (Slot i) x good known =
     ap (λ (m : ℕ → ℕ). number_at m (slot_at c i) 8) h.bytes ∙ framed.places (Slot i) x good known
 
@@ -275,13 +264,13 @@ slot_place c numbers memory s u i v o small framed h value (Slot k) x good known
     by_test : (t : Bool) → nat_eq k i ≡ t → (d : Bool) → nat_lt k i ≡ d → (if t then o else numbers (Slot k)) ≡ Some x
         → number_at u.bytes (slot_at c k) 8 ≡ x
     by_test true e d f is =
-        at_k ∙ (ap (λ j. number_at (stored s.bytes (slot_at c i) 8 v) (slot_at c j) 8) (eq_is k i e)
+        at_k ∙ (ap (λ j. number_at (stored s.bytes (slot_at c i) 8 v) (slot_at c j) 8) (eqb-true k i e)
         ∙ (read_back s.bytes (slot_at c i) 8 v small ∙ value x is))
     by_test false e true f is =
         let less : k < i = grind (arith, nat_tests) in
         at_k ∙ (read_below s.bytes (slot_at c i) 8 v (slot_at c k) 8 (omega (arith, less)) ∙ framed.places (Slot k) x good is)
     by_test false e false f is =
-        let differs = ne_is k i e in
+        let differs = eqb-false k i e in
         let le : i ≤ k = grind (arith, nat_tests) in
         let less : i < k = omega (arith, le, differs) in
         at_k ∙ (read_above s.bytes (slot_at c i) 8 v (slot_at c k) 8 (omega (arith, less)) ∙ framed.places (Slot k) x good is)
@@ -291,7 +280,7 @@ pub beyond : (slots i k : ℕ) (o : Option ℕ) (numbers : Numbers) → i < slot
 beyond slots i k o numbers few far e = by_test (nat_eq k i) refl
   where
     by_test : (t : Bool) → nat_eq k i ≡ t → (if t then o else numbers (Slot k)) ≡ None
-    by_test true d = let same = eq_is k i d in absurd (let no : ⊥ = omega (arith, same, few, far) in no)
+    by_test true d = let same = eqb-true k i d in absurd (let no : ⊥ = omega (arith, same, few, far) in no)
     by_test false d = e
 
 slot_assigned : (c : Setting) → IsSetting c → (numbers : Numbers) (memory : Spots) (s u : State) (i v : ℕ) (o : Option ℕ) → v < 2 ^ 64 → i < c.slots

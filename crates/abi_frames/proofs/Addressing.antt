@@ -15,6 +15,7 @@ use Rattle.vcode.specs.Named.{is_place, operand_keeps}
 use Rattle.flat_code.specs.Spots.{Spots}
 use Rattle.flat_code.specs.Step.{Numbers, number_of, computed, operated, address_of}
 use Rattle.abi_frames.proofs.Activations.{Setting, IsSetting, operand_in, Framed, operand_known}
+use Rattle.std.proofs.lemmas.Option.{same_Some}
 
 -- the offset from the operand leads to p
 abbrev pub IsBeyond : Setting → State → Operand Location → Immediate → ℕ → Type 0
@@ -29,12 +30,9 @@ not_moved x d small none = let e : d ≡ 0 = zero d none in omega (arith, e, sma
     zero : (d : ℕ) → nat_eq d 0 ≡ true → d ≡ 0
     zero d h = grind (arith, nat_tests)
 
-some_is : (p q : ℕ) → Some p ≡ Some q → p ≡ q
-some_is p q e = cc
-
 sum_is : (b d p : ℕ) → Some (computed (Reg Add) b (d % 2 ^ 64)) ≡ Some p → (b + d) % 2 ^ 64 ≡ p
 unfolding computed
-sum_is b d p e = let s : (b + d % 2 ^ 64) % 2 ^ 64 ≡ p = some_is ((b + d % 2 ^ 64) % 2 ^ 64) p e in omega (arith, s)
+sum_is b d p e = let s : (b + d % 2 ^ 64) % 2 ^ 64 ≡ p = same_Some ((b + d % 2 ^ 64) % 2 ^ 64) p e in omega (arith, s)
 
 pub is_based : (c : Setting) (numbers : Numbers) (memory : Spots) (u : State) (at : Address Location) (p : ℕ) → IsSetting c
     → Framed c numbers memory u → operand_keeps (is_place c.slots) at.base ≡ true → address_of c.addresses numbers at ≡ Some p → IsBased c u at p

@@ -1,11 +1,11 @@
 -- What the moves up do: whatever an argument is passed as, it still is from where it then stands, and none stands in the register of an earlier one.
-use Rattle.std.proofs.Common.{nat_le, ◌≡◌, ◌≢◌, ℕ, zero, suc, ◌+◌, ◌%◌, ◌^◌, ◌<◌, ◌≤◌, Bool, true, false, List, [], ◌∷◌, refl, sym, ◌∙◌, ap, arith, lit<, zero-add}
+use Rattle.std.proofs.Common.{nat_le, ◌≡◌, ◌≢◌, ℕ, zero, suc, ◌+◌, ◌<◌, ◌≤◌, Bool, true, false, List, [], ◌∷◌, refl, sym, ◌∙◌, ap, arith, lit<, zero-add}
 use Rattle.std.specs.Prelude.{◌&&◌, ◌||◌, nat_eq, nat_lt, if◌then◌else◌, map, length, slice_get, Option, Some, None}
 use Rattle.std.specs.Option.{option_map}
 use Rattle.std.specs.List.{list_all}
-use Rattle.std.proofs.lemmas.Bool.{and_parts, and_from}
+use Rattle.std.proofs.lemmas.Bool.{and_parts, and_from, eqb-true, eqb-false, or_parts}
 use Rattle.std.proofs.lemmas.Bool.Decides.{nat_tests}
-use Rattle.std.proofs.lemmas.Option.{slice_get-map, slice_get_within}
+use Rattle.std.proofs.lemmas.Option.{slice_get-map, slice_get_within, same_Some, none-some}
 use Rattle.rv_isa.specs.State.{State}
 use Rattle.vcode.specs.declared.place.Location.{Location}
 use Rattle.vcode.specs.declared.place.Location.TheVariants.{Register as InRegister, Slot}
@@ -23,11 +23,9 @@ use Rattle.operation_code.proofs.Leading.{Site, Leads, leads_nowhere, leads_then
 use Rattle.operation_code.proofs.Instructions.{leads_add_low}
 use Rattle.abi_frames.proofs.Activations.{Setting, IsSetting, site, bottom, value_at, operand_in, place_is}
 use Rattle.abi_frames.proofs.Passing.{sent, in_place, is_behind, InOrder, Registered, leads_registers}
+use Rattle.il_ast.proofs.Wrapping.{same_low}
 
 -- ---- one move
-
-same_low : (x : ℕ) → x < 2 ^ 64 → (x + 0) % 2 ^ 64 ≡ x
-same_low x h = omega (arith, h)
 
 pub leads_copy : (c : Site) (s : State) (d a : ℕ) → IsReg d → IsReg a → Leads c (add_low d a 0 ∷ []) s (Sets s d (s.registers a))
 leads_copy c s d a is is_a =
@@ -74,12 +72,6 @@ leads_move_up c s k r few lo hi =
 
 -- ---- what places then hold
 
-eq_is : (a b : ℕ) → nat_eq a b ≡ true → a ≡ b
-eq_is a b h = grind (arith, nat_tests)
-
-ne_is : (a b : ℕ) → nat_eq a b ≡ false → a ≢ b
-ne_is a b h e = absurd (let no : ⊥ = grind (arith, nat_tests) in no)
-
 eq_self : (a b : ℕ) → a ≡ b → nat_eq b a ≡ true
 eq_self a b e = grind (arith, nat_tests)
 
@@ -87,9 +79,9 @@ register_moved : (s u : State) (a b r : ℕ) → Exchanged s a b u → r ≤ 27 
 register_moved s u a b r h low = by_test (nat_eq r a) refl (nat_eq r b) refl
   where
     by_test : (p : Bool) → nat_eq r a ≡ p → (q : Bool) → nat_eq r b ≡ q → u.registers (if p then b else if q then a else r) ≡ s.registers r
-    by_test true e q f = h.second ∙ ap s.registers (sym (eq_is r a e))
-    by_test false e true f = h.first ∙ ap s.registers (sym (eq_is r b f))
-    by_test false e false f = h.others r (ne_is r a e) (ne_is r b f) (λ g. absurd (omega (arith, g, low)))
+    by_test true e q f = h.second ∙ ap s.registers (sym (eqb-true r a e))
+    by_test false e true f = h.first ∙ ap s.registers (sym (eqb-true r b f))
+    by_test false e false f = h.others r (eqb-false r a e) (eqb-false r b f) (λ g. absurd (omega (arith, g, low)))
 
 operand_moved : (c : Setting) (s u : State) (a b : ℕ) (x : Operand Location) → Exchanged s a b u → operand_keeps (is_place c.slots) x ≡ true
     → operand_in c u (operand_exchanged a b x) ≡ operand_in c s x
@@ -117,10 +109,6 @@ operand_unread c s u to v (At (Slot i)) h unread = ap (λ (m : ℕ → ℕ). val
 operand_unread c s u to v (Number n) h unread = refl
 operand_unread c s u to v (Name g) h unread = refl
 
-neither : (a b : Bool) → (a || b) ≡ false → (a ≡ false) × (b ≡ false)
-neither true b h = absurd (let no : ⊥ = cc in no)
-neither false b h = (refl, h)
-
 sent_unread : (c : Setting) (s u : State) (to v : ℕ) (x : Argument Location) → Sets s to v u → is_in to x.value ≡ false → sent c u x ≡ sent c s x
 sent_unread c s u to v x h unread = ap (λ n. passed (passed_class x.extension x.class) (taken (passed_class x.extension x.class) n)) (operand_unread c s u to v x.value h unread)
 
@@ -128,14 +116,14 @@ all_unread : (c : Setting) (s u : State) (to v : ℕ) (args : List (Argument Loc
     → map (sent c u) args ≡ map (sent c s) args
 all_unread c s u to v [] h unread = refl
 all_unread c s u to v (x ∷ args) h unread =
-    let parts = neither (is_in to x.value) (is_read to args) unread in
+    let parts = or_parts (is_in to x.value) (is_read to args) unread in
     ap (λ n. n ∷ map (sent c u) args) (sent_unread c s u to v x h parts.0) ∙ ap (λ l. sent c s x ∷ l) (all_unread c s u to v args h parts.1)
 
 arguments_settled : (c : Setting) (s u : State) (to r k : ℕ) (args : List (Argument Location)) (a : Argument Location) → Sets s to (s.registers r) u
     → is_read to args ≡ false → slice_get args k ≡ Some a → a.value ≡ At (InRegister r) → map (sent c u) (settled to k args) ≡ map (sent c s) args
 arguments_settled c s u to r k [] a h unread is there = absurd (let no : ⊥ = cc in no)
 arguments_settled c s u to r zero (x ∷ args) a h unread is there =
-    let parts = neither (is_in to x.value) (is_read to args) unread in
+    let parts = or_parts (is_in to x.value) (is_read to args) unread in
     let value : x.value ≡ At (InRegister r) = ap (λ (y : Argument Location). y.value) (same x a is) ∙ there in
     let first : u.registers to ≡ operand_in c s x.value = h.value ∙ sym (ap (operand_in c s) value) in
     ap (λ n. passed (passed_class x.extension x.class) (taken (passed_class x.extension x.class) n) ∷ map (sent c u) args) first ∙ ap (λ l. sent c s x ∷ l) (all_unread c s u to (s.registers r) args h parts.1)
@@ -143,7 +131,7 @@ arguments_settled c s u to r zero (x ∷ args) a h unread is there =
     same : (p q : Argument Location) → Some p ≡ Some q → p ≡ q
     same p q e = cc
 arguments_settled c s u to r (suc k) (x ∷ args) a h unread is there =
-    let parts = neither (is_in to x.value) (is_read to args) unread in
+    let parts = or_parts (is_in to x.value) (is_read to args) unread in
     ap (λ n. n ∷ map (sent c u) (settled to k args)) (sent_unread c s u to (s.registers r) x h parts.0)
     ∙ ap (λ l. sent c s x ∷ l) (arguments_settled c s u to r k args a h parts.1 is there)
 
@@ -157,19 +145,13 @@ pub record IsEarlier (k : ℕ) (args : List (Argument Location)) (r : ℕ) : Typ
   pub is : slice_get args k ≡ Some argument
   pub there : argument.value ≡ At (InRegister r)
 
-no_number : (r : ℕ) → None ≡ Some r → ⊥
-no_number r e = let no : ⊥ = cc in no
-
-same_number : (a b : ℕ) → Some a ≡ Some b → a ≡ b
-same_number a b e = cc
-
 pub is_earlier : (k : ℕ) (args : List (Argument Location)) (r : ℕ) → earlier_at k args ≡ Some r → IsEarlier k args r
 is_earlier k args r h = by_few (nat_lt k 8) refl h
   where
     by_range : (a : Argument Location) → k < 8 → slice_get args k ≡ Some a → (q : ℕ) → a.value ≡ At (InRegister q) → (t : Bool) → nat_le 10 q ≡ t
         → (v : Bool) → nat_lt q (10 + k) ≡ v → (if t && v then Some q else None) ≡ Some r → IsEarlier k args r
     by_range a few is q there true e true f g =
-        let here = same_number q r g in
+        let here = same_Some q r g in
         let lo : 10 ≤ q = grind (arith, nat_tests) in
         let hi : q < 10 + k = grind (arith, nat_tests) in
         record {
@@ -180,22 +162,22 @@ is_earlier k args r h = by_few (nat_lt k 8) refl h
           is = is;
           there = there ∙ ap (λ n. At (InRegister n)) here;
         }
-    by_range a few is q there true e false f g = absurd (no_number r g)
-    by_range a few is q there false e v f g = absurd (no_number r g)
+    by_range a few is q there true e false f g = absurd (none-some r g)
+    by_range a few is q there false e v f g = absurd (none-some r g)
 
     by_value : (a : Argument Location) → k < 8 → slice_get args k ≡ Some a → (x : Operand Location) → a.value ≡ x → earlier k x ≡ Some r → IsEarlier k args r
     by_value a few is (At (InRegister q)) there g = by_range a few is q there (nat_le 10 q) refl (nat_lt q (10 + k)) refl g
-    by_value a few is (At (Slot i)) there g = absurd (no_number r g)
-    by_value a few is (Number n) there g = absurd (no_number r g)
-    by_value a few is (Name n) there g = absurd (no_number r g)
+    by_value a few is (At (Slot i)) there g = absurd (none-some r g)
+    by_value a few is (Number n) there g = absurd (none-some r g)
+    by_value a few is (Name n) there g = absurd (none-some r g)
 
     by_argument : k < 8 → (o : Option (Argument Location)) → slice_get args k ≡ o → earlier_in k o ≡ Some r → IsEarlier k args r
-    by_argument few None is g = absurd (no_number r g)
+    by_argument few None is g = absurd (none-some r g)
     by_argument few (Some a) is g = by_value a few is a.value refl g
 
     by_few : (t : Bool) → nat_lt k 8 ≡ t → (if t then earlier_in k (slice_get args k) else None) ≡ Some r → IsEarlier k args r
     by_few true e g = by_argument (grind (arith, nat_tests)) (slice_get args k) refl g
-    by_few false e g = absurd (no_number r g)
+    by_few false e g = absurd (none-some r g)
 
 -- one that isn't in an earlier register stays
 not_earlier : (k : ℕ) (x : Operand Location) → earlier k x ≡ None → operand_keeps (is_behind k) x ≡ true
@@ -309,8 +291,8 @@ behind_stays a b i (At (InRegister r)) from_a to_a from_b to_b few h = by_test (
         by_part false f false g false k p = let no : ⊥ = cc in no
 
     by_test : (p : Bool) → nat_eq r a ≡ p → (q : Bool) → nat_eq r b ≡ q → is_behind i (InRegister (if p then b else if q then a else r)) ≡ true
-    by_test true e q f = absurd (out a (eq_is r a e) from_a to_a)
-    by_test false e true f = absurd (out b (eq_is r b f) from_b to_b)
+    by_test true e q f = absurd (out a (eqb-true r a e) from_a to_a)
+    by_test false e true f = absurd (out b (eqb-true r b f) from_b to_b)
     by_test false e false f = h
 behind_stays a b i (At (Slot j)) from_a to_a from_b to_b few h = refl
 behind_stays a b i (Number n) from_a to_a from_b to_b few h = refl
@@ -339,13 +321,13 @@ exchange_ordered k args r it order i y from few h = by_test (nat_eq i k) refl
 
     by_test : (t : Bool) → nat_eq i k ≡ t → operand_keeps (is_behind i) y.value ≡ true
     by_test true f =
-        let same = eq_is i k f in
+        let same = eqb-true i k f in
         let one : old.argument ≡ it.argument = some_argument old.argument it.argument (sym old.is ∙ (ap (slice_get args) same ∙ it.is)) in
         let value : y.value ≡ operand_exchanged (10 + k) r (At (InRegister r)) =
         ap (λ (x : Argument Location). x.value) (sym old.after) ∙ ap (operand_exchanged (10 + k) r) (ap (λ (x : Argument Location). x.value) one ∙ it.there) in
         ap (λ n. operand_keeps (is_behind n) y.value) same ∙ (ap (operand_keeps (is_behind k)) value ∙ own_register k r it.from it.below)
     by_test false f =
-        let other = ne_is i k f in
+        let other = eqb-false i k f in
         let lo = it.from in
         let hi = it.below in
         ap (λ (x : Argument Location). operand_keeps (is_behind i) x.value) (sym old.after)
@@ -372,11 +354,11 @@ settled_ordered k args r it order i y from few h = by_test (nat_eq i k) refl
   where
     by_test : (t : Bool) → nat_eq i k ≡ t → operand_keeps (is_behind i) y.value ≡ true
     by_test true f =
-        let same = eq_is i k f in
+        let same = eqb-true i k f in
         let at : slice_get (settled (10 + k) k args) k ≡ Some y = ap (slice_get (settled (10 + k) k args)) (sym same) ∙ h in
         ap (λ n. operand_keeps (is_behind n) y.value) same ∙ (ap (operand_keeps (is_behind k)) (settled_here (10 + k) k args y at) ∙ own_behind k)
     by_test false f =
-        let other = ne_is i k f in
+        let other = eqb-false i k f in
         order i y (omega (arith, from, other)) few (sym (settled_other (10 + k) k args i other) ∙ h)
 
 none_ordered : (k : ℕ) (args : List (Argument Location)) → earlier_at k args ≡ None → OrderedFrom (suc k) args → OrderedFrom k args
@@ -390,9 +372,9 @@ none_ordered k args e order i a from few is = by_test (nat_eq i k) refl
 
     by_test : (t : Bool) → nat_eq i k ≡ t → operand_keeps (is_behind i) a.value ≡ true
     by_test true f =
-        let same = eq_is i k f in
+        let same = eqb-true i k f in
         ap (λ n. operand_keeps (is_behind n) a.value) same ∙ not_earlier k a.value (here same)
-    by_test false f = let other = ne_is i k f in order i a (omega (arith, from, other)) few is
+    by_test false f = let other = eqb-false i k f in order i a (omega (arith, from, other)) few is
 
 one_ordered : (k : ℕ) (args : List (Argument Location)) (o : Option ℕ) → earlier_at k args ≡ o → OrderedFrom (suc k) args → OrderedFrom k (moved_up k args o)
 one_ordered k args None e order = none_ordered k args e order
@@ -516,7 +498,7 @@ stands_now c s u args now i a same is =
   where
     by_argument : (o : Option (Argument Location)) → slice_get now i ≡ o → option_map (sent c u) o ≡ Some (sent c s a) → StandsNow c s u now i a
     by_argument None e g = absurd (let no : ⊥ = cc in no)
-    by_argument (Some x) e g = record { argument = x; is = e; value = same_number (sent c u x) (sent c s a) g }
+    by_argument (Some x) e g = record { argument = x; is = e; value = same_Some (sent c u x) (sent c s a) g }
 
 pub leads_passed : (c : Setting) → IsSetting c → (s : State) (args : List (Argument Location)) → s.registers 2 ≡ bottom c
     → list_all (in_place c.slots) args ≡ true → Leads (site c) (passed_items c.layout args) s (InRegisters c s args)

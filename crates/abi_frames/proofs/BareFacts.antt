@@ -2,7 +2,7 @@
 use Rattle.std.proofs.Common.{◌≡◌, ℕ, zero, suc, ◌+◌, ◌≤◌, Bool, true, false, List, [], ◌∷◌, refl, sym, ◌∙◌, ap, subst, arith}
 use Rattle.std.specs.Prelude.{not, ◌&&◌, ◌||◌, max, nat_eq, nat_lt, nat_le, length, slice_get, Option, Some, None}
 use Rattle.std.specs.List.{list_all, list_any}
-use Rattle.std.proofs.lemmas.Bool.{and_parts}
+use Rattle.std.proofs.lemmas.Bool.{and_parts, not-true}
 use Rattle.std.proofs.lemmas.Bool.Decides.{nat_tests}
 use Rattle.vcode.specs.declared.place.Location.{Location}
 use Rattle.vcode.specs.declared.place.Location.TheVariants.{Register as InRegister, Slot}
@@ -21,11 +21,8 @@ use Rattle.abi_frames.specs.Layout.{args_on_stack, most_in_lines, is_register, w
 use Rattle.abi_frames.specs.BareWays.{is_bare_place, touches_no_slot, is_bare_line, is_bare_block, leads, is_something, part_passes, is_fronted, is_kept_block, begins_frame, is_front_right, is_kept_right, is_part_right, are_parts_right, is_entry_right}
 use Rattle.abi_frames.proofs.Activations.{place_is, MayWrite}
 use Rattle.abi_frames.proofs.Saving.{AllMayWrite}
-use Rattle.abi_frames.proofs.Starting.{each}
-
-not_true : (b : Bool) → not b ≡ true → b ≡ false
-not_true true h = absurd (let no : ⊥ = cc in no)
-not_true false h = refl
+use Rattle.il_ast.proofs.Listed.{all_at}
+use Rattle.il_ast.proofs.Truth.{not_both}
 
 -- ---- bare lines
 
@@ -63,13 +60,10 @@ no_arguments (Call to callee args) h = absurd (let no : ⊥ = cc in no)
 kept_among : (r : ℕ) → 5 ≤ r → is_kept r ≡ true → list_any (λ n. nat_eq n r) callee_saved ≡ true
 kept_among r from kept = grind (arith, nat_tests)
 
-two_ways : (b : Bool) → b ≡ true → b ≡ false → ⊥
-two_ways b e d = cc
-
 -- a place that isn't one of them may be written where nothing is saved
 place_may : (slots : ℕ) (to : Location) → is_place slots to ≡ true → list_any (λ n. is_register n to) callee_saved ≡ false → MayWrite [] to
 place_may slots (Slot k) good h = tt
-place_may slots (InRegister r) good h = λ kept. absurd (two_ways (list_any (λ n. nat_eq n r) callee_saved) (kept_among r (place_is slots r good).from_5 kept) h)
+place_may slots (InRegister r) good h = λ kept. absurd (not_both (list_any (λ n. nat_eq n r) callee_saved) (kept_among r (place_is slots r good).from_5 kept) h)
 
 any_same : (f g : ℕ → Bool) (xs : List ℕ) → ((n : ℕ) → f n ≡ g n) → list_any f xs ≡ list_any g xs
 any_same f g [] h = refl
@@ -90,7 +84,7 @@ record LineBare (l : Line Location) : Type 0 where
 line_bare : (l : Line Location) → is_bare_line l ≡ true → LineBare l
 line_bare l h =
     let parts = and_parts (touches_no_slot l) (not (list_any (λ r. writes r l) callee_saved)) h in
-    record { touches = parts.0; writes_none = not_true (list_any (λ r. writes r l) callee_saved) parts.1 }
+    record { touches = parts.0; writes_none = not-true (list_any (λ r. writes r l) callee_saved) parts.1 }
 
 all_known : (lines : List (Line Location)) → list_all is_bare_line lines ≡ true → list_all (line_keeps (is_place 0)) lines ≡ true
 all_known [] h = refl
@@ -117,8 +111,8 @@ bare_is b h =
       known = all_known b.lines parts.0;
       jump_known = parts.1;
       may = λ q l e to good it.
-          place_may 0 to good (any_same (λ n. is_register n to) (λ n. writes n l) callee_saved it ∙ (line_bare l (each is_bare_line b.lines q l parts.0 e)).writes_none);
-      calls = λ q l e call. two_ways (is_call l) call (no_call l (line_bare l (each is_bare_line b.lines q l parts.0 e)).touches);
+          place_may 0 to good (any_same (λ n. is_register n to) (λ n. writes n l) callee_saved it ∙ (line_bare l (all_at is_bare_line b.lines q l parts.0 e)).writes_none);
+      calls = λ q l e call. not_both (is_call l) call (no_call l (line_bare l (all_at is_bare_line b.lines q l parts.0 e)).touches);
       passes = none_passed b.lines parts.0;
     }
 
@@ -132,7 +126,7 @@ params_bare (d ∷ ds) h =
     let here = and_parts (is_place 0 d.place) (not (list_any (λ r. is_register r d.place) callee_saved)) parts.0 in
     let rest = params_bare ds parts.1 in (
       both (is_place 0 d.place) (list_all (λ (e : Destination Location). is_place 0 e.place) ds) here.0 rest.0,
-      (place_may 0 d.place here.0 (not_true (list_any (λ r. is_register r d.place) callee_saved) here.1), rest.1),
+      (place_may 0 d.place here.0 (not-true (list_any (λ r. is_register r d.place) callee_saved) here.1), rest.1),
     )
   where
     both : (a b : Bool) → a ≡ true → b ≡ true → (a && b) ≡ true
@@ -218,8 +212,8 @@ copy_right parts enter i b right copy = by_front right.part.front refl right.fro
     by_front Copied e h d =
         let both = and_parts (is_bare_block b) (leads (is_fronted parts) b.jump) h in
         record { part = right.part; there = right.there; front = e; bare = bare_is b both.0; goes = both.1 }
-    by_front Begin e h d = absurd (two_ways (is_copied_front right.part.front) d (ap is_copied_front e))
-    by_front Nothing e h d = absurd (two_ways (is_copied_front right.part.front) d (ap is_copied_front e))
+    by_front Begin e h d = absurd (not_both (is_copied_front right.part.front) d (ap is_copied_front e))
+    by_front Nothing e h d = absurd (not_both (is_copied_front right.part.front) d (ap is_copied_front e))
 
 pub record BeginRight (parts : List Part) (i : ℕ) : Type 0 where
   pub part : Part
@@ -235,9 +229,9 @@ begin_right parts enter i b right some none =
   where
     by_front : (x : Front) → right.part.front ≡ x → is_front_right parts b right.part.kept x ≡ true → is_something right.part.front ≡ true
         → is_copied_front right.part.front ≡ false → BeginRight parts i
-    by_front Copied e h s d = absurd (two_ways (is_copied_front right.part.front) (ap is_copied_front e) d)
+    by_front Copied e h s d = absurd (not_both (is_copied_front right.part.front) (ap is_copied_front e) d)
     by_front Begin e h s d = record { part = right.part; there = right.there; front = e; kept = ap (part_passes (λ p. p.kept)) right.there ∙ h }
-    by_front Nothing e h s d = absurd (two_ways (is_something right.part.front) s (ap is_something e))
+    by_front Nothing e h s d = absurd (not_both (is_something right.part.front) s (ap is_something e))
 
 pub record KeptRight (parts : List Part) (enter i : ℕ) (b : Block Location) : Type 0 where
   pub goes : leads (is_kept_block parts) b.jump ≡ true

@@ -18,11 +18,3 @@ pub ways_joined : (o p q r : List Item) (y z : Layout) (rs : List ℕ) (ds : Lis
 ways_joined o p q r y z rs ds bs ps e s entry layout fronts itself end =
     joined_3 o p q r (entry_items (bare_layout y) ds) (fronts_items y rs (framed_items y rs ps bs) ps e 0 bs) (Label (front_label y y.leave) ∷ epilogue (bare_layout y) [])
     (entry ∙ ap (λ l. o ++ entry_items l ds) layout) (fronts ∙ ap (λ l. p ++ fronts_items y rs l ps e 0 bs) itself) end
-
--- what was put behind nothing
-pub ways_are : (p o : List Item) (y z : Layout) (rs ss : List ℕ) (ds es : List (Destination Location)) (bs cs : List (Block Location)) (ps qs : List Part) (e : ℕ)
-    → p ≡ o ++ ways_items y rs ds bs ps e → o ≡ [] → y ≡ z → rs ≡ ss → ds ≡ es → bs ≡ cs → ps ≡ qs → p ≡ ways_items z ss es cs qs e
-ways_are p o y z rs ss ds es bs cs ps qs e h f g i k m n =
-    h ∙ (ap (λ l. l ++ ways_items y rs ds bs ps e) f
-    ∙ (ap (λ x. ways_items x rs ds bs ps e) g
-    ∙ (ap (λ x. ways_items z x ds bs ps e) i ∙ (ap (λ x. ways_items z ss x bs ps e) k ∙ (ap (λ x. ways_items z ss es x ps e) m ∙ ap (λ x. ways_items z ss es cs x e) n)))))

@@ -2,7 +2,7 @@
 use Rattle.std.proofs.Common.{◌≡◌, ℕ, suc, zero, ◌+◌, ◌*◌, ◌^◌, ◌<◌, ◌≤◌, Bool, true, false, List, [], ◌∷◌, ◌++◌, refl, sym, ◌∙◌, ap, subst, arith}
 use Rattle.std.specs.Prelude.{◌&&◌, nat_eq, nat_le, nat_lt, if◌then◌else◌, map, length, slice_get, Option, Some, None}
 use Rattle.std.specs.List.{list_all}
-use Rattle.std.proofs.lemmas.Bool.{and_parts, and_from}
+use Rattle.std.proofs.lemmas.Bool.{and_parts, and_from, leb-true, lt-ltb}
 use Rattle.std.proofs.lemmas.Bool.Decides.{nat_tests}
 use Rattle.il_ast.specs.declared.limits.TheConstants.{ALLOC_BYTES}
 use Rattle.rv_isa.specs.Labels.{IsLabelled, times_labelled, has_label_below, has_good_registers, longest_size}
@@ -27,10 +27,11 @@ use Rattle.abi_frames.specs.Laws.{IsCode}
 use Rattle.operation_code.proofs.Leading.{longest-append}
 use Rattle.abi_frames.proofs.Activations.{can_save}
 use Rattle.abi_frames.proofs.Saving.{can_save_all}
-use Rattle.abi_frames.proofs.Labelling.{Plainly, times-append, all_both, plainly_then, plainly_nothing, lines_plainly, jump_plainly, prologue_plainly, epilogue_plainly, goto_plainly, entry_plainly, pointer_plainly, Once, label_then, lt_from, numbered, no_blocks, one_more, length-more, some_size}
-use Rattle.abi_frames.proofs.Sizes.{le_is}
-use Rattle.abi_frames.proofs.Starting.{each, block_within}
+use Rattle.abi_frames.proofs.Labelling.{Plainly, times-append, all_both, plainly_then, plainly_nothing, lines_plainly, jump_plainly, prologue_plainly, epilogue_plainly, goto_plainly, entry_plainly, pointer_plainly, Once, label_then, numbered, no_blocks, one_more, length-more, some_size}
+use Rattle.abi_frames.proofs.Starting.{block_within}
 use Rattle.abi_frames.proofs.BareFacts.{bare_is, params_bare, entry_right, PartRight, part_right}
+use Rattle.il_ast.proofs.Listed.{all_at}
+use Rattle.il_ast.proofs.Truth.{not_both}
 
 -- ---- labels that are higher
 
@@ -109,7 +110,7 @@ pub block_below : (n : ℕ) (y : Layout) (slots all k : ℕ) (b : Block Location
     → list_all (has_label_below n) (block_items (bare_layout y) [] k b) ≡ true
 block_below n y slots all k b leave more low known inside =
     let plain = body_plainly n (bare_layout y) [] slots all k b refl leave more known inside in
-    and_from (nat_lt k n) (list_all (has_label_below n) (lines_items (bare_layout y) 0 b.lines ++ jump_items (bare_layout y) [] (k + 1) b.jump)) (lt_from k n low) plain.labels
+    and_from (nat_lt k n) (list_all (has_label_below n) (lines_items (bare_layout y) 0 b.lines ++ jump_items (bare_layout y) [] (k + 1) b.jump)) (lt-ltb k n low) plain.labels
 
 -- code with these labels of its own
 record Labels (n : ℕ) (own : ℕ → ℕ) (is : List Item) : Type 0 where
@@ -207,9 +208,6 @@ front_own n first k own l = (if nat_eq (n + 1 + k) l then 1 else 0) + here_if fi
 not_first : (first k : ℕ) (own : ℕ → ℕ) (l : ℕ) (x : ℕ) → nat_eq k first ≡ false → x ≡ x + here_if first k (own l)
 not_first first k own l x e = let none = ap (λ (t : Bool). if t then own l else 0) e in omega (arith, none)
 
-two_ways : (b : Bool) → b ≡ true → b ≡ false → ⊥
-two_ways b e d = cc
-
 -- the frame begins for a block
 begin_labelled : (m : ℕ) (y : Layout) (rs : List ℕ) (itself : List Item) (own : ℕ → ℕ) (first k : ℕ) → list_all can_save rs ≡ true → front_label y k < m → k < m → Labels m own itself
     → Labels m (front_own y.leave first k own) (Label (front_label y k) ∷ begin_items y rs itself first k)
@@ -222,7 +220,7 @@ begin_labelled m y rs itself own first k good low below h =
   where
     by_test : (t : Bool) → Labels m (λ l. if t then own l else 0) (if t then itself else GoTo k ∷ [])
     by_test true = labels_so m own own itself (λ l. refl) h
-    by_test false = by_plainly m (GoTo k ∷ []) (goto_plainly m k (lt_from k m below))
+    by_test false = by_plainly m (GoTo k ∷ []) (goto_plainly m k (lt-ltb k m below))
 
 front_labelled : (m : ℕ) (y : Layout) (rs : List ℕ) (itself : List Item) (own : ℕ → ℕ) (parts : List Part) (first k : ℕ) (b : Block Location) (kept : Bool) (front : Front)
     → list_all can_save rs ≡ true → front_label y k < m → k < m → y.leave + 1 + (y.leave + 1) ≤ m → Labels m own itself → is_front_right parts b kept front ≡ true
@@ -241,7 +239,7 @@ front_labelled m y rs itself own parts first k b kept Copied good low below room
   where
     other : (t : Bool) → nat_eq k first ≡ t → nat_eq k first ≡ false
     other false e = e
-    other true e = absurd (let no : ⊥ = two_ways (begins_frame Copied) (at (grind (arith, nat_tests))) refl in no)
+    other true e = absurd (let no : ⊥ = not_both (begins_frame Copied) (at (grind (arith, nat_tests))) refl in no)
 front_labelled m y rs itself own parts first k b kept Nothing good low below room h right inside at =
     labels_so m (λ l. if nat_eq (front_label y k) l then 1 else 0) (front_own y.leave first k own) (Label (front_label y k) ∷ [])
     (λ l. not_first first k own l (if nat_eq (front_label y k) l then 1 else 0) (other (nat_eq k first) refl))
@@ -249,7 +247,7 @@ front_labelled m y rs itself own parts first k b kept Nothing good low below roo
   where
     other : (t : Bool) → nat_eq k first ≡ t → nat_eq k first ≡ false
     other false e = e
-    other true e = absurd (let no : ⊥ = two_ways (begins_frame Nothing) (at (grind (arith, nat_tests))) refl in no)
+    other true e = absurd (let no : ⊥ = not_both (begins_frame Nothing) (at (grind (arith, nat_tests))) refl in no)
 
 -- what is right of the parts of these blocks, from the k-th on
 record PartsRight (parts : List Part) (first k : ℕ) (blocks : List (Block Location)) : Type 0 where
@@ -386,12 +384,12 @@ pub can_stand : (f : Code Location) (slots : ℕ) (copies : Bool) → IsCode f s
     → CanStand (layout f slots copies) i b
 can_stand f slots copies is small i b e low =
     let known = and_parts (list_all (λ (d : Destination Location). is_place slots d.place) f.params) (list_all (block_keeps (is_place slots)) f.blocks) is.known in
-    let keeps = each (block_keeps (is_place slots)) f.blocks i b known.1 e in
-    let inside = each (λ (d : Block Location). leads_inside (length f.blocks) d.jump) f.blocks i b is.regular.inside e in
+    let keeps = all_at (block_keeps (is_place slots)) f.blocks i b known.1 e in
+    let inside = all_at (λ (d : Block Location). leads_inside (length f.blocks) d.jump) f.blocks i b is.regular.inside e in
     let within = block_within f.blocks i b e in
-    let all = le_is _ ALLOC_BYTES is.regular.small in
+    let all = leb-true _ ALLOC_BYTES is.regular.small in
     record {
       room = omega (arith, within, all);
-      few = each (λ (d : Block Location). list_all passes_few d.lines) f.blocks i b is.regular.few_args e;
+      few = all_at (λ (d : Block Location). list_all passes_few d.lines) f.blocks i b is.regular.few_args e;
       below = block_below (2 ^ 62) (layout f slots copies) slots (length f.blocks) i b (omega (arith, small)) (omega (arith, small)) low keeps inside;
     }

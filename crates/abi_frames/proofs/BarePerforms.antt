@@ -1,8 +1,8 @@
 -- A function with ways without a frame keeps its promise: copies of blocks do what the blocks do, with no frame, until the frame begins.
 use Rattle.std.proofs.Common.{◌≡◌, ℕ, zero, suc, ◌+◌, ◌-◌, ◌%◌, ◌^◌, ◌<◌, ◌≤◌, Bool, true, false, List, [], ◌∷◌, ◌++◌, refl, sym, ◌∙◌, ap, subst, arith, lit<, lit≤, zero-add, append_assoc, append-nil}
-use Rattle.std.specs.Prelude.{nat_eq, nat_lt, nat_le, if◌then◌else◌, map, length, slice_get, Option, Some, None}
+use Rattle.std.specs.Prelude.{nat_eq, nat_le, if◌then◌else◌, map, length, slice_get, Option, Some, None}
 use Rattle.std.specs.List.{list_all, sum_by}
-use Rattle.std.proofs.lemmas.Bool.{and_parts}
+use Rattle.std.proofs.lemmas.Bool.{and_parts, ltb-true, leb-true}
 use Rattle.std.proofs.lemmas.Bool.Decides.{nat_tests}
 use Rattle.il_ast.specs.declared.limits.TheConstants.{FUNCTION_WEIGHT}
 use Rattle.rv_isa.specs.State.{State}
@@ -36,15 +36,18 @@ use Rattle.operation_code.proofs.Leading.{Site, StandAt, Reaches, Leads, leads_t
 use Rattle.abi_frames.proofs.Activations.{Setting, IsSetting, site, bottom, value_at, place_is, is_held, held_below, Framed}
 use Rattle.abi_frames.proofs.Saving.{held_all, few_saved_registers}
 use Rattle.abi_frames.proofs.FrameEnds.{savable, PointerMoved, leads_lower, AllSaved, leads_save_all}
-use Rattle.abi_frames.proofs.JumpCode.{moved_scratched}
+use Rattle.abi_frames.proofs.JumpCode.{moved_scratched, label_place}
 use Rattle.abi_frames.proofs.Pacing.{landing}
-use Rattle.abi_frames.proofs.Sizes.{prologue_size, entry_size, le_is}
+use Rattle.abi_frames.proofs.Sizes.{prologue_size, entry_size}
 use Rattle.abi_frames.proofs.Entering.{Entering, ArePassed, CanTake, argument_in, leads_entry}
 use Rattle.abi_frames.proofs.Simulation.{BlockStands, CodeStands, Landed, Handed, framed_same}
 use Rattle.abi_frames.proofs.Simulating.{follows, enter}
-use Rattle.abi_frames.proofs.Starting.{stand_after, BlockCode, each, begun_spots, block_within, made_first, block_stands, classes, length-classes, are_passed, ready_passes, setting, is_setting, never}
-use Rattle.abi_frames.proofs.BareStanding.{lowered, at_label, label_is, fronts_begin, FrontCode, fronts_stand, copy_stands, kept_stand, first_kept}
+use Rattle.abi_frames.proofs.Starting.{stand_after, BlockCode, begun_spots, block_within, made_first, block_stands, classes, length-classes, are_passed, ready_passes, setting, is_setting, never}
+use Rattle.abi_frames.proofs.BareStanding.{lowered, at_label, fronts_begin, FrontCode, fronts_stand, copy_stands, kept_stand, first_kept}
 use Rattle.abi_frames.proofs.BareFacts.{IsBare, params_bare, EntryRight, entry_right, PartRight, part_right, has_copy, CopyRight, copy_right, begin_right, kept_right}
+use Rattle.il_ast.proofs.Truth.{equals_itself}
+use Rattle.il_ast.proofs.Listed.{all_at}
+use Rattle.il_ast.proofs.Chosen.{none_is_not}
 
 -- ---- behind the frame's begin, and in front of it
 
@@ -159,9 +162,6 @@ late_is c memory u is = record {
 moved_down : (x sp size : ℕ) → x ≡ sp → size ≤ sp → sp < 2 ^ 63 → (x + (2 ^ 64 - size)) % 2 ^ 64 ≡ sp - size
 moved_down x sp size e h small = omega (arith, e, h, small)
 
-none_is : (v : ℕ) (o : Option ℕ) → o ≡ None → o ≡ Some v → ⊥
-none_is v o e f = let no : ⊥ = cc in no
-
 -- places are as they were: those that have a value are registers
 late_places : (c : Setting) (parts : List Part) (numbers : Numbers) (memory : Spots) (u v w : State) → Framed (fronted c parts) numbers memory u
     → PointerMoved u (bottom c) v → ((n : ℕ) → n < 28 → w.registers n ≡ v.registers n)
@@ -171,7 +171,7 @@ late_places c parts numbers memory u v w framed one two (InRegister r) x good kn
     let from = place.from_5 in
     let to = place.to_27 in
     two r (omega (arith, to)) ∙ (one.others r (omega (arith, to)) (λ e. absurd (omega (arith, e, from))) ∙ framed.places (InRegister r) x good known)
-late_places c parts numbers memory u v w framed one two (Slot i) x good known = absurd (none_is x (numbers (Slot i)) (framed.unset i (omega arith)) known)
+late_places c parts numbers memory u v w framed one two (Slot i) x good known = absurd (none_is_not x (numbers (Slot i)) (framed.unset i (omega arith)) known)
 
 begins_late : (c : Setting) (parts : List Part) → IsSetting c → c.area ≡ 0 → list_all is_held c.saved ≡ true → (numbers : Numbers) (memory : Spots) (u : State)
     → Framed (fronted c parts) numbers memory u
@@ -206,8 +206,8 @@ begins_late c parts is none held numbers memory u framed =
         clear = λ x lo hi. framed.clear x lo hi;
         reach = λ x hi away. framed.reach x hi away;
         saved = λ k r e.
-            let ok = savable r (each _ c.saved k r is.savable e) in
-            two.saved k r e ∙ (one.others r ok.below ok.not_pointer ∙ framed.thread r (each is_held c.saved k r held e) ok.not_pointer refl);
+            let ok = savable r (all_at _ c.saved k r is.savable e) in
+            two.saved k r e ∙ (one.others r ok.below ok.not_pointer ∙ framed.thread r (all_at is_held c.saved k r held e) ok.not_pointer refl);
         thread = λ m kept other out. two.registers m (held_below m kept) ∙ (one.others m (held_below m kept) other ∙ framed.thread m kept other refl);
         others = λ x hi away.
             two.above x (omega (arith, hi, above, fits, saves)) ∙ (ap (λ (m : ℕ → ℕ). m x) one.bytes ∙ framed.others x hi away);
@@ -313,9 +313,6 @@ some_at [] i P h so = absurd (let no : ⊥ = omega (arith, h) in no)
 some_at (x ∷ xs) zero P h so = so x refl
 some_at (x ∷ xs) (suc i) P h so = some_at xs i P (omega (arith, h)) so
 
-two_ways : (b : Bool) → b ≡ true → b ≡ false → ⊥
-two_ways b e d = cc
-
 -- no block before `enter` stands behind the frame's begin
 none_before : (f : Code Location) (parts : List Part) (enter : ℕ) → enter < length f.blocks → ((i : ℕ) (b : Block Location) → slice_get f.blocks i ≡ Some b → PartRight parts enter i b)
     → (q : ℕ) → q < enter → is_kept_block parts q ≡ false
@@ -355,16 +352,6 @@ begin_stands c y rs itself parts first i b code is =
     at_label c (front_label y i) (begin_items y rs itself first i ++ more) code.place
     (subst (λ x. StandAt c (front_items y rs itself first i b x ++ more) code.place) is code.stands)
 
-eq_self : (n : ℕ) → nat_eq n n ≡ true
-eq_self n = by_test (nat_eq n n) refl
-  where
-    by_test : (b : Bool) → nat_eq n n ≡ b → nat_eq n n ≡ true
-    by_test true e = e
-    by_test false e = absurd (let no : ⊥ = grind (arith, nat_tests) in no)
-
-lt_is : (a b : ℕ) → nat_lt a b ≡ true → a < b
-lt_is a b h = grind (arith, nat_tests)
-
 -- the front of the block `first`
 first_front : (parts : List Part) (o : Option Part) → part_passes (λ p. begins_frame p.front) o ≡ true → front_of o ≡ Begin
 first_front parts None h = absurd (let no : ⊥ = cc in no)
@@ -377,7 +364,7 @@ first_front parts (Some p) h = by_front p.front h
 
 itself_at : (c : Setting) (f : Code Location) (slots : ℕ) (parts : List Part) (first : ℕ) → WaysCode c f slots parts first → Itself c f parts
 itself_at c f slots parts first w =
-    some_at f.blocks first (Itself c f parts) (lt_is first (length f.blocks) w.entry.inside)
+    some_at f.blocks first (Itself c f parts) (ltb-true first (length f.blocks) w.entry.inside)
     (λ b e.
     let itself : List Item = framed_items c.layout c.saved parts f.blocks in
     let code = front_code c f slots parts first w first b e in
@@ -387,7 +374,7 @@ itself_at c f slots parts first w =
     let s = stand_after (site c) (prologue c.layout c.saved) ((if nat_eq first first then itself else Goto first ∷ []) ++ more) (c.label (front_label c.layout first))
     (subst (λ is. StandAt (site c) is (c.label (front_label c.layout first))) split here) in
     let stands : StandAt (site c) (itself ++ more) s.place =
-    subst (λ (t : Bool). StandAt (site c) ((if t then itself else Goto first ∷ []) ++ more) s.place) (eq_self first) s.stands in
+    subst (λ (t : Bool). StandAt (site c) ((if t then itself else Goto first ∷ []) ++ more) s.place) (equals_itself first) s.stands in
     record { rest = more; at = s.place; stands = subst (λ is. StandAt (site c) is s.place) (itself_assoc c f parts more) stands })
 
 -- the blocks behind the frame's begin
@@ -425,7 +412,7 @@ hands_on c f slots parts first w i b e some none j r n fs k u a new log goes all
     let more : List Item = Label (front_label c.layout (i + 1)) ∷ code.rest in
     let begin = begin_right parts first i b (w.right i b e) some none in
     let here = begin_stands (site c) c.layout c.saved itself parts first i b code (ap front_of begin.there ∙ begin.front) in
-    let inside : first < length f.blocks = lt_is first (length f.blocks) w.entry.inside in
+    let inside : first < length f.blocks = ltb-true first (length f.blocks) w.entry.inside in
     let stands = kept_code c f slots parts first w in
     let begun = begin_goes c parts itself first i (landing f i) more fs k u w.setting (w.same_area ∙ w.entry.no_area)
     (subst (λ rs. list_all is_held rs ≡ true) (sym w.same_saved) (held_all f)) stands.few_saved w.reserve here
@@ -442,18 +429,18 @@ hands_on c f slots parts first w i b e some none j r n fs k u a new log goes all
 bare_stands : (c : Setting) (f : Code Location) (slots : ℕ) (parts : List Part) → IsCode f slots → c.area ≡ area f → (b : Block Location) (i : ℕ) → slice_get f.blocks i ≡ Some b
     → IsBare b → leads (is_fronted parts) b.jump ≡ true → BlockCode (lowered (site c) (fronts_from c.layout)) (bare_layout c.layout) [] b i → BlockStands (fronted c parts) b i
 bare_stands c f slots parts is same_area b i e bare goes code =
-    let pays = each is_paid f.blocks i b is.regular.paid e in
-    let inside = each (λ (d : Block Location). leads_inside (length f.blocks) d.jump) f.blocks i b is.regular.inside e in
+    let pays = all_at is_paid f.blocks i b is.regular.paid e in
+    let inside = all_at (λ (d : Block Location). leads_inside (length f.blocks) d.jump) f.blocks i b is.regular.inside e in
     let within = block_within f.blocks i b e in
     let passes = bare.passes in
-    let paced = each (λ (d : Block Location). nat_le (sum_by turns_of d.lines) FUNCTION_WEIGHT) f.blocks i b is.regular.paced e in
+    let paced = all_at (λ (d : Block Location). nat_le (sum_by turns_of d.lines) FUNCTION_WEIGHT) f.blocks i b is.regular.paced e in
     record {
       rest = code.rest;
       stands = code.stands;
       known = bare.known;
       jump_known = bare.jump_known;
       paid = pays;
-      paced = le_is (sum_by turns_of b.lines) FUNCTION_WEIGHT paced;
+      paced = leb-true (sum_by turns_of b.lines) FUNCTION_WEIGHT paced;
       blocks = length f.blocks;
       inside = inside;
       room = omega (arith, within, same_area);
@@ -506,7 +493,7 @@ comes_in c parts j none same pointer memory clear =
     record {
       framed = record {
         pointer = pointer ∙ level;
-        places = λ p v good known. absurd (none_is v None refl known);
+        places = λ p v good known. absurd (none_is_not v None refl known);
         spots = subst (λ (q : Spots). HoldsSpots c.world.memory_map q c.start) (sym same) memory;
         clear = λ x lo hi. ap (λ (q : Spots). q x) same ∙ clear x lo (omega (arith, hi));
         reach = λ x hi away. away;
@@ -565,7 +552,7 @@ performs_bare w at label global addresses f slots copies parts first ways is wor
     let count = length-classes f.params in
     let can : CanTake (entered c parts) (length f.params) 0 f.params = record {
       count = omega arith;
-      few = le_is (length f.params) 64 is.regular.few_params;
+      few = leb-true (length f.params) 64 is.regular.few_params;
       fits = omega (arith, below, count);
       places = bare.0;
       may = bare.1;
@@ -578,12 +565,12 @@ performs_bare w at label global addresses f slots copies parts first ways is wor
     (comes_in c parts j entry.no_area refl ready.stack_pointer ready.memory clear)).from body
     (subst (λ a. StandAt (site c) (entries ++ body) a) (sym ready.place) stands) ready.fixed in
     let few = m.few in
-    let size = entry_size (bare_layout y) f.params (lit< tt) (le_is (length f.params) 64 is.regular.few_params) is.near in
+    let size = entry_size (bare_layout y) f.params (lit< tt) (leb-true (length f.params) 64 is.regular.few_params) is.near in
     let begins = fronts_begin y rs (framed_items y rs parts f.blocks) parts first 0 f.blocks end (sym (zero-add (length f.blocks))) in
     let in_code = fronts_code c f slots parts first code in
     enter z f in_code j r n (follows z f in_code j r n) 0 (flat_begin f (sp - area f) j) m.steps m.after entry.first
     (record {
-      place = sym (label_is (site c) (front_label y 0) begins.rest m.after.pc (subst (λ l. StandAt (site c) l m.after.pc) begins.same m.stands));
+      place = sym (label_place (site c) (front_label y 0) begins.rest m.after.pc (subst (λ l. StandAt (site c) l m.after.pc) begins.same m.stands));
       fixed = m.fixed;
       framed = entered_framed c parts numbers j.memory m.after m.holds.framed;
       comes = m.comes;

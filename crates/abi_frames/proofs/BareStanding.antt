@@ -15,6 +15,8 @@ use Rattle.abi_frames.specs.Emission.{lines_items, jump_items, block_items}
 use Rattle.abi_frames.specs.BareWays.{is_kept_block, bare_layout, fronts_from, front_label, raised, copied_items, begin_items, front_items, front_of, fronts_items, kept_block_items, kept_items}
 use Rattle.operation_code.proofs.Leading.{Site, StandAt}
 use Rattle.abi_frames.proofs.Starting.{stand_after, BlockCode}
+use Rattle.std.proofs.lemmas.Option.{same_Some}
+use Rattle.abi_frames.proofs.JumpCode.{label_place}
 
 -- ---- code without what follows it, and with lower labels
 
@@ -38,10 +40,6 @@ lower c n (Relocated r ∷ is) a stands = (stands.0, stands.1, lower c n is stan
 pub at_label : (c : Site) (l : ℕ) (is : List Item) (a : ℕ) → StandAt c (Label l ∷ is) a → StandAt c is (c.label l)
 unfolding Stand Stands
 at_label c l is a stands = subst (λ x. StandAt c is x) (stands.1.1 ∙ sym stands.1.0) stands.2
-
-pub label_is : (c : Site) (l : ℕ) (is : List Item) (a : ℕ) → StandAt c (Label l ∷ is) a → c.label l ≡ a
-unfolding Stand Stands
-label_is c l is a stands = stands.1.0
 
 -- ---- what stands in front
 
@@ -77,9 +75,6 @@ pub record FrontCode (c : Site) (y : Layout) (rs : List ℕ) (itself : List Item
   pub place : ℕ
   pub stands : StandAt c (front_items y rs itself enter k b (front_of (slice_get parts k)) ++ (Label (front_label y (k + 1)) ∷ rest)) place
 
-some_block : (a b : Block Location) → Some a ≡ Some b → a ≡ b
-some_block a b e = cc
-
 pub fronts_stand : (c : Site) (y : Layout) (rs : List ℕ) (itself : List Item) (parts : List Part) (enter k : ℕ) (blocks : List (Block Location)) (tail : List Item) (a : ℕ)
     → y.leave ≡ k + length blocks → StandAt c (fronts_items y rs itself parts enter k blocks ++ (Label (front_label y y.leave) ∷ tail)) a
     → (i : ℕ) (b : Block Location) → slice_get blocks i ≡ Some b → FrontCode c y rs itself parts enter b (k + i)
@@ -94,7 +89,7 @@ fronts_stand c y rs itself parts enter k (d ∷ blocks) tail a leave stands zero
       place = a;
       stands = subst (λ x. StandAt c (here ++ x) a) next.same (subst (λ l. StandAt c l a) (append_assoc here more last) stands);
     } in
-    subst (λ x. FrontCode c y rs itself parts enter x (k + zero)) (some_block d b e) (subst (λ n. FrontCode c y rs itself parts enter d n) (no_more k) code)
+    subst (λ x. FrontCode c y rs itself parts enter x (k + zero)) (same_Some d b e) (subst (λ n. FrontCode c y rs itself parts enter d n) (no_more k) code)
   where
     no_more : (n : ℕ) → n ≡ n + zero
     no_more n = omega arith
@@ -159,7 +154,7 @@ kept_stand c y rs parts k (d ∷ blocks) tail a leave stands zero b e kept =
       rest = next.rest;
       stands = subst (λ x. StandAt c (body ++ x) (c.label k)) next.same (at_label c k (body ++ (more ++ last)) a whole);
     } in
-    subst (λ x. BlockCode c y rs x (k + zero)) (some_block d b e) (subst (λ n. BlockCode c y rs d n) (no_more k) code)
+    subst (λ x. BlockCode c y rs x (k + zero)) (same_Some d b e) (subst (λ n. BlockCode c y rs d n) (no_more k) code)
   where
     no_more : (n : ℕ) → n ≡ n + zero
     no_more n = omega arith
@@ -184,7 +179,7 @@ pub first_kept : (c : Site) (y : Layout) (rs : List ℕ) (parts : List Part) (k 
     → (i : ℕ) → i ≤ length blocks → ((q : ℕ) → q < i → is_kept_block parts (k + q) ≡ false) → c.label (k + i) ≡ a
 first_kept c y rs parts k blocks tail a leave stands zero inside none =
     let begins = kept_begins y rs parts k blocks tail leave in
-    ap c.label (let same : k + zero ≡ k = omega arith in same) ∙ label_is c k begins.rest a (subst (λ l. StandAt c l a) begins.same stands)
+    ap c.label (let same : k + zero ≡ k = omega arith in same) ∙ label_place c k begins.rest a (subst (λ l. StandAt c l a) begins.same stands)
 first_kept c y rs parts k [] tail a leave stands (suc i) inside none = absurd (let no : ⊥ = omega (arith, inside) in no)
 first_kept c y rs parts k (d ∷ blocks) tail a leave stands (suc i) inside none =
     let more : List Item = kept_items y rs parts (k + 1) blocks in
@@ -196,7 +191,7 @@ first_kept c y rs parts k (d ∷ blocks) tail a leave stands (suc i) inside none
     ap c.label place
     ∙ (first_kept c y rs parts (k + 1) blocks tail (c.label k) (later leave) (at_label c k (more ++ last) a whole) i (omega (arith, inside))
     (λ q few. ap (is_kept_block parts) (next q) ∙ none (suc q) (omega (arith, few)))
-    ∙ label_is c k (more ++ last) a whole)
+    ∙ label_place c k (more ++ last) a whole)
   where
     no_more : (n : ℕ) → n ≡ n + zero
     no_more n = omega arith

@@ -1,6 +1,6 @@
 -- Which branches of the machine are taken.
-use Rattle.std.proofs.Common.{◌≡◌, ℕ, ◌+◌, ◌%◌, ◌^◌, Bool, true, false, List, ◌∷◌, refl, sym, ◌∙◌, ap, subst, arith, lit<, mod-lt}
-use Rattle.std.specs.Prelude.{◌==◌, not, nat_eq, nat_lt, int_lt, int_le, if◌then◌else◌}
+use Rattle.std.proofs.Common.{◌≡◌, ℕ, ◌+◌, ◌%◌, ◌^◌, Bool, List, ◌∷◌, refl, sym, ◌∙◌, ap, subst, arith, lit<, mod-lt}
+use Rattle.std.specs.Prelude.{◌==◌, not, nat_eq, nat_lt, int_lt, if◌then◌else◌}
 use Rattle.std.specs.Int.{cast_signed, w64}
 use Rattle.std.proofs.lemmas.Bool.Decides.{nat_tests}
 use Rattle.il_ast.specs.declared.operation.Class.{Class}
@@ -17,31 +17,25 @@ use Rattle.vcode.proofs.Comparing.{holds_extended}
 use Rattle.flat_code.specs.Step.{taken as taken_as}
 use Rattle.abi_frames.specs.Emission.{branch_when, inverted}
 use Rattle.operation_code.proofs.Leading.{Site, in_register}
-use Rattle.operation_code.proofs.Comparing.{le_is_not_lt, int_le_is}
+use Rattle.operation_code.proofs.Comparing.{le_is_not_lt, signed_le_is_not_lt}
 use Rattle.operation_code.proofs.Forms.{as_read}
+use Rattle.il_ast.proofs.Truth.{not_not}
 
 same_test : (a b : ℕ) → (a == b) ≡ nat_eq a b
 same_test a b = grind (arith, nat_tests)
 
-signed_le : (a b : ℕ) → not (int_lt (cast_signed w64 b) (cast_signed w64 a)) ≡ int_le (cast_signed w64 a) (cast_signed w64 b)
-signed_le a b = int_le_is (cast_signed w64 a) (cast_signed w64 b)
-
-twice : (b : Bool) → not (not b) ≡ b
-twice true = refl
-twice false = refl
-
 -- what holds where the condition doesn't
 pub inverted_holds : (on : Condition) (a b : ℕ) → holds (inverted on) L a b ≡ not (holds on L a b)
 inverted_holds Equal a b = refl
-inverted_holds NotEqual a b = sym (twice (nat_eq a b))
-inverted_holds SignedLess a b = sym (signed_le b a)
-inverted_holds SignedGreater a b = sym (signed_le a b)
-inverted_holds SignedLessEqual a b = sym (twice (int_lt (cast_signed w64 b) (cast_signed w64 a))) ∙ ap not (signed_le a b)
-inverted_holds SignedGreaterEqual a b = sym (twice (int_lt (cast_signed w64 a) (cast_signed w64 b))) ∙ ap not (signed_le b a)
+inverted_holds NotEqual a b = sym (not_not (nat_eq a b))
+inverted_holds SignedLess a b = sym (signed_le_is_not_lt b a)
+inverted_holds SignedGreater a b = sym (signed_le_is_not_lt a b)
+inverted_holds SignedLessEqual a b = sym (not_not (int_lt (cast_signed w64 b) (cast_signed w64 a))) ∙ ap not (signed_le_is_not_lt a b)
+inverted_holds SignedGreaterEqual a b = sym (not_not (int_lt (cast_signed w64 a) (cast_signed w64 b))) ∙ ap not (signed_le_is_not_lt b a)
 inverted_holds UnsignedLess a b = sym (le_is_not_lt b a)
 inverted_holds UnsignedGreater a b = sym (le_is_not_lt a b)
-inverted_holds UnsignedLessEqual a b = sym (twice (nat_lt b a)) ∙ ap not (le_is_not_lt a b)
-inverted_holds UnsignedGreaterEqual a b = sym (twice (nat_lt a b)) ∙ ap not (le_is_not_lt b a)
+inverted_holds UnsignedLessEqual a b = sym (not_not (nat_lt b a)) ∙ ap not (le_is_not_lt a b)
+inverted_holds UnsignedGreaterEqual a b = sym (not_not (nat_lt a b)) ∙ ap not (le_is_not_lt b a)
 
 -- it goes to the label where the condition holds
 abbrev Goes : Site → State → (from to : ℕ) → Bool → Type 0
@@ -54,8 +48,8 @@ when_taken c s Equal x y l p q fixed at h = subst (Goes c s q l) (same_test (in_
 when_taken c s NotEqual x y l p q fixed at h = subst (Goes c s q l) (ap not (same_test (in_register s x) (in_register s y))) (h s fixed at)
 when_taken c s SignedLess x y l p q fixed at h = h s fixed at
 when_taken c s SignedGreater x y l p q fixed at h = h s fixed at
-when_taken c s SignedLessEqual x y l p q fixed at h = subst (Goes c s q l) (signed_le (in_register s x) (in_register s y)) (h s fixed at)
-when_taken c s SignedGreaterEqual x y l p q fixed at h = subst (Goes c s q l) (signed_le (in_register s y) (in_register s x)) (h s fixed at)
+when_taken c s SignedLessEqual x y l p q fixed at h = subst (Goes c s q l) (signed_le_is_not_lt (in_register s x) (in_register s y)) (h s fixed at)
+when_taken c s SignedGreaterEqual x y l p q fixed at h = subst (Goes c s q l) (signed_le_is_not_lt (in_register s y) (in_register s x)) (h s fixed at)
 when_taken c s UnsignedLess x y l p q fixed at h = h s fixed at
 when_taken c s UnsignedGreater x y l p q fixed at h = h s fixed at
 when_taken c s UnsignedLessEqual x y l p q fixed at h = subst (Goes c s q l) (le_is_not_lt (in_register s x) (in_register s y)) (h s fixed at)

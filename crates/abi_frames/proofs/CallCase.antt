@@ -3,7 +3,7 @@ use Rattle.std.proofs.Common.{◌≡◌, ℕ, suc, ◌+◌, ◌-◌, ◌*◌, �
 use Rattle.std.specs.Prelude.{◌&&◌, nat_le, length, map, max, slice_get, Option, Some, None}
 use Rattle.std.specs.Option.{option_map}
 use Rattle.std.specs.List.{list_all}
-use Rattle.std.proofs.lemmas.Bool.{and_parts}
+use Rattle.std.proofs.lemmas.Bool.{and_parts, leb-true}
 use Rattle.std.proofs.lemmas.List.Sums.{sum_by-cons}
 use Rattle.il_ast.specs.declared.operation.Class.{Class}
 use Rattle.il_ast.specs.declared.operation.Class.TheVariants.{W, L}
@@ -41,10 +41,11 @@ use Rattle.abi_frames.proofs.Activations.{Setting, IsSetting, site, bottom, oper
 use Rattle.abi_frames.proofs.Pacing.{few_standing}
 use Rattle.rv_isa.specs.declared.labelled.Item.TheVariants.{Label}
 use Rattle.abi_frames.proofs.LineCode.{leads_set_line}
-use Rattle.abi_frames.proofs.Sizes.{call_parts, le_is}
+use Rattle.abi_frames.proofs.Sizes.{call_parts}
 use Rattle.abi_frames.proofs.Passing.{in_place}
 use Rattle.abi_frames.proofs.Calling.{leads_prepared, goes_to, ready, SameFrame, same_frame, framed_back}
 use Rattle.abi_frames.proofs.Simulation.{CodeStands, At, Performed, step_of, Log, Follows, Then, undefined, stands_here, nothing_taken, later_fits, next_index, may_write}
+use Rattle.std.proofs.lemmas.Option.{same_Some}
 
 -- ---- what is known of the line
 
@@ -144,7 +145,7 @@ resumed : (c : Setting) (f : Code Location) (b : Block Location) (to : Option (D
 resumed c f b to callee args lines fs k u a at given d wants before t x now back numbers m =
     let cost : ℕ = 20 + 24 * length args in
     let parts = and_parts (nat_le cost a.credit) (affords (a.credit - cost) b.jump lines) a.paid in
-    let enough = le_is cost a.credit parts.0 in
+    let enough = leb-true cost a.credit parts.0 in
     let size = call_parts c.layout to callee args in
     let few = d.few in
     let few_more = m.few in
@@ -182,12 +183,9 @@ resumed c f b to callee args lines fs k u a at given d wants before t x now back
     }
 
 -- how a number stands in a place is how it is passed
-held_is_passed : (q : Class) (n : ℕ) → passed q n ≡ held q n
+pub held_is_passed : (q : Class) (n : ℕ) → passed q n ≡ held q n
 held_is_passed W n = refl
 held_is_passed L n = refl
-
-some_is : (a b : ℕ) → Some a ≡ Some b → a ≡ b
-some_is a b e = cc
 
 -- the result that is wanted, from x10
 received : (c : Setting) → IsSetting c → (numbers : Numbers) (now : Spots) (w : State) (d : Destination Location) (n : ℕ) → Framed c numbers now w
@@ -201,7 +199,7 @@ received c is numbers now w d n framed good may result =
     (leads_set_line c is w d.place (In (InRegister 10)) framed.pointer good refl)
     (λ z fixed made. (
       assigned c is numbers now w z d.place v (Some (held d.class n)) good may framed made
-          (λ y e. result ∙ (held_is_passed d.class n ∙ some_is (held d.class n) y e)),
+          (λ y e. result ∙ (held_is_passed d.class n ∙ same_Some (held d.class n) y e)),
       assigned_output c w d.place v z made,
     ))
 
@@ -250,7 +248,7 @@ stopped : (c : Setting) (f : Code Location) (b : Block Location) (to : Option (D
     → (d : Departs c to callee args at given tail u) → (t : Spent) (stop : Stop) → Stops d.v t stop → Stops c.start (both one_call (both fs.spent t)) stop
 stopped c f b to callee args lines fs k u a at given tail d t stop there =
     let cost : ℕ = 20 + 24 * length args in
-    let enough = le_is cost a.credit (and_parts (nat_le cost a.credit) (affords (a.credit - cost) b.jump lines) a.paid).0 in
+    let enough = leb-true cost a.credit (and_parts (nat_le cost a.credit) (affords (a.credit - cost) b.jump lines) a.paid).0 in
     let size = call_parts c.layout to callee args in
     let few = d.few in
     let price = a.price in
@@ -270,7 +268,7 @@ kept_on : (c : Setting) (f : Code Location) (b : Block Location) (to : Option (D
     → (d : Departs c to callee args at given tail u) → (t : Spent) → KeepsOn d.v t → KeepsOn c.start (both one_call (both fs.spent t))
 kept_on c f b to callee args lines fs k u a at given tail d t there =
     let cost : ℕ = 20 + 24 * length args in
-    let enough = le_is cost a.credit (and_parts (nat_le cost a.credit) (affords (a.credit - cost) b.jump lines) a.paid).0 in
+    let enough = leb-true cost a.credit (and_parts (nat_le cost a.credit) (affords (a.credit - cost) b.jump lines) a.paid).0 in
     let size = call_parts c.layout to callee args in
     let few = d.few in
     let some = d.some in

@@ -5,7 +5,7 @@ use Rattle.std.specs.Option.{option_map, option_and_then}
 use Rattle.std.specs.List.{list_all}
 use Rattle.std.proofs.lemmas.Bool.{and_parts}
 use Rattle.std.proofs.lemmas.Bool.Decides.{nat_tests}
-use Rattle.std.proofs.lemmas.Option.{slice_get_within}
+use Rattle.std.proofs.lemmas.Option.{slice_get_within, same_Some, none-some}
 use Rattle.bits.specs.Words.{sign_extended}
 use Rattle.il_ast.specs.declared.operation.Class.{Class}
 use Rattle.il_ast.specs.declared.operation.Class.TheVariants.{W, L}
@@ -300,12 +300,6 @@ goes_to c is s u (Name g) to rest has is_to even stands fixed = goes_to_name (si
 
 -- ---- what the arguments are
 
-same_number : (a b : ℕ) → Some a ≡ Some b → a ≡ b
-same_number a b e = cc
-
-no_number : (x : ℕ) → None ≡ Some x → ⊥
-no_number x e = let no : ⊥ = cc in no
-
 -- y is what is passed of the number x, and what the machine passes is how it stands
 pub record PassedSo (t : Extension) (k : Class) (x y : ℕ) : Type 0 where
   pub is : taken k x ≡ y
@@ -318,16 +312,16 @@ claimed_stands x h = sym (ap sign_extended (again x) ∙ h)
     again n = omega arith
 
 pub passed_so : (t : Extension) (k : Class) (x y : ℕ) → read_passed t k x ≡ Some y → PassedSo t k x y
-passed_so Made k x y h = record { is = same_number (taken k x) y h; stands = refl }
-passed_so Claimed L x y h = record { is = same_number x y h; stands = refl }
+passed_so Made k x y h = record { is = same_Some (taken k x) y h; stands = refl }
+passed_so Claimed L x y h = record { is = same_Some x y h; stands = refl }
 passed_so Claimed W x y h = by_test (is_extended x) refl h
   where
     by_test : (b : Bool) → is_extended x ≡ b → (if b then Some (taken W x) else None) ≡ Some y → PassedSo Claimed W x y
     by_test true e f = record {
-      is = same_number (taken W x) y f;
+      is = same_Some (taken W x) y f;
       stands = claimed_stands x (let same : sign_extended (x % 2 ^ 32) ≡ x = grind (arith, nat_tests) in same);
     }
-    by_test false e f = absurd (no_number y f)
+    by_test false e f = absurd (none-some y f)
 
 -- the arguments that are read, one after another
 pub record ReadMore (c : Setting) (numbers : Numbers) (a : Argument Location) (args : List (Argument Location)) (xs : List ℕ) : Type 0 where
@@ -381,7 +375,7 @@ sends c is numbers memory s framed (a ∷ args) good xs known zero k n e d =
     let parts = and_parts (in_place c.slots a) (list_all (in_place c.slots) args) good in
     let more = read_more c numbers a args xs known in
     let first : taken a.class more.first ≡ n =
-    same_number (taken a.class more.first) n (ap (λ (ys : List ℕ). slice_get ys zero) (sym more.all) ∙ d) in
+    same_Some (taken a.class more.first) n (ap (λ (ys : List ℕ). slice_get ys zero) (sym more.all) ∙ d) in
     let value : operand_in c s a.value ≡ more.first = operand_known c numbers memory s a.value more.first is framed parts.0 more.is_first in
     record {
       argument = a;
@@ -399,7 +393,7 @@ sends c is numbers memory s framed (a ∷ args) good xs known (suc i) k n e d =
 
 -- ---- the machine is ready for the callee
 
-byte_has_access : (m : Spot) (n : ℕ) → m ≡ ThisByte n → m ≡ NoAccess → ⊥
+pub byte_has_access : (m : Spot) (n : ℕ) → m ≡ ThisByte n → m ≡ NoAccess → ⊥
 byte_has_access m n e f = let no : ⊥ = cc in no
 
 spots_then : (c : Setting) → IsSetting c → (numbers : Numbers) (memory : Spots) (s u v : State) (args : List (Argument Location)) → Framed c numbers memory s

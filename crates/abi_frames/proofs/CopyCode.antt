@@ -29,7 +29,8 @@ use Rattle.abi_frames.proofs.StackAccesses.{leads_load_at, UsableFrom, is_28, is
 use Rattle.operation_code.proofs.Instructions.{leads_add_low}
 use Rattle.abi_frames.proofs.Activations.{Setting, IsSetting, site, bottom, operand_in}
 use Rattle.abi_frames.proofs.LineCode.{Scratched, leads_into, operand_same}
-use Rattle.abi_frames.proofs.Accesses.{Written, leads_store_any, stored_byte, byte_later}
+use Rattle.abi_frames.proofs.Accesses.{Written, leads_store_any, stored_byte}
+use Rattle.flat_code.proofs.Storing.{byte_later}
 
 -- ---- bytes that were copied
 

@@ -3,7 +3,7 @@ use Rattle.std.proofs.Common.{inl, inr, ◌≡◌, ℕ, zero, suc, ◌+◌, ◌-
 use Rattle.std.specs.Prelude.{◌&&◌, ◌||◌, nat_eq, nat_le, if◌then◌else◌, Option, Some, None}
 use Rattle.std.specs.List.{list_all}
 use Rattle.std.specs.Option.{option_and_then}
-use Rattle.std.proofs.lemmas.Bool.{and_parts}
+use Rattle.std.proofs.lemmas.Bool.{and_parts, eqb-true, leb-true}
 use Rattle.std.proofs.lemmas.Bool.Decides.{nat_tests}
 use Rattle.rv_isa.specs.State.{State}
 use Rattle.vcode.specs.declared.place.Location.{Location}
@@ -28,19 +28,13 @@ use Rattle.abi_frames.proofs.Simulation.{CodeStands, At, Performed, Log, Follows
 
 -- ---- the bytes after it
 
-eq_is : (a b : ℕ) → nat_eq a b ≡ true → a ≡ b
-eq_is a b h = grind (arith, nat_tests)
-
-le_is : (a b : ℕ) → nat_le a b ≡ true → a ≤ b
-le_is a b h = grind (arith, nat_tests)
-
 apart_is : (n from to : ℕ) → apart_or_same n from to ≡ true → Apart n from to
 apart_is n from to h = by_test (nat_eq from to) refl (nat_le (from + n) to) refl h
   where
     by_test : (a : Bool) → nat_eq from to ≡ a → (b : Bool) → nat_le (from + n) to ≡ b → (a || (b || nat_le (to + n) from)) ≡ true → Apart n from to
-    by_test true e b d k = inl (eq_is from to e)
-    by_test false e true d k = inr (inl (le_is (from + n) to d))
-    by_test false e false d k = inr (inr (le_is (to + n) from k))
+    by_test true e b d k = inl (eqb-true from to e)
+    by_test false e true d k = inr (inl (leb-true (from + n) to d))
+    by_test false e false d k = inr (inr (leb-true (to + n) from k))
 
 copied_changes : (c : Setting) (memory : Spots) (s u : State) (n from to : ℕ) → HoldsSpots c.world.memory_map memory s → all_there memory to n ≡ true
     → Copied s n from to u → Changed memory (with_copy memory n from to) s u
@@ -137,7 +131,7 @@ blit_at c f is j r n go b x y zero lines fs k u a log all p q is_x is_y goes =
     none_apart v w = by_test (nat_le v w) refl
       where
         by_test : (t : Bool) → nat_le v w ≡ t → Apart zero v w
-        by_test true e = let le = le_is v w e in inr (inl (omega (arith, le)))
+        by_test true e = let le = leb-true v w e in inr (inl (omega (arith, le)))
         by_test false e = let le : w ≤ v = grind (arith, nat_tests) in inr (inr (omega (arith, le)))
 blit_at c f is j r n go b x y (suc m) lines fs k u a log all p q is_x is_y goes = by_test (test) refl goes
   where

@@ -1,12 +1,11 @@
 -- Where the numbers of operands stand on entry, and that the operands of an early return are found there.
 use Rattle.std.proofs.Common.{◌≡◌, ℕ, ◌+◌, ◌-◌, ◌*◌, ◌%◌, ◌^◌, Bool, true, false, List, [], ◌∷◌, refl, sym, ◌∙◌, ap, arith, lit<, lit≤}
-use Rattle.std.specs.Prelude.{not, ◌||◌, nat_eq, nat_lt, if◌then◌else◌, Some, None}
+use Rattle.std.specs.Prelude.{not, ◌||◌, nat_lt, if◌then◌else◌, Some, None}
 use Rattle.std.specs.List.{list_any}
-use Rattle.std.proofs.lemmas.Bool.{and_parts}
-use Rattle.std.proofs.lemmas.Bool.Decides.{nat_tests}
+use Rattle.std.proofs.lemmas.Bool.{and_parts, eqb-true}
 use Rattle.rv_isa.specs.Memory.{number_at}
 use Rattle.vcode.specs.declared.place.Location.{Location}
-use Rattle.vcode.specs.declared.place.Location.TheVariants.{Register as InRegister, Slot}
+use Rattle.vcode.specs.declared.place.Location.TheVariants.{Register as InRegister}
 use Rattle.vcode.specs.declared.place.Destination.{Destination}
 use Rattle.vcode.specs.declared.place.Operand.{Operand}
 use Rattle.vcode.specs.declared.place.Operand.TheVariants.{At, Number, Name}
@@ -15,7 +14,8 @@ use Rattle.vcode.specs.Named.{is_place, are_distinct}
 use Rattle.flat_code.specs.Step.{Numbers, put, bound, held, number_of}
 use Rattle.abi_frames.specs.EarlyReturns.{argument_register, origin, operand_origin, is_bare, no_frame}
 use Rattle.abi_frames.proofs.Activations.{Setting, IsSetting, value_at, operand_in}
-use Rattle.abi_frames.proofs.Entering.{argument_in, ArePassed}
+use Rattle.abi_frames.proofs.Entering.{argument_in, ArePassed, same_is}
+use Rattle.std.proofs.lemmas.Option.{same_Some, none-some}
 
 -- ---- where there is no frame
 
@@ -43,15 +43,6 @@ bare_setting c is =
 
 -- ---- numbers of parameters
 
-eq_is : (a b : ℕ) → nat_eq a b ≡ true → a ≡ b
-eq_is a b h = grind (arith, nat_tests)
-
-same_is : (p q : Location) → same_location p q ≡ true → p ≡ q
-same_is (InRegister a) (InRegister b) h = ap InRegister (eq_is a b h)
-same_is (InRegister a) (Slot b) h = absurd (let no : ⊥ = cc in no)
-same_is (Slot a) (InRegister b) h = absurd (let no : ⊥ = cc in no)
-same_is (Slot a) (Slot b) h = ap Slot (eq_is a b h)
-
 -- no parameter of these has the place
 abbrev is_elsewhere : Location → List (Destination Location) → Bool
 is_elsewhere p ds = not (list_any (λ (e : Destination Location). same_location p e.place) ds)
@@ -71,12 +62,6 @@ bound_elsewhere numbers (d ∷ ds) (x ∷ xs) p away =
     by_test rest false e true k h = absurd (let no : ⊥ = cc in no)
     by_test rest false e false k h = rest k ∙ ap (λ (t : Bool). if t then Some (held d.class x) else numbers p) e
 
-some_is : (a b : ℕ) → Some a ≡ Some b → a ≡ b
-some_is a b e = cc
-
-none_is : (v : ℕ) → None ≡ Some v → ⊥
-none_is v e = let no : ⊥ = cc in no
-
 -- the register of an argument, where it is a place, has what was passed
 in_argument : (c : Setting) (k n : ℕ) → argument_in c c.start k ≡ n → is_place 0 (argument_register k) ≡ true → value_at (bare c) c.start (argument_register k) ≡ n
 in_argument c k n passed good = by_test (nat_lt k 8) passed good
@@ -90,8 +75,8 @@ in_argument c k n passed good = by_test (nat_lt k 8) passed good
 pub origin_known : (c : Setting) (k : ℕ) (ds : List (Destination Location)) (xs : List ℕ) (numbers : Numbers) (p : Location) (v : ℕ) → ArePassed c k ds xs
     → are_distinct located ds ≡ true → numbers p ≡ None → bound numbers ds xs p ≡ Some v → is_place 0 (origin k ds p) ≡ true
     → value_at (bare c) c.start (origin k ds p) ≡ v
-origin_known c k [] xs numbers p v passed apart none known good = absurd (none_is v (sym none ∙ known))
-origin_known c k (d ∷ ds) [] numbers p v passed apart none known good = absurd (none_is v (sym none ∙ known))
+origin_known c k [] xs numbers p v passed apart none known good = absurd (none-some v (sym none ∙ known))
+origin_known c k (d ∷ ds) [] numbers p v passed apart none known good = absurd (none-some v (sym none ∙ known))
 origin_known c k (d ∷ ds) (x ∷ xs) numbers p v passed apart none known good =
     by_test
     (λ away h. origin_known c (k + 1) ds xs (put d.place (Some (held d.class x)) numbers) p v passed.1
@@ -109,7 +94,7 @@ origin_known c k (d ∷ ds) (x ∷ xs) numbers p v passed apart none known good 
         let away : is_elsewhere p ds ≡ true = ap (λ (q : Location). is_elsewhere q ds) (same_is p d.place e) ∙ parts.0 in
         let here : Some (held d.class x) ≡ bound (put d.place (Some (held d.class x)) numbers) ds xs p =
         ap (λ (t : Bool). if t then Some (held d.class x) else numbers p) (sym e) ∙ sym (bound_elsewhere (put d.place (Some (held d.class x)) numbers) ds xs p away) in
-        in_argument c k v (passed.0 ∙ some_is (held d.class x) v (here ∙ known)) h
+        in_argument c k v (passed.0 ∙ same_Some (held d.class x) v (here ∙ known)) h
     by_test rest false e h = rest (ap (λ (t : Bool). if t then Some (held d.class x) else numbers p) e ∙ none) h
 
 -- what is known of an operand on entry, its origin has
@@ -117,5 +102,5 @@ pub operand_origin_known : (c : Setting) → IsSetting c → (ds : List (Destina
     → are_distinct located ds ≡ true → number_of c.addresses (bound (λ p. None) ds xs) a ≡ Some v → is_bare (operand_origin ds a) ≡ true
     → operand_in (bare c) c.start (operand_origin ds a) ≡ v
 operand_origin_known c is ds xs (At p) v passed apart known good = origin_known c 0 ds xs (λ q. None) p v passed apart refl known good
-operand_origin_known c is ds xs (Number n) v passed apart known good = some_is (n % 2 ^ 64) v known
+operand_origin_known c is ds xs (Number n) v passed apart known good = same_Some (n % 2 ^ 64) v known
 operand_origin_known c is ds xs (Name g) v passed apart known good = is.globals g v known

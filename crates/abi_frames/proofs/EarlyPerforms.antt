@@ -3,7 +3,7 @@ use Rattle.std.proofs.Common.{◌≡◌, ℕ, ◌+◌, ◌-◌, ◌*◌, ◌^◌
 use Rattle.std.specs.Prelude.{◌&&◌, nat_eq, nat_le, if◌then◌else◌, map, length, slice_get, Option, Some, None}
 use Rattle.std.specs.Option.{option_map, option_and_then}
 use Rattle.std.specs.List.{list_all, sum_by}
-use Rattle.std.proofs.lemmas.Bool.{and_parts}
+use Rattle.std.proofs.lemmas.Bool.{and_parts, leb-true}
 use Rattle.il_ast.specs.declared.limits.TheConstants.{FUNCTION_WEIGHT}
 use Rattle.il_ast.specs.declared.operation.Class.{Class}
 use Rattle.il_ast.specs.Operations.{holds, truth}
@@ -47,7 +47,7 @@ use Rattle.abi_frames.proofs.LineCode.{Scratched, operand_same}
 use Rattle.abi_frames.proofs.FrameEnds.{Ends}
 use Rattle.abi_frames.proofs.JumpCode.{Arrives, jumps_branch, way_by, meets}
 use Rattle.abi_frames.proofs.Calling.{PassedSo, passed_so}
-use Rattle.abi_frames.proofs.Sizes.{ValueShort, quick_size, test_size, le_is}
+use Rattle.abi_frames.proofs.Sizes.{ValueShort, quick_size, test_size}
 use Rattle.abi_frames.proofs.Entering.{ArePassed, argument_in}
 use Rattle.abi_frames.proofs.Simulation.{CodeStands, Performed, step_of, Log, Then, undefined}
 use Rattle.abi_frames.proofs.Simulating.{closed_known, closed_there, follows, enter}
@@ -235,7 +235,7 @@ quick_way c f slots j e r log call a m before t same_before turns output goes =
     ticks = and_parts (list_all is_tick early.end.lines) (nat_le (sum_by turns_of early.end.lines) 20000) early.quick_ticks
 
     few : sum_by turns_of early.end.lines ≤ 20000
-    few = le_is (sum_by turns_of early.end.lines) 20000 ticks.1
+    few = leb-true (sum_by turns_of early.end.lines) 20000 ticks.1
 
     memory : HoldsSpots c.world.memory_map j.memory c.start
     memory = call.ready.memory
@@ -399,7 +399,7 @@ early_way c f slots j e r log call met a n goes =
     right = passed_parts f early.block.lines early.on.right early.right
 
     few : sum_by turns_of early.block.lines ≤ 20000
-    few = le_is (sum_by turns_of early.block.lines) 20000 early.few
+    few = leb-true (sum_by turns_of early.block.lines) 20000 early.few
 
     to_quick : (w : Bool) → Ways early.met early.otherwise w early.quick → (z : Bool) → z ≡ w → (if nat_eq (truth z) 0 then early.otherwise else early.met) ≡ early.quick
     to_quick true ways true h = ways

@@ -37,8 +37,9 @@ use Rattle.abi_frames.proofs.FrameEnds.{savable, Ends, ends_then, Jumped, ends_g
 use Rattle.abi_frames.proofs.JumpCode.{leads_result}
 use Rattle.abi_frames.proofs.Entering.{Entering}
 use Rattle.abi_frames.proofs.Simulation.{step_of, Log, Then, next_index}
-use Rattle.abi_frames.proofs.Starting.{each}
 use Rattle.abi_frames.proofs.EarlyOrigins.{bare, bare_setting}
+use Rattle.std.proofs.lemmas.Option.{same_Some, none-some}
+use Rattle.il_ast.proofs.Listed.{all_at}
 
 -- ---- blocks that only tick
 
@@ -179,12 +180,6 @@ ends_so c is s P Q first so = record {
 kept_held : (n : ℕ) → is_kept n ≡ true → is_held n ≡ true
 kept_held n k = grind (arith, nat_tests)
 
-none_is : (v : ℕ) → None ≡ Some v → ⊥
-none_is v e = let no : ⊥ = cc in no
-
-some_is : (a b : ℕ) → Some a ≡ Some b → a ≡ b
-some_is a b e = cc
-
 pub ends_nothing : (c : Setting) (y : Layout) (u : State) → Scratched c.start u → c.start.registers 1 % 4 ≡ 0
     → Ends (site c) (quick_items y None) u (QuickBack c None)
 ends_nothing c y u same aligned =
@@ -193,7 +188,7 @@ ends_nothing c y u same aligned =
     (λ t h. record {
       place = h.place;
       kept = λ n k. let low = held_below n (kept_held n k) in h.registers n low ∙ same.registers n low;
-      result = λ n e. absurd (none_is n e);
+      result = λ n e. absurd (none-some n e);
       bytes = h.bytes ∙ same.bytes;
       output = h.output ∙ same.output;
     })
@@ -218,7 +213,7 @@ ends_value c is u k a same pointer aligned known =
       kept = λ m k.
           let low = held_below m (kept_held m k) in
           h.registers m low ∙ (one.others m (held_not_10 m (kept_held m k)) ∙ same.registers m low);
-      result = λ m e. h.registers 10 (lit< tt) ∙ (one.value ∙ some_is n m e);
+      result = λ m e. h.registers 10 (lit< tt) ∙ (one.value ∙ same_Some n m e);
       bytes = h.bytes ∙ (one.bytes ∙ same.bytes);
       output = h.output ∙ (one.output ∙ same.output);
     }))
@@ -235,7 +230,7 @@ later_framed c u w params k numbers good same h = (
     spots = h.framed.spots;
     clear = h.framed.clear;
     reach = h.framed.reach;
-    saved = λ i r e. h.framed.saved i r e ∙ same.registers r (savable r (each can_save c.saved i r good e)).below;
+    saved = λ i r e. h.framed.saved i r e ∙ same.registers r (savable r (all_at can_save c.saved i r good e)).below;
     thread = λ n kept other out. h.framed.thread n kept other out ∙ same.registers n (held_below n kept);
     others = λ x hi away. h.framed.others x hi away ∙ ap (λ (m : ℕ → ℕ). m x) same.bytes;
     unset = h.framed.unset;

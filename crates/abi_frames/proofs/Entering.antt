@@ -1,8 +1,8 @@
 -- Arguments come to the places of their parameters: from registers, and from the stack of the caller.
 use Rattle.std.proofs.Common.{◌≡◌, ◌≢◌, ℕ, zero, suc, ◌+◌, ◌-◌, ◌*◌, ◌%◌, ◌^◌, ◌<◌, ◌≤◌, Bool, true, false, List, [], ◌∷◌, ◌++◌, refl, sym, ◌∙◌, ap, subst, arith, lit<, lit≤, zero-add}
-use Rattle.std.specs.Prelude.{Option, ◌||◌, ◌&&◌, not, nat_eq, nat_lt, nat_le, if◌then◌else◌, length, slice_get, Some, None}
+use Rattle.std.specs.Prelude.{Option, ◌&&◌, not, nat_lt, nat_le, if◌then◌else◌, length, slice_get, Some, None}
 use Rattle.std.specs.List.{list_all, list_any}
-use Rattle.std.proofs.lemmas.Bool.{and_parts, and_from}
+use Rattle.std.proofs.lemmas.Bool.{and_parts, and_from, eqb-true}
 use Rattle.std.proofs.lemmas.Bool.Decides.{nat_tests}
 use Rattle.rv_isa.specs.State.{State}
 use Rattle.rv_isa.specs.Memory.{number_at, stored}
@@ -25,7 +25,9 @@ use Rattle.abi_frames.proofs.Activations.{beyond, Setting, IsSetting, site, bott
 use Rattle.abi_frames.proofs.Saving.{AllMayWrite}
 use Rattle.abi_frames.proofs.Arranging.{leads_copy, InRegisters, leads_passed}
 use Rattle.abi_frames.proofs.Sources.{source, sources_stand, source_at, AllApart, apart_more, source_is}
-use Rattle.abi_frames.proofs.Simulation.{framed_same}
+use Rattle.abi_frames.proofs.Simulation.{framed_same, next_index}
+use Rattle.std.proofs.lemmas.Option.{same_Some, none-some}
+use Rattle.il_ast.proofs.Truth.{neither_holds}
 
 -- ---- what holds before an argument is taken
 
@@ -47,9 +49,6 @@ pub record Took (c : Setting) (s : State) (p : Location) (v : ℕ) (u : State) :
   pub caller : u.registers 30 ≡ s.registers 30
 
 -- ---- one argument
-
-eq_is : (a b : ℕ) → nat_eq a b ≡ true → a ≡ b
-eq_is a b h = grind (arith, nat_tests)
 
 is_30 : IsReg 30
 is_30 = record { some = lit< tt; small = lit< tt }
@@ -179,12 +178,6 @@ argument_same c params from k numbers s later entering = by_test (nat_lt k 8) re
 abbrev pub nothing : Numbers
 nothing = λ p. None
 
-none_is : (v : ℕ) → None ≡ Some v → ⊥
-none_is v e = let no : ⊥ = cc in no
-
-some_is : (a b : ℕ) → Some a ≡ Some b → a ≡ b
-some_is a b e = cc
-
 took_keeps_stack : (c : Setting) → IsSetting c → (s : State) (p : Location) (v : ℕ) (u : State) → is_place c.slots p ≡ true → Assigned c s p v u
     → (x : ℕ) → c.sp ≤ x → u.bytes x ≡ s.bytes x
 took_keeps_stack c is s (InRegister r) v u good h x above = ap (λ (m : ℕ → ℕ). m x) h.bytes
@@ -231,11 +224,11 @@ bound_unset slots numbers (d ∷ ds) (x ∷ xs) good h i far =
 no_place : (slots i : ℕ) → slots ≤ i → is_place slots (Slot i) ≡ false
 no_place slots i far = grind (arith, nat_tests)
 
-same_is : (p q : Location) → same_location p q ≡ true → p ≡ q
-same_is (InRegister a) (InRegister b) h = ap InRegister (eq_is a b h)
+pub same_is : (p q : Location) → same_location p q ≡ true → p ≡ q
+same_is (InRegister a) (InRegister b) h = ap InRegister (eqb-true a b h)
 same_is (InRegister a) (Slot b) h = absurd (let no : ⊥ = cc in no)
 same_is (Slot a) (InRegister b) h = absurd (let no : ⊥ = cc in no)
-same_is (Slot a) (Slot b) h = ap Slot (eq_is a b h)
+same_is (Slot a) (Slot b) h = ap Slot (eqb-true a b h)
 
 same_itself : (p : Location) → same_location p p ≡ true
 same_itself (InRegister a) = grind (arith, nat_tests)
@@ -252,13 +245,13 @@ holding : (c : Setting) → IsSetting c → (params from : ℕ) (s : State) (p :
 holding c is params from s p v u good may away entering took =
     let all : Numbers = λ q. if is_place c.slots q then Some (value_at c s q) else None in
     let before : Framed c all c.before s =
-    framed_with c nothing all s (λ q x g e. some_is (value_at c s q) x (sym (ap (λ (t : Bool). if t then Some (value_at c s q) else None) g) ∙ e))
+    framed_with c nothing all s (λ q x g e. same_Some (value_at c s q) x (sym (ap (λ (t : Bool). if t then Some (value_at c s q) else None) g) ∙ e))
     (λ i far. ap (λ (t : Bool). if t then Some (value_at c s (Slot i)) else None) (no_place c.slots i far)) entering.framed in
     let after : Framed c (put p (Some v) all) c.before u =
-    assigned c is all c.before s u p v (Some v) good may before took.assigned (λ x e. some_is v x e) in
+    assigned c is all c.before s u p v (Some v) good may before took.assigned (λ x e. same_Some v x e) in
     record {
       entering = record {
-        framed = framed_with c (put p (Some v) all) nothing u (λ q x g e. absurd (none_is x e)) (λ i far. refl) after;
+        framed = framed_with c (put p (Some v) all) nothing u (λ q x g e. absurd (none-some x e)) (λ i far. refl) after;
         output = assigned_output c s p v u took.assigned ∙ entering.output;
         registers = λ i lo hi.
             took_keeps_registers c s p v u (10 + i) (omega (arith, hi)) (away i lo hi) took.assigned ∙ entering.registers i lo hi;
@@ -353,9 +346,6 @@ place_of slots (x ∷ ds) (suc i) d h e =
 no_more : (k : ℕ) → k ≡ k + zero
 no_more k = omega arith
 
-one_more : (k i : ℕ) → k + 1 + i ≡ k + suc i
-one_more k i = omega arith
-
 -- the first of them, and the others
 group_values : (c : Setting) (params from : ℕ) (test : ℕ → Location → Bool) (k : ℕ) (d : Destination Location) (ds : List (Destination Location)) (s u w : State)
     → is_place c.slots d.place ≡ true → AllApart (d ∷ ds) → One c params from test k d.place s u → Group c params from test (k + 1) ds u w
@@ -370,7 +360,7 @@ group_values c params from test k d ds s u w good apart one two zero e is passes
     some_destination : (a b : Destination Location) → Some a ≡ Some b → a ≡ b
     some_destination a b e = cc
 group_values c params from test k d ds s u w good apart one two (suc i) e is passes =
-    two.values i e is (ap (λ n. test n e.place) (one_more k i) ∙ passes) ∙ ap (argument_in c c.start) (one_more k i)
+    two.values i e is (ap (λ n. test n e.place) (next_index k i) ∙ passes) ∙ ap (argument_in c c.start) (next_index k i)
 
 leads_group : (c : Setting) → IsSetting c → (params from : ℕ) (test : ℕ → Location → Bool) → IsGroup test from → (k : ℕ) (ds : List (Destination Location)) (s : State)
     → CanTake c params k ds → AllApart ds → Entering c params from nothing s
@@ -391,7 +381,7 @@ leads_group c is params from test group k (d ∷ ds) s can apart entering =
       entering = two.entering;
       values = group_values c params from test k d ds s u w good apart one two;
       kept = λ q h other.
-          two.kept q h (λ i e is t. other (suc i) e is (ap (λ n. test n e.place) (sym (one_more k i)) ∙ t))
+          two.kept q h (λ i e is t. other (suc i) e is (ap (λ n. test n e.place) (sym (next_index k i)) ∙ t))
           ∙ one.kept q h (λ t. other zero d refl (ap (λ n. test n d.place) (sym (no_more k)) ∙ t));
     }))
 
@@ -408,7 +398,7 @@ entering_moved c is params args s u entering h =
     record {
       framed = record {
         pointer = h.low 2 (lit< tt) ∙ framed.pointer;
-        places = λ p v good known. absurd (none_is v known);
+        places = λ p v good known. absurd (none-some v known);
         spots = record { known = λ x n k. ap (λ (m : ℕ → ℕ). m x) bytes ∙ framed.spots.known x n k; usable = framed.spots.usable };
         clear = framed.clear;
         reach = framed.reach;
@@ -494,12 +484,12 @@ bound_hold c u k [] xs numbers all passed before p v known = before p v known
 bound_hold c u k (d ∷ ds) [] numbers all passed before p v known = before p v known
 bound_hold c u k (d ∷ ds) (x ∷ xs) numbers all passed before p v known =
     bound_hold c u (k + 1) ds xs (put d.place (Some (held d.class x)) numbers)
-    (λ i e is. all (suc i) e is ∙ ap (argument_in c c.start) (sym (one_more k i))) passed.1 (λ q y e. by_test q y (same_location q d.place) refl e) p v known
+    (λ i e is. all (suc i) e is ∙ ap (argument_in c c.start) (sym (next_index k i))) passed.1 (λ q y e. by_test q y (same_location q d.place) refl e) p v known
   where
     by_test : (q : Location) (y : ℕ) (t : Bool) → same_location q d.place ≡ t → (if t then Some (held d.class x) else numbers q) ≡ Some y → value_at c u q ≡ y
     by_test q y true e f =
         ap (value_at c u) (same_is q d.place e)
-        ∙ (all zero d refl ∙ (ap (argument_in c c.start) (sym (no_more k)) ∙ (passed.0 ∙ some_is (held d.class x) y f)))
+        ∙ (all zero d refl ∙ (ap (argument_in c c.start) (sym (no_more k)) ∙ (passed.0 ∙ same_Some (held d.class x) y f)))
     by_test q y false e f = before q y f
 
 goes_away_group : IsGroup goes_away 0
@@ -524,21 +514,14 @@ on_stack_group = record {
 }
 
 -- the places of two parameters differ
-eq_back : (a b : ℕ) → a ≡ b → nat_eq a b ≡ true
-eq_back a b e = grind (arith, nat_tests)
-
 same_back : (p q : Location) → p ≡ q → same_location p q ≡ true
 same_back p q e = ap (same_location p) (sym e) ∙ same_itself p
-
-neither : (a b : Bool) → not (a || b) ≡ true → (a ≡ false) × (not b ≡ true)
-neither true b h = absurd (let no : ⊥ = cc in no)
-neither false b h = (refl, h)
 
 none_has : (d : Destination Location) (ds : List (Destination Location)) (i : ℕ) (e : Destination Location) → not (list_any (λ (x : Destination Location). located.same d.place x.place) ds) ≡ true
     → slice_get ds i ≡ Some e → d.place ≢ e.place
 none_has d [] i e h is = absurd (let no : ⊥ = cc in no)
 none_has d (x ∷ ds) zero e h is =
-    let parts = neither (same_location d.place x.place) (list_any (λ (y : Destination Location). located.same d.place y.place) ds) h in
+    let parts = neither_holds (same_location d.place x.place) (list_any (λ (y : Destination Location). located.same d.place y.place) ds) h in
     λ g. absurd (two_ways (same_location d.place x.place) parts.0 (same_back d.place x.place (g ∙ ap (λ (y : Destination Location). y.place) (sym (same x e is)))))
   where
     same : (a b : Destination Location) → Some a ≡ Some b → a ≡ b
@@ -547,7 +530,7 @@ none_has d (x ∷ ds) zero e h is =
     two_ways : (b : Bool) → b ≡ false → b ≡ true → ⊥
     two_ways b f g = let no : ⊥ = cc in no
 none_has d (x ∷ ds) (suc i) e h is =
-    none_has d ds i e (neither (same_location d.place x.place) (list_any (λ (y : Destination Location). located.same d.place y.place) ds) h).1 is
+    none_has d ds i e (neither_holds (same_location d.place x.place) (list_any (λ (y : Destination Location). located.same d.place y.place) ds) h).1 is
 
 all_apart : (ds : List (Destination Location)) → are_distinct located ds ≡ true → AllApart ds
 all_apart [] h i j d e other is_d is_e = absurd (let no : ⊥ = cc in no)
@@ -679,7 +662,7 @@ leads_entry c is params xs s can distinct passed entering =
     (λ w i three.
     let hold = all_hold c is n params r t u w can.places apart one two three in
     record {
-      framed = framed_with c nothing (bound nothing params xs) w (λ p v good known. bound_hold c w 0 params xs nothing hold passed (λ q x e. absurd (none_is x e)) p v known)
+      framed = framed_with c nothing (bound nothing params xs) w (λ p v good known. bound_hold c w 0 params xs nothing hold passed (λ q x e. absurd (none-some x e)) p v known)
           (bound_unset c.slots nothing params xs can.places (λ i far. refl)) three.entering.framed;
       output = three.entering.output;
       registers = three.entering.registers;

@@ -2,7 +2,7 @@
 use Rattle.std.proofs.Common.{◌≡◌, ◌≢◌, ℕ, zero, suc, ◌+◌, ◌-◌, ◌*◌, ◌%◌, ◌^◌, ◌<◌, ◌≤◌, Bool, true, false, List, [], ◌∷◌, ◌++◌, refl, sym, ◌∙◌, ap, subst, arith, lit<}
 use Rattle.std.specs.Prelude.{◌||◌, ◌&&◌, not, nat_eq, nat_lt, if◌then◌else◌, slice_get, length, Some, Ok}
 use Rattle.std.specs.List.{list_all}
-use Rattle.std.proofs.lemmas.Bool.{and_parts}
+use Rattle.std.proofs.lemmas.Bool.{and_parts, eqb-true, not-true, eqb-false, or_parts}
 use Rattle.std.proofs.lemmas.Bool.Decides.{nat_tests}
 use Rattle.rv_isa.specs.State.{State}
 use Rattle.rv_isa.specs.Memory.{number_at}
@@ -65,9 +65,6 @@ leads_move_pointer c s n = by_test (is_immediate n) refl
 same_pointer : (c : Site) (s : State) (v : ℕ) → s.registers 2 ≡ v → Leads c [] s (PointerMoved s v)
 same_pointer c s v e = leads_nowhere c s (PointerMoved s v) (record { value = e; others = λ m lo other. refl; bytes = refl; output = refl })
 
-eq_zero : (n : ℕ) → nat_eq n 0 ≡ true → n ≡ 0
-eq_zero n h = grind (arith, nat_tests)
-
 pub leads_lower : (c : Site) (s : State) (size : ℕ) → Leads c (lower_pointer size) s (PointerMoved s ((s.registers 2 + (2 ^ 64 - size)) % 2 ^ 64))
 leads_lower c s size = by_test (nat_eq size 0) refl
   where
@@ -78,7 +75,7 @@ leads_lower c s size = by_test (nat_eq size 0) refl
         → Leads c (if b then [] else move_pointer (2 ^ 64 - size)) s (PointerMoved s ((s.registers 2 + (2 ^ 64 - size)) % 2 ^ 64))
     by_test true e =
         leads_fixed c [] s (PointerMoved s ((s.registers 2 + (2 ^ 64 - size)) % 2 ^ 64))
-        (λ fixed. same_pointer c s ((s.registers 2 + (2 ^ 64 - size)) % 2 ^ 64) (none (s.registers 2) size (fixed.words 2) (eq_zero size e)))
+        (λ fixed. same_pointer c s ((s.registers 2 + (2 ^ 64 - size)) % 2 ^ 64) (none (s.registers 2) size (fixed.words 2) (eqb-true size 0 e)))
     by_test false e = leads_move_pointer c s (2 ^ 64 - size)
 
 leads_raise : (c : Site) (s : State) (size : ℕ) → Leads c (raise_pointer size) s (PointerMoved s ((s.registers 2 + size) % 2 ^ 64))
@@ -90,7 +87,7 @@ leads_raise c s size = by_test (nat_eq size 0) refl
     by_test : (b : Bool) → nat_eq size 0 ≡ b → Leads c (if b then [] else move_pointer size) s (PointerMoved s ((s.registers 2 + size) % 2 ^ 64))
     by_test true e =
         leads_fixed c [] s (PointerMoved s ((s.registers 2 + size) % 2 ^ 64))
-        (λ fixed. same_pointer c s ((s.registers 2 + size) % 2 ^ 64) (none (s.registers 2) size (fixed.words 2) (eq_zero size e)))
+        (λ fixed. same_pointer c s ((s.registers 2 + size) % 2 ^ 64) (none (s.registers 2) size (fixed.words 2) (eqb-true size 0 e)))
     by_test false e = leads_move_pointer c s size
 
 -- ---- saved registers
@@ -100,10 +97,6 @@ pub record Savable (r : ℕ) : Type 0 where
   pub below : r < 28
   pub not_pointer : r ≢ 2
 
-not_is_false : (b : Bool) → not b ≡ true → b ≡ false
-not_is_false true e = absurd (let no : ⊥ = cc in no)
-not_is_false false e = refl
-
 pub savable : (r : ℕ) → can_save r ≡ true → Savable r
 savable r h =
     let parts = and_parts (nat_lt 0 r && nat_lt r 28) (not (nat_eq r 2) && not (nat_eq r 10)) h in
@@ -111,7 +104,7 @@ savable r h =
     let others = and_parts (not (nat_eq r 2)) (not (nat_eq r 10)) parts.1 in
     let lo = range.0 in
     let hi = range.1 in
-    let other = not_is_false (nat_eq r 2) others.0 in
+    let other = not-true (nat_eq r 2) others.0 in
     let below : r < 28 = grind (arith, nat_tests) in
     record {
       reg = record { some = grind (arith, nat_tests); small = omega (arith, below) };
@@ -189,16 +182,6 @@ pub record AllRestored (c : Setting) (rs : List ℕ) (s u : State) : Type 0 wher
   pub bytes : u.bytes ≡ s.bytes
   pub output : u.output ≡ s.output
 
-eq_is : (a b : ℕ) → nat_eq a b ≡ true → a ≡ b
-eq_is a b h = grind (arith, nat_tests)
-
-ne_is : (a b : ℕ) → nat_eq a b ≡ false → a ≢ b
-ne_is a b h e = absurd (let no : ⊥ = grind (arith, nat_tests) in no)
-
-or_false : (a b : Bool) → (a || b) ≡ false → (a ≡ false) × (b ≡ false)
-or_false true b h = absurd (let no : ⊥ = cc in no)
-or_false false b h = (refl, h)
-
 gains_more : (c : Setting) (r : ℕ) (rs : List ℕ) (s u w : State) → Sets s r (c.start.registers r) u → AllRestored c rs u w
     → (n : ℕ) → is_among n (r ∷ rs) ≡ true → w.registers n ≡ c.start.registers n
 gains_more c r rs s u w one rest n h = by_test (nat_eq n r) refl (is_among n rs) refl h
@@ -206,7 +189,7 @@ gains_more c r rs s u w one rest n h = by_test (nat_eq n r) refl (is_among n rs)
     by_test : (a : Bool) → nat_eq n r ≡ a → (b : Bool) → is_among n rs ≡ b → (a || b) ≡ true → w.registers n ≡ c.start.registers n
     by_test a e true f k = rest.gains n f
     by_test true e false f k =
-        let same : n ≡ r = eq_is n r e in
+        let same : n ≡ r = eqb-true n r e in
         rest.others n f ∙ (ap u.registers same ∙ (one.value ∙ ap c.start.registers (sym same)))
     by_test false e false f k = absurd (let no : ⊥ = cc in no)
 
@@ -238,8 +221,8 @@ leads_restore_all c is s o (r ∷ rs) pointer good h held =
     (λ w g rest. record {
       gains = gains_more c r rs s u w set rest;
       others = λ n e.
-          let both = or_false (nat_eq n r) (is_among n rs) e in
-          rest.others n both.1 ∙ one.others n (ne_is n r both.0);
+          let both = or_parts (nat_eq n r) (is_among n rs) e in
+          rest.others n both.1 ∙ one.others n (eqb-false n r both.0);
       bytes = rest.bytes ∙ one.bytes;
       output = rest.output ∙ one.output;
     })))
@@ -337,7 +320,7 @@ not_among n (r ∷ rs) never good =
     two_ways b e d = cc
 
     by_test : can_save r ≡ true → is_among n rs ≡ false → (b : Bool) → nat_eq n r ≡ b → (b || is_among n rs) ≡ false
-    by_test one rest true e = absurd (two_ways (can_save n) (ap can_save (eq_is n r e) ∙ one) never)
+    by_test one rest true e = absurd (two_ways (can_save n) (ap can_save (eqb-true n r e) ∙ one) never)
     by_test one rest false e = rest
 
 sum_back : (b n : ℕ) → b + n < 2 ^ 64 → (b + n) % 2 ^ 64 ≡ b + n
@@ -393,6 +376,6 @@ ends_frame c is s pointer start aligned held thread =
     kept_by : (u t : State) → AllRestored c c.saved s u → ((n : ℕ) → n < 28 → n ≢ 2 → t.registers n ≡ u.registers n)
         → t.registers 2 ≡ c.start.registers 2 → (n : ℕ) → is_kept n ≡ true → (a : Bool) → nat_eq n 2 ≡ a → (b : Bool) → is_among n c.saved ≡ b
         → t.registers n ≡ c.start.registers n
-    kept_by u t one same at_2 n k true e b d = let is_2 = eq_is n 2 e in ap t.registers is_2 ∙ (at_2 ∙ ap c.start.registers (sym is_2))
-    kept_by u t one same at_2 n k false e true d = same n (held_below n (kept_held n k)) (ne_is n 2 e) ∙ one.gains n d
-    kept_by u t one same at_2 n k false e false d = same n (held_below n (kept_held n k)) (ne_is n 2 e) ∙ (one.others n d ∙ thread n (kept_held n k) (ne_is n 2 e) d)
+    kept_by u t one same at_2 n k true e b d = let is_2 = eqb-true n 2 e in ap t.registers is_2 ∙ (at_2 ∙ ap c.start.registers (sym is_2))
+    kept_by u t one same at_2 n k false e true d = same n (held_below n (kept_held n k)) (eqb-false n 2 e) ∙ one.gains n d
+    kept_by u t one same at_2 n k false e false d = same n (held_below n (kept_held n k)) (eqb-false n 2 e) ∙ (one.others n d ∙ thread n (kept_held n k) (eqb-false n 2 e) d)

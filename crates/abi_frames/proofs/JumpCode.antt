@@ -1,7 +1,6 @@
 -- What the code of jumps does.
 use Rattle.std.proofs.Common.{◌≡◌, ℕ, ◌+◌, ◌≤◌, Bool, true, false, List, [], ◌∷◌, ◌++◌, refl, sym, ◌∙◌, ap, subst, arith, lit<, append_assoc}
 use Rattle.std.specs.Prelude.{◌&&◌, not, nat_eq, if◌then◌else◌, Some}
-use Rattle.std.proofs.lemmas.Bool.Decides.{nat_tests}
 use Rattle.il_ast.specs.declared.operation.Class.{Class}
 use Rattle.il_ast.specs.declared.operation.Condition.{Condition}
 use Rattle.il_ast.specs.Operations.{holds}
@@ -13,7 +12,7 @@ use Rattle.rv_isa.specs.declared.labelled.Item.TheVariants.{Label, Goto as GoTo}
 use Rattle.rv_isa.proofs.RunLemmas.{comes_here, comes_then}
 use Rattle.rv_isa.specs.Runs.{Comes}
 use Rattle.rv_isa.specs.Labels.{longest_size}
-use Rattle.std.proofs.lemmas.Bool.{and_parts}
+use Rattle.std.proofs.lemmas.Bool.{and_parts, eqb-true}
 use Rattle.vcode.specs.declared.place.Location.{Location}
 use Rattle.vcode.specs.declared.place.ReturnValue.{ReturnValue}
 use Rattle.vcode.specs.declared.line.Operation.{Operation}
@@ -91,9 +90,6 @@ jumps_so c falls next is s l m P Q same so first = record {
 pub moved_scratched : (g : Ground) (most to : ℕ) (s : State) → (m : Moves g most to s) → Scratched s m.after
 moved_scratched g most to s m = record { registers = λ n lo. m.registers n (λ e. absurd (omega (arith, e, lo))); bytes = m.bytes; output = m.output }
 
-eq_is : (a b : ℕ) → nat_eq a b ≡ true → a ≡ b
-eq_is a b h = grind (arith, nat_tests)
-
 -- to a label, where it stands next and where not
 pub jumps_goto : (c : Site) (y : Layout) (s : State) (next l : ℕ) → Jumps c y.falls next (goto_items y next l) s l (Scratched s)
 unfolding Stand Stands
@@ -124,9 +120,9 @@ jumps_goto c y s next l = by_test y.falls refl (nat_eq l next) refl
         after = s;
         comes = comes_here s;
         few = omega arith;
-        fell = λ z. (refl, eq_is l next d);
+        fell = λ z. (refl, eqb-true l next d);
         fixed = fixed;
-        place = sym stands.1.0 ∙ ap c.label (sym (eq_is l next d));
+        place = sym stands.1.0 ∙ ap c.label (sym (eqb-true l next d));
         holds = record { registers = λ n lo. refl; bytes = refl; output = refl };
       };
     }
@@ -137,7 +133,7 @@ jumps_goto c y s next l = by_test y.falls refl (nat_eq l next) refl
 abbrev pub way_by : (t : Bool) → (met otherwise : ℕ) → ℕ
 way_by t met otherwise = if t then met else otherwise
 
-label_place : (c : Site) (next : ℕ) (rest : List Item) (b : ℕ) → StandAt c (Label next ∷ rest) b → c.label next ≡ b
+pub label_place : (c : Site) (next : ℕ) (rest : List Item) (b : ℕ) → StandAt c (Label next ∷ rest) b → c.label next ≡ b
 unfolding Stand Stands
 label_place c next rest b stands = stands.1.0
 
@@ -236,7 +232,7 @@ jumps_ways : (c : Site) (y : Layout) (s : State) (next : ℕ) (on : Condition) (
 jumps_ways c y s next on v w met otherwise = by_test (y.falls && nat_eq met next) refl
   where
     next_is : (y.falls && nat_eq met next) ≡ true → met ≡ next
-    next_is e = eq_is met next (and_parts y.falls (nat_eq met next) e).1
+    next_is e = eqb-true met next (and_parts y.falls (nat_eq met next) e).1
 
     by_test : (t : Bool) → (y.falls && nat_eq met next) ≡ t
         → Jumps c y.falls next

@@ -2,7 +2,7 @@
 use Rattle.std.proofs.Common.{suc, zero, ◌/◌, ◌≡◌, ℕ, ◌+◌, ◌-◌, ◌*◌, ◌%◌, ◌^◌, ◌<◌, ◌≤◌, Bool, true, false, List, [], ◌∷◌, ◌++◌, refl, sym, ◌∙◌, ap, subst, arith, lit<, lit≤, zero-add, append_assoc}
 use Rattle.std.specs.Prelude.{◌&&◌, not, nat_eq, nat_le, nat_lt, if◌then◌else◌, length, Option, Some, None}
 use Rattle.std.specs.List.{list_all}
-use Rattle.std.proofs.lemmas.Bool.{and_parts, and_from}
+use Rattle.std.proofs.lemmas.Bool.{and_parts, and_from, lt-ltb}
 use Rattle.std.proofs.lemmas.Bool.Decides.{nat_tests}
 use Rattle.std.proofs.lemmas.List.Folds.{list_all-append}
 use Rattle.rv_isa.specs.declared.instruction.RegOp.{RegOp}
@@ -596,9 +596,6 @@ lines_plainly n y used slots (l ∷ lines) known =
 
 -- ---- jumps
 
-pub lt_from : (a b : ℕ) → a < b → nat_lt a b ≡ true
-lt_from a b h = grind (arith, nat_tests)
-
 target_below : (blocks n k : ℕ) → blocks < n → is_target blocks k ≡ true → nat_lt k n ≡ true
 target_below blocks n k h e =
     let below = (and_parts (nat_lt 0 k) (nat_lt k blocks) e).1 in
@@ -707,7 +704,7 @@ leave_plainly n y rs next good leave = by_test (y.copies && not (y.falls && nat_
   where
     by_test : (t : Bool) → Plainly n (if t then epilogue y rs else goto_items y next y.leave)
     by_test true = epilogue_plainly n y rs good
-    by_test false = goto_items_plainly n y next y.leave (lt_from y.leave n leave)
+    by_test false = goto_items_plainly n y next y.leave (lt-ltb y.leave n leave)
 
 pub jump_plainly : (n : ℕ) (y : Layout) (rs : List ℕ) (next slots blocks : ℕ) (j : Jump Location) → list_all can_save rs ≡ true → y.leave < n → blocks < n → jump_keeps (is_place slots) j ≡ true
     → leads_inside blocks j ≡ true → Plainly n (jump_items y rs next j)
@@ -762,7 +759,7 @@ blocks_labelled n y rs slots all k (b ∷ blocks) good leave more few known insi
     let rest = blocks_labelled n y rs slots all (k + 1) blocks good leave more (omega (arith, few, count)) known_parts.1 inside_parts.1 in
     let others : List Item = blocks_items y rs (k + 1) blocks in
     record {
-      labels = and_from (nat_lt k n) (list_all (has_label_below n) (body ++ others)) (lt_from k n (omega (arith, few, count, more)))
+      labels = and_from (nat_lt k n) (list_all (has_label_below n) (body ++ others)) (lt-ltb k n (omega (arith, few, count, more)))
           (all_both (has_label_below n) body others plain.labels rest.labels);
       once = λ l.
           let sum = times-append l body others in
@@ -868,7 +865,7 @@ function_labelled f slots copies is near =
     (record {
       labels = all_both (has_label_below (n + 1)) first tail begin.labels
           (all_both (has_label_below (n + 1)) mid last blocks.labels
-          (and_from (nat_lt n (n + 1)) (list_all (has_label_below (n + 1)) (epilogue y rs)) (lt_from n (n + 1) (omega arith)) end.labels));
+          (and_from (nat_lt n (n + 1)) (list_all (has_label_below (n + 1)) (epilogue y rs)) (lt-ltb n (n + 1) (omega arith)) end.labels));
       once = λ l h.
           let one = times-append l first tail in
           let two = times-append l mid last in
@@ -902,10 +899,10 @@ test_plainly n y e few left right =
     (read_nameable 0 op 28 c.left (lit< tt) left) (read_nameable 0 op 29 c.right (lit< tt) right) (one_of e.when_met) (other_of e.when_met)))
   where
     quick_below : nat_lt (quick_label y) n ≡ true
-    quick_below = lt_from (quick_label y) n (omega (arith, few))
+    quick_below = lt-ltb (quick_label y) n (omega (arith, few))
 
     begin_below : nat_lt (begin_label y) n ≡ true
-    begin_below = lt_from (begin_label y) n (omega (arith, few))
+    begin_below = lt-ltb (begin_label y) n (omega (arith, few))
 
     one_of : (t : Bool) → nat_lt (if t then quick_label y else begin_label y) n ≡ true
     one_of true = quick_below
@@ -931,7 +928,7 @@ pub record Once (n l : ℕ) (is : List Item) : Type 0 where
 
 pub label_then : (n l : ℕ) (is : List Item) → l < n → Plainly n is → Once n l (Label l ∷ is)
 label_then n l is few plain = record {
-  labels = and_from (nat_lt l n) (list_all (has_label_below n) is) (lt_from l n few) plain.labels;
+  labels = and_from (nat_lt l n) (list_all (has_label_below n) is) (lt-ltb l n few) plain.labels;
   once = λ k. let none = plain.none k in omega (arith, none);
   registers = plain.registers;
 }

@@ -38,6 +38,7 @@ use Rattle.abi_frames.proofs.StackAccesses.{UsableFrom, leads_load_at, Writes, l
 use Rattle.operation_code.proofs.Instructions.{leads_extend, leads_add_low, leads_reg, leads_regw, leads_constant, leads_named, leads_upper, leads_address}
 use Rattle.abi_frames.proofs.Addressing.{IsBeyond, IsBased}
 use Rattle.abi_frames.proofs.Activations.{Setting, IsSetting, site, bottom, slot_at, operand_in, IsPlace, place_is, place_reg, slot_is, slot_in_frame, InPlace, OnStack, Assigned}
+use Rattle.il_ast.proofs.Wrapping.{same_low}
 
 -- ---- operands
 
@@ -91,9 +92,6 @@ leads_fetch c is s d (Number n) reg other pointer good = by_test (nat_eq n 0) re
 leads_fetch c is s d (Name g) reg other pointer good =
     leads_so (site c) (fetch c.layout d (Name g)) s (Sets s d (c.global g)) (Fetched c s d (Name g)) (leads_address (site c) s d g reg (is.near g))
     (λ u f h. fetched_in c s d (c.global g) (Name g) u reg refl refl h)
-
-same_low : (x : ℕ) → x < 2 ^ 64 → (x + 0) % 2 ^ 64 ≡ x
-same_low x h = omega (arith, h)
 
 pub leads_into : (c : Setting) → IsSetting c → (s : State) (d : ℕ) (a : Operand Location) → IsReg d → d ≢ 2 → s.registers 2 ≡ bottom c
     → operand_keeps (is_place c.slots) a ≡ true → Leads (site c) (into c.layout d a) s (Sets s d (operand_in c s a))

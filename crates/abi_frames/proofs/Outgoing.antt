@@ -12,6 +12,7 @@ use Rattle.vcode.specs.declared.code.Code.{Code}
 use Rattle.vcode.specs.Regular.{IsRegular, passes_few}
 use Rattle.abi_frames.specs.Layout.{outgoing, args_on_stack, most_in_lines, most_in_blocks, slots_offset}
 use Rattle.abi_frames.proofs.Saving.{few_saved_registers}
+use Rattle.std.proofs.lemmas.Option.{same_Some}
 
 at_most_64 : (n : ℕ) → nat_le n 64 ≡ true → n ≤ 64
 at_most_64 n h = grind (arith, nat_tests)
@@ -47,14 +48,11 @@ few_outgoing f is = few_in_blocks f.blocks is.few_args
 pub slots_near : (f : Code Location) → IsRegular f → slots_offset f < 1024
 slots_near f is = let few = few_outgoing f is in let saved = few_saved_registers f in omega (arith, few, saved)
 
-some_block : (a b : Block Location) → Some a ≡ Some b → a ≡ b
-some_block a b e = cc
-
 -- no block passes more than the most
 pub block_passes : (blocks : List (Block Location)) (i : ℕ) (b : Block Location) → slice_get blocks i ≡ Some b → most_in_lines b.lines ≤ most_in_blocks blocks
 block_passes [] i b e = absurd (let no : ⊥ = cc in no)
 block_passes (d ∷ blocks) zero b e =
-    let same : most_in_lines d.lines ≡ most_in_lines b.lines = ap (λ (x : Block Location). most_in_lines x.lines) (some_block d b e) in
+    let same : most_in_lines d.lines ≡ most_in_lines b.lines = ap (λ (x : Block Location). most_in_lines x.lines) (same_Some d b e) in
     first_of (most_in_lines d.lines) (most_in_lines b.lines) (most_in_blocks blocks) same
   where
     first_of : (x y m : ℕ) → x ≡ y → y ≤ max x m

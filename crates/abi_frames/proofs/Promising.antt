@@ -1,7 +1,7 @@
 -- The laws of the code of frames.
 use Rattle.std.proofs.Common.{◌≡◌, ℕ, ◌+◌, ◌*◌, ◌^◌, ◌<◌, ◌≤◌, Bool, true, false, List, refl, ap, arith}
 use Rattle.std.specs.Prelude.{◌&&◌, nat_le, length, slice_get, Option, Some, None}
-use Rattle.std.proofs.lemmas.Bool.{and_parts, and_from}
+use Rattle.std.proofs.lemmas.Bool.{and_parts, and_from, leb-true}
 use Rattle.std.proofs.lemmas.Bool.Decides.{nat_tests}
 use Rattle.il_ast.specs.declared.limits.TheConstants.{FUNCTION_WEIGHT}
 use Rattle.rv_isa.specs.Labels.{IsLabelled, longest_size}
@@ -21,7 +21,7 @@ use Rattle.abi_frames.specs.EarlyReturns.{early_return, early_items, items_with,
 use Rattle.abi_frames.specs.Laws.{IsCode, FramesAreLabelled, FramesAreSmall, FramesPerform, WaysAreLabelled, WaysPerform}
 use Rattle.abi_frames.proofs.BarePerforms.{performs_bare}
 use Rattle.abi_frames.proofs.BareLabelling.{bare_labelled}
-use Rattle.abi_frames.proofs.Sizes.{function_small, early_size, le_is}
+use Rattle.abi_frames.proofs.Sizes.{function_small, early_size}
 use Rattle.abi_frames.proofs.Labelling.{function_labelled, early_labelled}
 use Rattle.abi_frames.proofs.Starting.{frame_fits, performs}
 use Rattle.abi_frames.proofs.EarlyFacts.{IsEarly, early_is}
@@ -51,7 +51,7 @@ copied_small f slots is o h = by_test (copies_end f slots o) refl
     by_test : (t : Bool) → copies_end f slots o ≡ t → longest_size (items_with f slots t o) ≤ 32 * code_weight f + 256
     by_test false e = small_by f slots is o h
     by_test true e =
-        le_is (longest_size (items_with f slots true o)) (32 * code_weight f + 256)
+        leb-true (longest_size (items_with f slots true o)) (32 * code_weight f + 256)
         (and_parts (nat_le (length (saved_registers f)) COPIED_RESTORES) (nat_le (longest_size (items_with f slots true o)) (32 * code_weight f + 256)) e).1
 
 pub frames_are_small : FramesAreSmall
@@ -70,7 +70,7 @@ labelled_by f slots copies is (Some e) h near =
 pub frames_are_labelled : FramesAreLabelled
 frames_are_labelled f slots is =
     let size = frames_are_small f slots is in
-    let light = le_is (code_weight f) FUNCTION_WEIGHT is.light in
+    let light = leb-true (code_weight f) FUNCTION_WEIGHT is.light in
     labelled_by f slots (copies_end f slots (early_return f slots)) is (early_return f slots) refl (omega (arith, size, light))
 
 -- ---- the promise
@@ -122,7 +122,7 @@ dear_copies f slots o dear =
 
 pub ways_are_labelled : WaysAreLabelled
 ways_are_labelled f slots copies parts enter is ways size =
-    let light = le_is (code_weight f) FUNCTION_WEIGHT is.light in
+    let light = leb-true (code_weight f) FUNCTION_WEIGHT is.light in
     bare_labelled f slots copies parts enter ways is (omega (arith, size, light))
 
 pub ways_perform : WaysPerform

@@ -9,16 +9,12 @@ use Rattle.flat_code.specs.Spots.{Spot, NoAccess, AnyByte, ThisByte, Spots}
 use Rattle.flat_code.specs.Step.{read_spot, known_number}
 use Rattle.abi_frames.specs.Calls.{IsUsable, HoldsSpots}
 use Rattle.abi_frames.proofs.StackAccesses.{UsableFrom}
+use Rattle.std.proofs.lemmas.Option.{same_Some}
+use Rattle.il_ast.proofs.Chosen.{none_is_not}
 
 pub record IsRead (g : Ground) (u : State) (at n v : ℕ) : Type 0 where
   pub value : number_at u.bytes at n ≡ v
   pub usable : UsableFrom g at n
-
-none_is_not : (v : ℕ) (o : Option ℕ) → o ≡ None → o ≡ Some v → ⊥
-none_is_not v o e f = let no : ⊥ = cc in no
-
-some_is : (a b : ℕ) → Some a ≡ Some b → a ≡ b
-some_is a b e = cc
 
 known_is_there : (m : Spot) (b : ℕ) → m ≡ ThisByte b → m ≢ NoAccess
 known_is_there m b e f = let no : ⊥ = cc in no
@@ -26,7 +22,7 @@ known_is_there m b e f = let no : ⊥ = cc in no
 pub read_is : (g : Ground) (f : Spots) (u : State) (at n v : ℕ) → HoldsSpots g f u → known_number f at n ≡ Some v → IsRead g u at n v
 unfolding known_number number_at
 read_is g f u at zero v holds known = record {
-  value = some_is 0 v known;
+  value = same_Some 0 v known;
   usable = λ x lo hi. absurd (let no : ⊥ = omega (arith, lo, hi) in no);
 }
 read_is g f u at (suc n) v holds known = by_spot (f at) refl known (λ w e. read_is g f u (at + 1) n w holds e)
@@ -38,7 +34,7 @@ read_is g f u at (suc n) v holds known = by_spot (f at) refl known (λ w e. read
         let more = rest w q in
         let first = holds.known at b e in
         let others = more.value in
-        let sum = some_is (b + 256 * w) v h in
+        let sum = same_Some (b + 256 * w) v h in
         record {
           value = omega (arith, first, others, sum);
           usable = λ x lo hi. elim (eq-or-lt_of_le lo) [

@@ -1,8 +1,8 @@
 -- The registers that a function saves: those of a callee that its code writes.
-use Rattle.std.proofs.Common.{◌≡◌, ℕ, zero, suc, ◌≤◌, Bool, true, false, List, [], ◌∷◌, ◌++◌, refl, sym, ◌∙◌, ap, arith}
+use Rattle.std.proofs.Common.{◌≡◌, ℕ, suc, ◌≤◌, Bool, true, false, List, [], ◌∷◌, ◌++◌, refl, sym, ◌∙◌, ap, arith}
 use Rattle.std.specs.Prelude.{◌||◌, nat_eq, if◌then◌else◌, length, slice_get, Some}
 use Rattle.std.specs.List.{list_all, list_any}
-use Rattle.std.proofs.lemmas.Bool.{and_parts, and_from}
+use Rattle.std.proofs.lemmas.Bool.{and_parts, and_from, eqb-true}
 use Rattle.std.proofs.lemmas.Bool.Decides.{nat_tests}
 use Rattle.vcode.specs.declared.place.Location.{Location}
 use Rattle.vcode.specs.declared.place.Location.TheVariants.{Register as InRegister, Slot}
@@ -14,6 +14,8 @@ use Rattle.vcode.specs.Named.{is_place}
 use Rattle.abi_frames.specs.Calls.{is_kept}
 use Rattle.abi_frames.specs.Layout.{is_register, writes, block_writes, is_written, written_of, callee_saved, is_call, block_calls, makes_call, saved_registers}
 use Rattle.abi_frames.proofs.Activations.{can_save, is_held, is_among, place_is, MayWrite}
+use Rattle.il_ast.proofs.Truth.{equals_itself}
+use Rattle.il_ast.proofs.Listed.{any_at}
 
 -- ---- those of a list that the code writes
 
@@ -36,9 +38,6 @@ few_written f (r ∷ rs) = by_test (few_written f rs) (is_written f r)
     by_test rest true = omega (arith, rest)
     by_test rest false = omega (arith, rest)
 
-eq_is : (a b : ℕ) → nat_eq a b ≡ true → a ≡ b
-eq_is a b h = grind (arith, nat_tests)
-
 written_among : (f : Code Location) (n : ℕ) (rs : List ℕ) → is_written f n ≡ true → is_among n rs ≡ true → is_among n (written_of f rs) ≡ true
 written_among f n [] is h = absurd (let no : ⊥ = cc in no)
 written_among f n (r ∷ rs) is h = by_test (λ k. written_among f n rs is k) (nat_eq n r) refl (is_written f r) refl h
@@ -57,7 +56,7 @@ written_among f n (r ∷ rs) is h = by_test (λ k. written_among f n rs is k) (n
     by_test : (is_among n rs ≡ true → is_among n (written_of f rs) ≡ true) → (t : Bool) → nat_eq n r ≡ t → (b : Bool) → is_written f r ≡ b
         → (t || is_among n rs) ≡ true → is_among n (if b then r ∷ written_of f rs else written_of f rs) ≡ true
     by_test rest true e true d k = first (nat_eq n r) e
-    by_test rest true e false d k = absurd (two_ways (is_written f r) (ap (is_written f) (sym (eq_is n r e)) ∙ is) d)
+    by_test rest true e false d k = absurd (two_ways (is_written f r) (ap (is_written f) (sym (eqb-true n r e)) ∙ is) d)
     by_test rest false e true d k = later (nat_eq n r) (rest k)
     by_test rest false e false d k = rest k
 
@@ -111,22 +110,6 @@ written_saved f r from is kept = by_test (makes_call f) (written_among f r calle
 
 -- ---- destinations
 
-any_one : {X : Type 0} (test : X → Bool) (xs : List X) (i : ℕ) (x : X) → slice_get xs i ≡ Some x → test x ≡ true → list_any test xs ≡ true
-any_one test [] i x e h = absurd (let no : ⊥ = cc in no)
-any_one {X} test (y ∷ xs) zero x e h = first (test y) (ap test (same y x e) ∙ h)
-  where
-    same : (a b : X) → Some a ≡ Some b → a ≡ b
-    same a b d = cc
-
-    first : (t : Bool) → t ≡ true → (t || list_any test xs) ≡ true
-    first true d = refl
-    first false d = absurd (let no : ⊥ = cc in no)
-any_one test (y ∷ xs) (suc i) x e h = later (test y) (any_one test xs i x e h)
-  where
-    later : (t : Bool) → list_any test xs ≡ true → (t || list_any test xs) ≡ true
-    later true d = refl
-    later false d = d
-
 or_right : (a b : Bool) → b ≡ true → (a || b) ≡ true
 or_right true b e = refl
 or_right false b e = e
@@ -135,29 +118,22 @@ or_left : (a b : Bool) → a ≡ true → (a || b) ≡ true
 or_left true b e = refl
 or_left false b e = absurd (let no : ⊥ = cc in no)
 
-equal_self : (r : ℕ) → nat_eq r r ≡ true
-equal_self r = by_test (nat_eq r r) refl
-  where
-    by_test : (b : Bool) → nat_eq r r ≡ b → nat_eq r r ≡ true
-    by_test true e = e
-    by_test false e = absurd (let no : ⊥ = grind (arith, nat_tests) in no)
-
 abbrev is_place_of : ℕ → Destination Location → Bool
 is_place_of n d = is_register n d.place
 
 -- the return address is saved where a line is a call
 pub call_saves : (f : Code Location) (i j : ℕ) (b : Block Location) (l : Line Location) → slice_get f.blocks i ≡ Some b → slice_get b.lines j ≡ Some l
     → is_call l ≡ true → is_among 1 (saved_registers f) ≡ true
-call_saves f i j b l in_code in_block calls = return_is_saved f (any_one block_calls f.blocks i b in_code (any_one is_call b.lines j l in_block calls))
+call_saves f i j b l in_code in_block calls = return_is_saved f (any_at block_calls f.blocks i b in_code (any_at is_call b.lines j l in_block calls))
 
 -- the destination of a line may be written
 pub line_may : (f : Code Location) (slots i j : ℕ) (b : Block Location) (l : Line Location) → slice_get f.blocks i ≡ Some b → slice_get b.lines j ≡ Some l
     → (to : Location) → is_place slots to ≡ true → ((n : ℕ) → is_register n to ≡ writes n l) → MayWrite (saved_registers f) to
 line_may f slots i j b l in_code in_block (Slot k) good it = tt
 line_may f slots i j b l in_code in_block (InRegister r) good it =
-    let here : writes r l ≡ true = sym (it r) ∙ equal_self r in
-    let block : block_writes r b ≡ true = any_one (writes r) b.lines j l in_block here in
-    let code = any_one (block_writes r) f.blocks i b in_code block in
+    let here : writes r l ≡ true = sym (it r) ∙ equals_itself r in
+    let block : block_writes r b ≡ true = any_at (writes r) b.lines j l in_block here in
+    let code = any_at (block_writes r) f.blocks i b in_code block in
     written_saved f r (place_is slots r good).from_5 (or_right (list_any (is_place_of r) f.params) (list_any (block_writes r) f.blocks) code)
 
 -- the places of parameters may be written
@@ -168,7 +144,7 @@ AllMayWrite rs (d ∷ ds) = MayWrite rs d.place × AllMayWrite rs ds
 param_may : (f : Code Location) (slots : ℕ) (to : Location) → is_place slots to ≡ true → ((n : ℕ) → is_register n to ≡ true → is_written f n ≡ true)
     → MayWrite (saved_registers f) to
 param_may f slots (Slot k) good it = tt
-param_may f slots (InRegister r) good it = written_saved f r (place_is slots r good).from_5 (it r (equal_self r))
+param_may f slots (InRegister r) good it = written_saved f r (place_is slots r good).from_5 (it r (equals_itself r))
 
 params_may : (f : Code Location) (slots : ℕ) (ds : List (Destination Location)) → list_all (λ (d : Destination Location). is_place slots d.place) ds ≡ true
     → ((n : ℕ) → list_any (is_place_of n) ds ≡ true → is_written f n ≡ true) → AllMayWrite (saved_registers f) ds

@@ -3,7 +3,7 @@ use Rattle.std.proofs.Common.{◌≡◌, ◌≢◌, ℕ, zero, suc, ◌+◌, ◌
 use Rattle.std.specs.Prelude.{not, ◌&&◌, nat_eq, nat_lt, if◌then◌else◌, slice_get, Option, Some, None, Err}
 use Rattle.std.specs.Option.{option_map, option_and_then}
 use Rattle.std.specs.List.{list_all, list_any}
-use Rattle.std.proofs.lemmas.Bool.{and_parts}
+use Rattle.std.proofs.lemmas.Bool.{and_parts, leb-true}
 use Rattle.std.proofs.lemmas.Bool.Decides.{nat_tests}
 use Rattle.std.proofs.lemmas.List.Sums.{sum_by-cons}
 use Rattle.il_ast.specs.declared.limits.TheConstants.{FUNCTION_WEIGHT}
@@ -59,12 +59,13 @@ use Rattle.abi_frames.proofs.LineCode.{Scratched}
 use Rattle.abi_frames.proofs.Pacing.{landing, standing, few_standing, lands_on, falls_on}
 use Rattle.abi_frames.proofs.Calling.{PassedSo, passed_so}
 use Rattle.abi_frames.proofs.JumpCode.{Arrives, jumps_goto, meets, jumps_branch, leads_result, way_by}
-use Rattle.abi_frames.proofs.Sizes.{result_size, goto_size, branch_items_size, epilogue_size, le_is}
+use Rattle.abi_frames.proofs.Sizes.{result_size, goto_size, branch_items_size, epilogue_size}
 use Rattle.abi_frames.proofs.Storing.{store_case}
 use Rattle.abi_frames.proofs.CallCase.{call_case}
 use Rattle.abi_frames.proofs.Simulation.{CodeStands, allowed, At, AtJump, Landed, Performed, step_of, nothing_taken, later_fits, Log, Follows, Then, undefined, framed_same, reach, next_index, advance, may_write}
 use Rattle.abi_frames.proofs.Making.{alloc_case}
 use Rattle.abi_frames.proofs.Copying.{blit_case}
+use Rattle.il_ast.proofs.Chosen.{none_is_not}
 
 -- a tick
 abbrev tick : Bool → ℕ → Line Location
@@ -469,16 +470,13 @@ with_result u w n one = record {
 no_numbers : Numbers
 no_numbers p = None
 
-nothing_known : (v : ℕ) (o : Option ℕ) → o ≡ None → o ≡ Some v → ⊥
-nothing_known v o e f = let no : ⊥ = cc in no
-
 -- what the frame's end needs, where places no longer count
 result_framed : (c : Setting) (numbers : Numbers) (memory : Spots) (u w : State) (n : ℕ) → Framed c numbers memory u → WithResult u n w
     → Framed c no_numbers memory w
 unfolding no_numbers
 result_framed c numbers memory u w n framed h = record {
   pointer = h.others 2 (lit< tt) (λ e. absurd (omega (arith, e))) ∙ framed.pointer;
-  places = λ p v good known. absurd (nothing_known v None refl known);
+  places = λ p v good known. absurd (none_is_not v None refl known);
   spots = record { known = λ x k e. ap (λ (m : ℕ → ℕ). m x) h.bytes ∙ framed.spots.known x k e; usable = framed.spots.usable };
   clear = framed.clear;
   reach = framed.reach;
@@ -668,7 +666,7 @@ at_jump c f b fs k u a =
       output = a.output;
       known = a.jump_known;
       credit = a.credit;
-      paid = le_is (jump_cost b.jump) a.credit a.paid;
+      paid = leb-true (jump_cost b.jump) a.credit a.paid;
       blocks = a.blocks;
       inside = a.inside;
       goes = a.stood.goes;

@@ -2,7 +2,7 @@
 use Rattle.std.proofs.Common.{◌≡◌, ℕ, suc, ◌+◌, ◌-◌, ◌*◌, ◌%◌, ◌<◌, ◌≤◌, Bool, true, false, refl, List, ◌∷◌, ◌++◌, ◌∙◌, ap, subst, arith, lit<, append_assoc}
 use Rattle.std.specs.Prelude.{◌&&◌, ◌||◌, nat_le, length, slice_get, Some, max}
 use Rattle.std.specs.List.{list_all, list_any, sum_by}
-use Rattle.std.proofs.lemmas.Bool.{and_parts}
+use Rattle.std.proofs.lemmas.Bool.{and_parts, leb-true}
 use Rattle.std.proofs.lemmas.List.Sums.{sum_by-cons}
 use Rattle.il_ast.specs.declared.limits.TheConstants.{FUNCTION_WEIGHT}
 use Rattle.il_ast.specs.declared.value.End.TheVariants.{Undefined}
@@ -36,7 +36,7 @@ use Rattle.operation_code.proofs.Leading.{StandAt, Reaches, Leads}
 use Rattle.abi_frames.proofs.Activations.{Setting, IsSetting, site, bottom, slot_at, save_at, value_at, place_is, Framed, held_below, is_among, MayWrite}
 use Rattle.abi_frames.specs.BareWays.{leads}
 use Rattle.abi_frames.proofs.LineCode.{Scratched}
-use Rattle.abi_frames.proofs.Sizes.{line_size, le_is}
+use Rattle.abi_frames.proofs.Sizes.{line_size}
 
 -- ---- what is known of the code
 
@@ -237,7 +237,7 @@ pub advance : (c : Setting) (f : Code Location) (b : Block Location) (l : Line L
     → At c f b lines (record fs { next = fs.next + 1; numbers = numbers; memory = memory; used = used }) (k + m.steps) m.after
 advance c f b l lines fs k u numbers memory used a calm takes pays m =
     let parts = and_parts (nat_le (line_cost l) a.credit) (affords (a.credit - line_cost l) b.jump lines) pays in
-    let enough = le_is (line_cost l) a.credit parts.0 in
+    let enough = leb-true (line_cost l) a.credit parts.0 in
     let size = line_size c.layout a.used l in
     let room = a.room in
     let bytes = sum_by-cons alloc_bytes l lines in

@@ -3,7 +3,7 @@ use Rattle.std.proofs.Common.{suc, zero, ◌/◌, ◌≡◌, ℕ, ◌+◌, ◌-�
 use Rattle.bits.specs.Words.{sign_extended}
 use Rattle.std.specs.Prelude.{◌&&◌, not, nat_eq, nat_le, nat_lt, if◌then◌else◌, length, Option, Some, None}
 use Rattle.std.specs.List.{list_all, sum_by}
-use Rattle.std.proofs.lemmas.Bool.{and_parts, and_from}
+use Rattle.std.proofs.lemmas.Bool.{and_parts, and_from, leb-true}
 use Rattle.std.proofs.lemmas.Bool.Decides.{nat_tests}
 use Rattle.il_ast.specs.declared.operation.Condition.{Condition}
 use Rattle.il_ast.specs.declared.operation.Condition.TheVariants.{Equal, NotEqual, SignedLessEqual, SignedLess, SignedGreaterEqual, SignedGreater, UnsignedLessEqual, UnsignedLess, UnsignedGreaterEqual, UnsignedGreater}
@@ -617,9 +617,6 @@ jump_size y rs next Halt none = lit≤ tt
 
 -- ---- blocks
 
-pub le_is : (a b : ℕ) → nat_le a b ≡ true → a ≤ b
-le_is a b h = grind (arith, nat_tests)
-
 -- the code of the lines and of the jump
 abbrev pub LinesFit : Layout → (saved : List ℕ) → (next used credit : ℕ) → Jump Location → List (Line Location) → Type 0
 LinesFit y rs next used credit j lines = longest_size (lines_items y used lines) + longest_size (jump_items y rs next j) ≤ credit + 32 * sum_by weight_of lines
@@ -631,7 +628,7 @@ fits_more : (y : Layout) (rs : List ℕ) (next used credit : ℕ) (j : Jump Loca
     → LinesFit y rs next used credit j (l ∷ lines)
 fits_more y rs next used credit j l lines light paid rest =
     let parts = and_parts (nat_le (line_cost l) credit) (affords (credit - line_cost l) j lines) paid in
-    let enough = le_is (line_cost l) credit parts.0 in
+    let enough = leb-true (line_cost l) credit parts.0 in
     let others = rest parts.1 in
     let sum = sum_by-cons weight_of l lines in
     let all = longest-append (line_items y used l) (lines_items y (used + alloc_bytes l) lines) in
@@ -641,7 +638,7 @@ fits_more y rs next used credit j l lines light paid rest =
 pub lines_size : (y : Layout) (rs : List ℕ) (next used credit : ℕ) (j : Jump Location) (lines : List (Line Location)) → y.copies ≡ false → affords credit j lines ≡ true
     → LinesFit y rs next used credit j lines
 lines_size y rs next used credit j [] none paid =
-    let enough = le_is (jump_cost j) credit paid in
+    let enough = leb-true (jump_cost j) credit paid in
     let size = jump_size y rs next j none in
     omega (arith, enough, size)
 lines_size y rs next used credit j (Tick turn w ∷ lines) none paid =
@@ -1003,7 +1000,7 @@ test_size y e bare_a short_a bare_b short_b =
 pub function_small : (f : Code Location) (slots : ℕ) → IsCode f slots
     → longest_size (function_items (layout f slots false) (saved_registers f) f.params f.blocks) ≤ 32 * code_weight f + 249
 function_small f slots is =
-    let at_most = le_is (length f.params) 64 is.regular.few_params in
+    let at_most = leb-true (length f.params) 64 is.regular.few_params in
     function_size (layout f slots false) (saved_registers f) f.params f.blocks refl (few_saved_registers f) (slots_near f is.regular) at_most is.near is.regular.paid
 
 pub early_size : (f : Code Location) (slots : ℕ) (e : EarlyReturn) → IsCode f slots → longest_size (test_items (layout f slots false) e) ≤ 5 → ValueShort e.value

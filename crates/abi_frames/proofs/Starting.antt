@@ -3,11 +3,10 @@ use Rattle.il_ast.specs.declared.limits.TheConstants.{FUNCTION_WEIGHT, ALLOC_BYT
 use Rattle.std.proofs.Common.{◌≡◌, ℕ, zero, suc, ◌+◌, ◌-◌, ◌*◌, ◌%◌, ◌^◌, ◌<◌, ◌≤◌, Bool, true, false, List, [], ◌∷◌, ◌++◌, refl, sym, ◌∙◌, ap, subst, arith, lit<, zero-add, append_assoc, append-nil}
 use Rattle.std.specs.Prelude.{not, nat_le, nat_lt, if◌then◌else◌, map, length, slice_get, Some, None}
 use Rattle.std.specs.List.{list_all, list_any, sum_by}
-use Rattle.std.proofs.lemmas.Bool.{and_parts}
+use Rattle.std.proofs.lemmas.Bool.{and_parts, not-true, leb-true}
 use Rattle.std.proofs.lemmas.List.Sums.{sum_by-cons}
 use Rattle.std.proofs.lemmas.Bool.Decides.{nat_tests}
 use Rattle.il_ast.specs.declared.operation.Class.{Class}
-use Rattle.il_ast.specs.declared.operation.Class.TheVariants.{W, L}
 use Rattle.rv_isa.specs.State.{State}
 use Rattle.rv_isa.specs.Memory.{number_at}
 use Rattle.rv_isa.specs.Labels.{longest_size}
@@ -23,9 +22,9 @@ use Rattle.vcode.specs.declared.code.Code.{Code}
 use Rattle.vcode.specs.Named.{is_place, block_keeps, line_keeps, jump_keeps}
 use Rattle.vcode.specs.Cost.{is_paid}
 use Rattle.vcode.specs.Regular.{area, turns_of, is_alloc, allocs_first, alloc_bytes, leads_inside}
-use Rattle.flat_code.specs.Spots.{Spot, NoAccess, ThisByte, Spots, Clear}
+use Rattle.flat_code.specs.Spots.{ThisByte, Spots, Clear}
 use Rattle.flat_code.specs.Flat.{FlatGiven}
-use Rattle.flat_code.specs.Step.{Numbers, bound, held, flat_begin, flat_step}
+use Rattle.flat_code.specs.Step.{Numbers, bound, flat_begin, flat_step}
 use Rattle.abi_frames.specs.Calls.{World, IsWorld, GoodStack, Ready, HoldsSpots, passed}
 use Rattle.abi_frames.specs.Performs.{KeepsFrame}
 use Rattle.abi_frames.specs.Layout.{layout, outgoing, saved_registers, frame_size, frame_bound}
@@ -39,10 +38,14 @@ use Rattle.operation_code.proofs.Leading.{Site, StandAt, Leads, leads_then, lead
 use Rattle.abi_frames.proofs.Activations.{Setting, IsSetting, site, bottom, can_save, held_below, is_among, MayWrite}
 use Rattle.abi_frames.proofs.FrameEnds.{savable, PointerMoved, leads_lower, AllSaved, leads_save_all}
 use Rattle.abi_frames.proofs.Outgoing.{few_outgoing, block_passes}
-use Rattle.abi_frames.proofs.Sizes.{prologue_size, entry_size, le_is}
+use Rattle.abi_frames.proofs.Sizes.{prologue_size, entry_size}
 use Rattle.abi_frames.proofs.Entering.{Entering, argument_in, ArePassed, CanTake, leads_entry}
 use Rattle.abi_frames.proofs.Simulation.{BlockStands, CodeStands}
 use Rattle.abi_frames.proofs.Simulating.{follows, enter}
+use Rattle.il_ast.proofs.Listed.{all_at}
+use Rattle.std.proofs.lemmas.Option.{same_Some}
+use Rattle.abi_frames.proofs.CallCase.{held_is_passed}
+use Rattle.abi_frames.proofs.Calling.{byte_has_access}
 
 -- ---- where the parts stand
 
@@ -59,9 +62,6 @@ stand_after c (i ∷ is) js a stands = stand_after c is js stands.0 stands.2
 pub record BlockCode (c : Site) (y : Layout) (rs : List ℕ) (b : Block Location) (l : ℕ) : Type 0 where
   pub rest : List Item
   pub stands : StandAt c ((lines_items y 0 b.lines ++ jump_items y rs (l + 1) b.jump) ++ (Label (l + 1) ∷ rest)) (c.label l)
-
-some_block : (a b : Block Location) → Some a ≡ Some b → a ≡ b
-some_block a b e = cc
 
 -- code that begins with a label
 record Begins (l : ℕ) (is : List Item) : Type 0 where
@@ -93,7 +93,7 @@ blocks_stand c y rs k (d ∷ blocks) tail a leave stands zero b e =
           (subst (λ x. StandAt c (here ++ (more ++ (Label y.leave ∷ tail))) x) at
           (subst (λ l. StandAt c l stands.0) (append_assoc here more (Label y.leave ∷ tail)) stands.2));
     } in
-    subst (λ x. BlockCode c y rs x (k + zero)) (some_block d b e) (subst (λ n. BlockCode c y rs d n) (no_more k) code)
+    subst (λ x. BlockCode c y rs x (k + zero)) (same_Some d b e) (subst (λ n. BlockCode c y rs d n) (no_more k) code)
   where
     no_more : (n : ℕ) → n ≡ n + zero
     no_more n = omega arith
@@ -124,18 +124,7 @@ leave_stands c l is a stands =
 
 -- ---- tests of all items
 
-pub each : {X : Type 0} (test : X → Bool) (xs : List X) (i : ℕ) (x : X) → list_all test xs ≡ true → slice_get xs i ≡ Some x → test x ≡ true
-each test [] i x h e = absurd (let no : ⊥ = cc in no)
-each {X} test (y ∷ xs) zero x h e = ap test (same x y e) ∙ (and_parts (test y) (list_all test xs) h).0
-  where
-    same : (a b : X) → Some b ≡ Some a → a ≡ b
-    same a b e = cc
-each test (y ∷ xs) (suc i) x h e = each test xs i x (and_parts (test y) (list_all test xs) h).1 e
-
 -- ---- the begin of the frame
-
-byte_has_access : (m : Spot) (k : ℕ) → m ≡ ThisByte k → m ≡ NoAccess → ⊥
-byte_has_access m k e f = let no : ⊥ = cc in no
 
 pub begun_spots : (c : Setting) → IsSetting c → (u w : State) → Clear c.world.bottom c.sp c.before → HoldsSpots c.world.memory_map c.before c.start
     → u.bytes ≡ c.start.bytes → AllSaved c c.layout.saves c.saved u w → (x n : ℕ) → c.before x ≡ ThisByte n → w.bytes x ≡ n
@@ -184,7 +173,7 @@ begun c is pointer clear holds =
         clear = λ x lo hi. clear x lo (omega (arith, hi));
         reach = λ x hi away. away;
         saved = λ k r e.
-            let good = savable r (each can_save c.saved k r is.savable e) in
+            let good = savable r (all_at can_save c.saved k r is.savable e) in
             two.saved k r e ∙ one.others r good.below good.not_pointer;
         thread = λ m kept other out. two.registers m (held_below m kept) ∙ one.others m (held_below m kept) other;
         others = λ x hi away. stays x hi;
@@ -205,10 +194,6 @@ begun c is pointer clear holds =
 abbrev pub classes : List (Destination Location) → List Class
 classes ds = map (λ (d : Destination Location). d.class) ds
 
-same_held : (k : Class) (n : ℕ) → passed k n ≡ held k n
-same_held W n = refl
-same_held L n = refl
-
 pub length-classes : (ds : List (Destination Location)) → length (classes ds) ≡ length ds
 length-classes [] = refl
 length-classes (d ∷ ds) = let rest = length-classes ds in omega (arith, rest)
@@ -218,7 +203,7 @@ pub are_passed : (c : Setting) (k : ℕ) (ds : List (Destination Location)) (xs 
 are_passed c k [] xs all = tt
 are_passed c k (d ∷ ds) [] all = tt
 are_passed c k (d ∷ ds) (x ∷ xs) all = (
-  ap (argument_in c c.start) (no_more k) ∙ all zero x d.class refl refl ∙ same_held d.class x,
+  ap (argument_in c c.start) (no_more k) ∙ all zero x d.class refl refl ∙ held_is_passed d.class x,
   are_passed c (k + 1) ds xs (λ i n a e f. ap (argument_in c c.start) (one_more k i) ∙ all (suc i) n a e f),
 )
   where
@@ -277,7 +262,7 @@ pub record FrameFits (f : Code Location) (slots : ℕ) : Type 0 where
 pub frame_fits : (f : Code Location) (slots : ℕ) → IsCode f slots → FrameFits f slots
 frame_fits f slots is = record {
   few = few_outgoing f is.regular;
-  small = le_is (area f) ALLOC_BYTES is.regular.small;
+  small = leb-true (area f) ALLOC_BYTES is.regular.small;
   fits = let saved = few_saved_registers f in omega (arith, saved);
 }
 
@@ -315,7 +300,7 @@ block_bytes b = sum_by alloc_bytes b.lines
 pub block_within : (blocks : List (Block Location)) (i : ℕ) (b : Block Location) → slice_get blocks i ≡ Some b → block_bytes b ≤ sum_by block_bytes blocks
 block_within [] i b e = absurd (let no : ⊥ = cc in no)
 block_within (d ∷ blocks) zero b e =
-    let same = ap block_bytes (some_block d b e) in
+    let same = ap block_bytes (same_Some d b e) in
     let sum = sum_by-cons block_bytes d blocks in
     omega (arith, same, sum)
 block_within (d ∷ blocks) (suc i) b e =
@@ -323,36 +308,32 @@ block_within (d ∷ blocks) (suc i) b e =
     let sum = sum_by-cons block_bytes d blocks in
     omega (arith, rest, sum)
 
-not_true : (b : Bool) → not b ≡ true → b ≡ false
-not_true true h = absurd (let no : ⊥ = cc in no)
-not_true false h = refl
-
 pub made_first : (blocks : List (Block Location)) (i : ℕ) (b : Block Location) → allocs_first blocks ≡ true → slice_get blocks i ≡ Some b → 0 < i
     → list_any is_alloc b.lines ≡ false
 made_first [] i b h e some = absurd (let no : ⊥ = cc in no)
 made_first (d ∷ blocks) zero b h e some = absurd (omega (arith, some))
 made_first (d ∷ blocks) (suc i) b h e some =
-    not_true (list_any is_alloc b.lines) (each (λ (x : Block Location). not (list_any is_alloc x.lines)) blocks i b h e)
+    not-true (list_any is_alloc b.lines) (all_at (λ (x : Block Location). not (list_any is_alloc x.lines)) blocks i b h e)
 
 pub block_stands : (c : Setting) (f : Code Location) (slots : ℕ) → c.slots ≡ slots → c.area ≡ area f → c.layout.saves ≡ 8 * outgoing f → c.saved ≡ saved_registers f → c.floor ≡ bottom c → IsCode f slots → (b : Block Location) (i : ℕ)
     → slice_get f.blocks i ≡ Some b → leads c.reached b.jump ≡ true → BlockCode (site c) c.layout c.saved b i → BlockStands c b i
 block_stands c f slots same same_area same_saves same_saved level is b i e goes code =
     let known = and_parts (list_all (λ (d : Destination Location). is_place slots d.place) f.params) (list_all (block_keeps (is_place slots)) f.blocks) is.known in
-    let keeps : block_keeps (is_place slots) b ≡ true = each (block_keeps (is_place slots)) f.blocks i b known.1 e in
+    let keeps : block_keeps (is_place slots) b ≡ true = all_at (block_keeps (is_place slots)) f.blocks i b known.1 e in
     let keeps_here : block_keeps (is_place c.slots) b ≡ true = subst (λ n. block_keeps (is_place n) b ≡ true) (sym same) keeps in
     let parts = and_parts (list_all (line_keeps (is_place c.slots)) b.lines) (jump_keeps (is_place c.slots) b.jump) keeps_here in
-    let pays = each is_paid f.blocks i b is.regular.paid e in
-    let inside = each (λ (d : Block Location). leads_inside (length f.blocks) d.jump) f.blocks i b is.regular.inside e in
+    let pays = all_at is_paid f.blocks i b is.regular.paid e in
+    let inside = all_at (λ (d : Block Location). leads_inside (length f.blocks) d.jump) f.blocks i b is.regular.inside e in
     let within = block_within f.blocks i b e in
     let passes = block_passes f.blocks i b e in
-    let paced = each (λ (d : Block Location). nat_le (sum_by turns_of d.lines) FUNCTION_WEIGHT) f.blocks i b is.regular.paced e in
+    let paced = all_at (λ (d : Block Location). nat_le (sum_by turns_of d.lines) FUNCTION_WEIGHT) f.blocks i b is.regular.paced e in
     record {
       rest = code.rest;
       stands = code.stands;
       known = parts.0;
       jump_known = parts.1;
       paid = pays;
-      paced = le_is (sum_by turns_of b.lines) FUNCTION_WEIGHT paced;
+      paced = leb-true (sum_by turns_of b.lines) FUNCTION_WEIGHT paced;
       blocks = length f.blocks;
       inside = inside;
       room = omega (arith, within, same_area);
@@ -373,7 +354,7 @@ begins c f slots at j good same same_saved is clear ready =
     let count = length-classes f.params in
     let can : CanTake c (length f.params) 0 f.params = record {
       count = omega arith;
-      few = le_is (length f.params) 64 is.regular.few_params;
+      few = leb-true (length f.params) 64 is.regular.few_params;
       fits = omega (arith, below, count);
       places = subst (λ n. list_all (λ (d : Destination Location). is_place n d.place) f.params ≡ true) (sym same) known.0;
       may = subst (λ rs. AllMayWrite rs f.params) (sym same_saved) (all_params_may f slots known.0);
@@ -392,7 +373,7 @@ begin_size f slots copies is =
     let saved = few_saved_registers f in
     let all = longest-append (prologue y (saved_registers f)) (entry_items y f.params) in
     let one = prologue_size y (saved_registers f) saved in
-    let two = entry_size y f.params (omega (arith, few, saved)) (le_is (length f.params) 64 is.regular.few_params) is.near in
+    let two = entry_size y f.params (omega (arith, few, saved)) (leb-true (length f.params) 64 is.regular.few_params) is.near in
     omega (arith, all, one, two)
 
 -- from the call on

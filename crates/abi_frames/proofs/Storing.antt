@@ -45,6 +45,7 @@ use Rattle.abi_frames.proofs.LineCode.{Aimed, offset_left, leads_base, aimed_scr
 use Rattle.abi_frames.proofs.Accesses.{Written, leads_store_any_in, stored_byte}
 use Rattle.abi_frames.proofs.MemoryChanges.{Changed, changed, there_at, usable_from, inside_is, outside_is}
 use Rattle.abi_frames.proofs.Simulation.{CodeStands, At, Performed, Log, Follows, Then, undefined, reach, advance, nothing_taken}
+use Rattle.flat_code.proofs.Storing.{known_is}
 
 -- ---- the code
 
@@ -115,9 +116,6 @@ byte_taken Long v k h = refl
 byte_taken Byte v k h = low_byte v k (omega (arith, h))
 byte_taken Half v k h = low_byte v k (omega (arith, h))
 byte_taken Word v k h = low_byte v k h
-
-known_is : (a b : ℕ) → ThisByte a ≡ ThisByte b → a ≡ b
-known_is a b h = cc
 
 pub stored_changes : (c : Setting) (memory : Spots) (s u : State) (a n v z : ℕ) → HoldsSpots c.world.memory_map memory s → all_there memory a n ≡ true
     → ((k : ℕ) → k < n → byte_at k v ≡ byte_at k z) → Stored s a n v u → Changed memory (with_number memory a n z) s u

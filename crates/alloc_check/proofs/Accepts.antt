@@ -15,6 +15,7 @@ use Rattle.alloc_check.specs.Accepted.{exists_in, equalities_exist, names_once, 
 use Rattle.alloc_check.specs.Walk.{sound_in}
 use Rattle.alloc_check.proofs.Certifies.{from_true}
 use Rattle.alloc_check.proofs.Walks.{sound_is}
+use Rattle.il_ast.proofs.Truth.{and_assoc}
 
 -- what a placed code is
 pub record Parts (slots : ℕ) (l : Code Location) : Type 0 where
@@ -43,10 +44,6 @@ joined true w r false e = never w ∙ sym (never r)
     never true = refl
     never false = refl
 
-and_three : (a b d : Bool) → ((a && b) && d) ≡ (a && (b && d))
-and_three true b d = refl
-and_three false b d = refl
-
 -- what is known where blocks begin, of every one and of each, exists
 pub starts_there : (v : VFunc) (c : Certificate) → is_whole v c ≡ true → (list_all (exists_in v.registers) c.everywhere ≡ true) × (equalities_exist v.registers c.starts ≡ true)
 starts_there v c h =
@@ -59,7 +56,7 @@ pub tests_accept : (v : VFunc) (c : Certificate) → (right_in v c && is_placed 
 tests_accept v c =
     joined (is_whole v c) (sound_in v.registers v.code c) (are_apart c.everywhere && is_sound v.code c) (is_placed v.registers (placed_by v.code c))
     (λ whole placed. sound_is v.registers v.code c (from_true (keeps_places (is_below v.registers) v.code) v.known) (starts_there v c whole).0 (starts_there v c whole).1 (parts v.registers (placed_by v.code c) placed).places)
-    ∙ ap (λ b. is_whole v c && b) (and_three (are_apart c.everywhere) (is_sound v.code c) (is_placed v.registers (placed_by v.code c)))
+    ∙ ap (λ b. is_whole v c && b) (and_assoc (are_apart c.everywhere) (is_sound v.code c) (is_placed v.registers (placed_by v.code c)))
 
 pub refused : (v : VFunc) (c : Certificate) → right_in v c ≡ false → is_accepted v c ≡ false
 refused v c h = sym (tests_accept v c) ∙ ap (λ b. b && is_placed v.registers (placed_by v.code c)) h

@@ -1,5 +1,5 @@
 -- What keeps the owners of places and their values in agreement.
-use Rattle.std.proofs.Common.{◌≡◌, ℕ, Bool, true, false, not, ◌||◌, nat_eq, if◌then◌else◌, List, [], ◌∷◌, map, Option, Some, None, refl, sym, ◌∙◌, ap, arith}
+use Rattle.std.proofs.Common.{◌≡◌, ℕ, Bool, true, false, not, nat_eq, if◌then◌else◌, List, [], ◌∷◌, map, Option, Some, None, refl, sym, ◌∙◌, ap, arith}
 use Rattle.std.specs.Option.{option_map, option_map_or}
 use Rattle.std.proofs.lemmas.Bool.Decides.{nat_tests}
 use Rattle.std.proofs.lemmas.Bool.{and_parts}
@@ -23,6 +23,7 @@ use Rattle.certificates.specs.declared.certificate.Transfer.{Transfer}
 use Rattle.alloc_check.specs.Placed.{Layout, placed_operand, placed_argument, placed_returned}
 use Rattle.alloc_check.specs.Owners.{Owners, nobody, Agrees, other_than, own_put, own_move, own_kept, own_also, known, owns, operand_held, args_held, all_hold}
 use Rattle.alloc_check.specs.Certified.{certified_params, own_params, is_param, params_placed}
+use Rattle.il_ast.proofs.Truth.{neither_holds}
 
 -- ---- tests
 
@@ -157,13 +158,9 @@ params_agree own ev el (d ∷ ds) (q ∷ qs) (v ∷ vs) placed args agrees =
     params_agree (own_put q d.place own) (put virtual d.place (held d.class v) ev) (put located q (held d.class v) el) ds qs vs placed args.1
     (put_agrees own ev el q d.place (Some (held d.class v)) (Some (held d.class v)) (λ x e. e) agrees)
 
-neither : (a b : Bool) → not (a || b) ≡ true → (a ≡ false) × (not b ≡ true)
-neither true b h = cc
-neither false b h = (refl, h)
-
 pub other_unknown : (ev : Values ℕ) (ds : List (Destination ℕ)) (vs : List Value) (r : ℕ) → not (is_param ds r) ≡ true → bound virtual ev ds vs r ≡ ev r
 other_unknown ev [] vs r h = refl
 other_unknown ev (d ∷ ds) [] r h = refl
 other_unknown ev (d ∷ ds) (v ∷ vs) r h =
-    let both = neither (nat_eq r d.place) (is_param ds r) h in
+    let both = neither_holds (nat_eq r d.place) (is_param ds r) h in
     other_unknown (put virtual d.place (held d.class v) ev) ds vs r both.1 ∙ ap (λ t. if t then Some (held d.class v) else ev r) both.0

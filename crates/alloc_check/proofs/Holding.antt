@@ -3,7 +3,7 @@ use Rattle.std.proofs.Common.{◌≡◌, ℕ, zero, suc, ◌+◌, ◌<◌, ◌�
 use Rattle.std.specs.Option.{option_map_or}
 use Rattle.std.proofs.Math.Path.{fun_ext}
 use Rattle.std.proofs.lemmas.Bool.Decides.{nat_tests}
-use Rattle.std.proofs.lemmas.Option.{slice_get_past}
+use Rattle.std.proofs.lemmas.Option.{slice_get_past, slice_get_within}
 use Rattle.rv_isa.specs.declared.abi.TheConstants.{LAST_SAVED}
 use Rattle.vcode.specs.declared.place.Location.{Location}
 use Rattle.vcode.specs.declared.place.Location.TheVariants.{Register, Slot}
@@ -15,30 +15,9 @@ use Rattle.alloc_check.specs.declared.table.Held.{Held}
 use Rattle.alloc_check.specs.declared.table.OwnerTable.{OwnerTable}
 use Rattle.alloc_check.specs.Owners.{Owners, nobody, other_than, own_put, own_also, own_move, own_kept, known}
 use Rattle.alloc_check.specs.OwnerTable.{item, cell_at, first_at, latest, counts, counted, own_by, own_of, forgets, Forgotten, IsFirst, IsTable, Rewrites}
+use Rattle.il_ast.proofs.Listed.{get_set_same, get_set_other, get_below}
 
 -- ---- lists
-
-pub get_set_same : {X : Type 0} (xs : List X) (i : ℕ) (x : X) → i < length xs → slice_get (slice_set xs i x) i ≡ Some x
-get_set_same [] i x h = absurd (omega arith)
-get_set_same (y ∷ ys) zero x h = refl
-get_set_same (y ∷ ys) (suc i) x h = get_set_same ys i x (omega arith)
-
-pub get_set_other : {X : Type 0} (xs : List X) (i j : ℕ) (x : X) → nat_eq j i ≡ false → slice_get (slice_set xs i x) j ≡ slice_get xs j
-get_set_other [] i j x h = refl
-get_set_other (y ∷ ys) zero zero x h = cc
-get_set_other (y ∷ ys) zero (suc j) x h = refl
-get_set_other (y ∷ ys) (suc i) zero x h = refl
-get_set_other (y ∷ ys) (suc i) (suc j) x h = get_set_other ys i j x (let e : nat_eq j i ≡ false = grind (arith, nat_tests) in e)
-
-some_below : {X : Type 0} (xs : List X) (i : ℕ) (x : X) → slice_get xs i ≡ Some x → i < length xs
-some_below [] i x h = cc
-some_below (y ∷ ys) zero x h = omega arith
-some_below (y ∷ ys) (suc i) x h = let low = some_below ys i x h in omega arith
-
-found_below : {X : Type 0} (xs : List X) (i : ℕ) → i < length xs → (x : X) × (slice_get xs i ≡ Some x)
-found_below [] i h = absurd (omega arith)
-found_below (y ∷ ys) zero h = (y, refl)
-found_below (y ∷ ys) (suc i) h = found_below ys i (omega arith)
 
 -- ---- what counts
 
@@ -54,7 +33,7 @@ count_by ws since r w e low =
 pub late_counts : (ws : List ℕ) (since : ℕ) (o : Option ℕ) → Written ws since → ((r : ℕ) → o ≡ Some r → r < length ws) → counted ws since o ≡ o
 late_counts ws since None written low = refl
 late_counts ws since (Some r) written low =
-    let at = found_below ws r (low r refl) in
+    let at = get_below ws r (low r refl) in
     count_by ws since r at.0 at.1 (written r at.0 at.1)
 
 if_some : (b : Bool) (r k : ℕ) → (if b then Some r else None) ≡ Some k → (b ≡ true) × (r ≡ k)
@@ -63,7 +42,7 @@ if_some false r k h = cc
 
 counts_below : (ws : List ℕ) (since r : ℕ) (o : Option ℕ) → slice_get ws r ≡ o → option_map_or (λ w. nat_le w since) o false ≡ true → r < length ws
 counts_below ws since r None e h = cc
-counts_below ws since r (Some w) e h = some_below ws r w e
+counts_below ws since r (Some w) e h = slice_get_within ws r w e
 
 -- whoever counts is there
 pub counted_below : (ws : List ℕ) (since : ℕ) (o : Option ℕ) (k : ℕ) → counted ws since o ≡ Some k → k < length ws

@@ -1,5 +1,5 @@
 -- With register i in slot i the code goes in lockstep with the virtual code.
-use Rattle.std.proofs.Common.{◌≡◌, ℕ, zero, suc, ◌+◌, Bool, true, false, nat_eq, nat_lt, ◌-◌, if◌then◌else◌, List, [], ◌∷◌, ◌++◌, map, length, Option, Some, None, slice_get, refl, sym, ◌∙◌, ap, subst}
+use Rattle.std.proofs.Common.{◌≡◌, ℕ, ◌+◌, Bool, true, false, nat_eq, nat_lt, ◌-◌, if◌then◌else◌, List, [], ◌∷◌, ◌++◌, map, length, Option, Some, None, slice_get, refl, sym, ◌∙◌, ap, subst}
 use Rattle.std.specs.Option.{option_map, option_and_then}
 use Rattle.il_ast.specs.declared.operation.Class.{Class}
 use Rattle.il_ast.specs.declared.value.Value.{Value}
@@ -34,6 +34,7 @@ use Rattle.vcode.specs.Places.{Values, unknown, put, assign, kept, virtual, loca
 use Rattle.vcode.specs.Step.{State, bound, begin, value_of, read, read_argument, read_result, read_all, operated, address_of, goes_on, sets, takes, changes, weighs, ticks, receives, resumes, calls, line_step, compared, branches, returns, jump_step, block_step, step_in, step}
 use Rattle.alloc_check.specs.Placed.{placed_operand, placed_address, placed_argument, placed_destination, placed_line, placed_jump, placed_block, in_slots}
 use Rattle.alloc_check.specs.Kept.{RunsAlike}
+use Rattle.std.proofs.lemmas.Option.{slice_get-map}
 
 -- ---- states side by side
 
@@ -270,11 +271,6 @@ jump_goes globals result s el Halt m = λ f. refl
 
 -- ---- a step
 
-get_map : {A B : Type 0} (g : A → B) (xs : List A) (k : ℕ) → slice_get (map g xs) k ≡ option_map g (slice_get xs k)
-get_map g [] k = refl
-get_map g (x ∷ xs) zero = refl
-get_map g (x ∷ xs) (suc k) = get_map g xs k
-
 block_goes : (globals : List Value) (v : Code ℕ) (i : Given) (s : State ℕ) (el : Values Location) (b : Block ℕ) (o : Option (Line ℕ)) → Mirror s.values el
     → Goes (block_step virtual globals v i s b o) (block_step located globals (in_slots v) i (carry s el) (placed_block Slot b) (option_map (placed_line Slot) o))
 block_goes globals v i s el b (Some l) m = line_goes globals i s el l m
@@ -286,7 +282,7 @@ step_in_goes globals v i s el None m = λ f. absurd f
 step_in_goes globals v i s el (Some b) m =
     subst
     (λ (l : Option (Line Location)). Goes (block_step virtual globals v i s b (slice_get b.lines s.next)) (block_step located globals (in_slots v) i (carry s el) (placed_block Slot b) l))
-    (sym (get_map (placed_line Slot) b.lines s.next))
+    (sym (slice_get-map (placed_line Slot) b.lines s.next))
     (block_goes globals v i s el b (slice_get b.lines s.next) m)
 
 step_goes : (globals : List Value) (v : Code ℕ) (i : Given) (s : State ℕ) (el : Values Location) → Mirror s.values el
@@ -294,7 +290,7 @@ step_goes : (globals : List Value) (v : Code ℕ) (i : Given) (s : State ℕ) (e
 unfolding step
 step_goes globals v i s el m =
     subst (λ (b : Option (Block Location)). Goes (step_in virtual globals v i s (slice_get v.blocks s.block)) (step_in located globals (in_slots v) i (carry s el) b))
-    (sym (get_map (placed_block Slot) v.blocks s.block))
+    (sym (slice_get-map (placed_block Slot) v.blocks s.block))
     (step_in_goes globals v i s el (slice_get v.blocks s.block) m)
 
 lockstep : (globals : List Value) (v : Code ℕ) (i : Given) → Lockstep Beside Fine (step virtual globals v i) (step located globals (in_slots v) i)

@@ -1,6 +1,6 @@
 -- Location code that a certificate makes, and code with every register in a slot, keeps the virtual code: it has the same parameters and result, and runs alike.
 -- With every register in a slot it also weighs and takes the same.
-use Rattle.std.proofs.Common.{◌≡◌, ℕ, ◌+◌, ◌*◌, ◌-◌, Bool, true, false, ◌&&◌, List, [], ◌∷◌, map, refl, ◌∙◌, ap}
+use Rattle.std.proofs.Common.{◌≡◌, ℕ, ◌+◌, ◌*◌, ◌-◌, true, List, [], ◌∷◌, map, refl, ◌∙◌, ap}
 use Rattle.std.specs.Prelude.{max}
 use Rattle.std.specs.List.{sum_by}
 use Rattle.il_ast.specs.declared.operation.Class.{Class}
@@ -24,6 +24,7 @@ use Rattle.alloc_check.proofs.Certifies.{weight_same}
 use Rattle.alloc_check.proofs.InSlots.{slots_keep}
 use Rattle.alloc_check.proofs.Regular.{map_length, sum_map, area_same}
 use Rattle.alloc_check.proofs.Sound.{sound_keeps}
+use Rattle.il_ast.proofs.Truth.{and_first}
 
 -- ---- what a certificate makes
 
@@ -42,14 +43,10 @@ certified_classes [] qs h = refl
 certified_classes (d ∷ ds) [] h = absurd (let no : ⊥ = cc in no)
 certified_classes (d ∷ ds) (q ∷ qs) h = ap (λ (cs : List Class). d.class ∷ cs) (certified_classes ds qs h)
 
-first_true : (a b : Bool) → (a && b) ≡ true → a ≡ true
-first_true true b h = refl
-first_true false b h = absurd (let no : ⊥ = cc in no)
-
 pub certified_keeps : (v : Code ℕ) (c : Certificate) → is_sound v c ≡ true → Keeps (coded virtual v) (coded located (placed_by v c))
 certified_keeps v c sound =
     record {
-      params = certified_classes v.params c.params (first_true (params_placed v.params c.params) _ sound);
+      params = certified_classes v.params c.params (and_first (params_placed v.params c.params) _ sound);
       result = refl;
       runs = sound_keeps v c sound;
     }

@@ -34,6 +34,8 @@ use Rattle.alloc_check.specs.Walk.{moves_before}
 use Rattle.alloc_check.proofs.Agreeing.{same_is}
 use Rattle.alloc_check.proofs.Certifies.{line_on}
 use Rattle.alloc_check.proofs.Regular.{slots_regular, slots_known, slots_near, slots_apart}
+use Rattle.il_ast.proofs.Truth.{and_true}
+use Rattle.alloc_check.proofs.Untouched.{owned}
 
 -- ---- the code
 
@@ -202,10 +204,6 @@ all_append test (x ∷ xs) ys = ap (λ b. test x && b) (all_append test xs ys) �
     and_three true b d = refl
     and_three false b d = refl
 
-pub and_true : (b : Bool) → (b && true) ≡ b
-and_true true = refl
-and_true false = refl
-
 pub operand_in : (test : ℕ → Bool) (rs : List ℕ) (a : Operand ℕ) → list_all test (with_operand rs a) ≡ (list_all test rs && operand_keeps test a)
 operand_in test rs (At r) = all_append test rs (r ∷ []) ∙ ap (λ b. list_all test rs && b) (and_true (test r))
 operand_in test rs (Number n) = sym (and_true (list_all test rs))
@@ -224,9 +222,6 @@ args_in test rs (a ∷ args) =
 
 pub two_in : (test : ℕ → Bool) (a b : Operand ℕ) → list_all test (with_operand (with_operand [] a) b) ≡ (operand_keeps test a && operand_keeps test b)
 two_in test a b = operand_in test (with_operand [] a) b ∙ ap (λ x. x && operand_keeps test b) (operand_in test [] a)
-
-owned : (own : Owners) (q : Location) (r : ℕ) → own q ≡ Some r → owns own q r ≡ true
-owned own q r h = ap (λ (o : Option ℕ). option_map_or (λ k. nat_eq k r) o false) h ∙ (let e : nat_eq r r ≡ true = grind (arith, nat_tests) in e)
 
 operand_found : (wanted : Wanted) (c : Certificate) (p : ℕ) (own : Owners) (a : Operand ℕ) → Full wanted p own → operand_keeps (own_at c p) a ≡ true → operand_keeps (wanted p) a ≡ true
     → operand_held own (layout_at c p) a ≡ true

@@ -44,6 +44,7 @@ use Rattle.alloc_check.specs.Kept.{RunsAlike}
 use Rattle.alloc_check.specs.Owners.{Owners, nobody, Agrees, own_put, own_move, own_kept, moved, known, owns, operand_held, args_held, all_hold, where_held, received, after_line}
 use Rattle.alloc_check.specs.Certified.{moves_at, starts_at, layout_at, transfers, certified_lines, jump_point, certified_block, certified_blocks, certified_params, placed_by, jump_right, lines_right, blocks_right, own_params, is_param, entry_right, params_placed, is_sound}
 use Rattle.alloc_check.proofs.Agreeing.{operand_follows, read_follows, args_follow, put_agrees, move_agrees, kept_agrees, AllFollow, known_agrees, all_follow, nobody_agrees, params_agree, other_unknown, owned_follows, result_follows}
+use Rattle.std.proofs.lemmas.List.{append-nil}
 
 -- ---- a state with the next line and the values of the other code
 
@@ -536,10 +537,6 @@ tick_matched v c globals i s n el b block turn w left p own at found ahead ahead
     (subst (λ (x : Event (State ℕ) Asked Outcome). Together (Related v c) Fine x (step located globals (placed_by v c) i (carry s n el))) (sym first)
     (subst (λ (x : Event (State Location) Asked Outcome). Together (Related v c) Fine (line_step virtual globals i s (Tick turn w)) x) (sym second) together))
 
-no_more : {X : Type 0} (xs : List X) → xs ++ [] ≡ xs
-no_more [] = refl
-no_more (x ∷ xs) = ap (λ ys. x ∷ ys) (no_more xs)
-
 jump_matched : (v : Code ℕ) (c : Certificate) (globals : List Value) (i : Given) (s : State ℕ) (n : ℕ) (el : Values Location) (b : Block ℕ) (block : Block Location) (p : ℕ) (own : Owners)
     → blocks_right c 0 0 v.blocks ≡ true
     → slice_get v.blocks s.block ≡ Some b → slice_get (certified_blocks c 0 v.blocks) s.block ≡ Some block
@@ -551,7 +548,7 @@ jump_matched : (v : Code ℕ) (c : Certificate) (globals : List Value) (i : Give
     → MatchesEvent (Related v c) Fine (step located globals (placed_by v c) i) (step virtual globals v i s) (carry s n el)
 jump_matched v c globals i s n el b block p own blocks at found ahead ahead2 jump right agrees =
     let led : Led globals (placed_by v c) i s block n el (moved (moves_at c p) own) [] =
-    moves_lead globals (placed_by v c) i s block found (moves_at c p) [] n el own (ahead2 ∙ sym (no_more (transfers (moves_at c p)))) agrees
+    moves_lead globals (placed_by v c) i s block found (moves_at c p) [] n el own (ahead2 ∙ sym (append-nil (transfers (moves_at c p)))) agrees
     in
     let first : step virtual globals v i s ≡ jump_step globals v.result s b.jump = step_jump virtual globals v i s b at (nothing_at b.lines s.next ahead) in
     let second : step located globals (placed_by v c) i (carry s led.next led.values) ≡ jump_step globals v.result (carry s led.next led.values) (placed_jump (layout_at c p) b.jump) =

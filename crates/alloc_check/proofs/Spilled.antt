@@ -39,17 +39,10 @@ use Rattle.alloc_check.proofs.Certifies.{from_true}
 use Rattle.alloc_check.proofs.Regular.{map_length}
 use Rattle.alloc_check.proofs.Agreeing.{same_is}
 use Rattle.alloc_check.proofs.Slots.{operand_in, two_in, args_in}
+use Rattle.il_ast.proofs.Truth.{equals_itself}
+use Rattle.il_ast.proofs.Listed.{get_before, all_append}
 
 -- ---- tests
-
-pub is_same : (r : ℕ) → nat_eq r r ≡ true
-is_same r = grind (arith, nat_tests)
-
-every_append : {X : Type 0} (test : X → Bool) (xs ys : List X) → list_all test xs ≡ true → list_all test ys ≡ true → list_all test (xs ++ ys) ≡ true
-every_append test [] ys a b = b
-every_append test (x ∷ xs) ys a b =
-    let s = and_parts (test x) (list_all test xs) a in
-    ap (λ t. t && list_all test (xs ++ ys)) s.0 ∙ every_append test xs ys s.1 b
 
 abbrev pub is_in : List ℕ → ℕ → Bool
 is_in rs r = list_any (λ k. nat_eq k r) rs
@@ -57,7 +50,7 @@ is_in rs r = list_any (λ k. nat_eq k r) rs
 pub every_in : (test : ℕ → Bool) (rs : List ℕ) → ((r : ℕ) → is_in rs r ≡ true → test r ≡ true) → list_all test rs ≡ true
 every_in test [] h = refl
 every_in test (k ∷ rs) h =
-    ap (λ b. b && list_all test rs) (h k (ap (λ b. b || is_in rs k) (is_same k)))
+    ap (λ b. b && list_all test rs) (h k (ap (λ b. b || is_in rs k) (equals_itself k)))
     ∙ every_in test rs (λ r e. h r (or_right (nat_eq k r) (is_in rs r) e))
 
 pub one_in : (test : ℕ → Bool) (rs : List ℕ) (r : ℕ) → list_all test rs ≡ true → is_in rs r ≡ true → test r ≡ true
@@ -70,11 +63,6 @@ one_in test (k ∷ rs) r all h =
     ]
 
 -- ---- lists, point by point
-
-pub get_append : {X : Type 0} (xs ys : List X) (p : ℕ) (x : X) → slice_get xs p ≡ Some x → slice_get (xs ++ ys) p ≡ Some x
-get_append [] ys p x h = cc
-get_append (y ∷ xs) ys zero x h = h
-get_append (y ∷ xs) ys (suc p) x h = get_append xs ys p x h
 
 pub get_last : {X : Type 0} (xs : List X) (x : X) → slice_get (xs ++ x ∷ []) (length xs) ≡ Some x
 get_last [] x = refl
@@ -103,7 +91,7 @@ slot_at (suc n) r low = by (nat_eq r n) refl (slot_at n r)
         ap (slice_get (slots (suc n))) (same ∙ sym (slots_count n)) ∙ get_last (slots n) (Slot n) ∙ ap (λ k. Some (Slot k)) (sym same)
     by false e before =
         let less : r < n = grind (arith, nat_tests) in
-        get_append (slots n) (Slot n ∷ []) r (Slot r) (before less)
+        get_before (slots n) (Slot n ∷ []) r (Slot r) (before less)
 
 abbrev own : ℕ → Equality
 own r = record { register = r; place = Slot r }
@@ -112,7 +100,7 @@ place_slot : (n r : ℕ) → r < n → place_in (slots n) r ≡ own r ∷ []
 place_slot n r low = ap (λ (o : Option Location). option_map_or (λ (q : Location). record { register = r; place = q } ∷ []) o []) (slot_at n r low)
 
 own_own : (n r : ℕ) → r < n → is_own n (own r) ≡ true
-own_own n r low = ap (λ b. b && nat_lt r n) (is_same r) ∙ (let e : nat_lt r n ≡ true = grind (arith, nat_tests) in e)
+own_own n r low = ap (λ b. b && nat_lt r n) (equals_itself r) ∙ (let e : nat_lt r n ≡ true = grind (arith, nat_tests) in e)
 
 pub params_listed : (n : ℕ) (ds : List (Destination ℕ)) → list_all (λ (d : Destination ℕ). is_below n d.place) ds ≡ true → listed_params (slots n) ds ≡ map (λ (d : Destination ℕ). Slot d.place) ds
 params_listed n [] h = refl
@@ -157,9 +145,9 @@ with_own n es r low all = by (has es r) refl
         )
     by false f =
         let is : with_place (slots n) es r ≡ es ++ own r ∷ [] = ap (λ b. if b then es else es ++ place_in (slots n) r) f ∙ ap (λ xs. es ++ xs) (place_slot n r low) in (
-          ap (list_all (is_own n)) is ∙ every_append (is_own n) es (own r ∷ []) all (ap (λ b. b && true) (own_own n r low)),
+          ap (list_all (is_own n)) is ∙ all_append (is_own n) es (own r ∷ []) all (ap (λ b. b && true) (own_own n r low)),
           (
-            ap (λ xs. has xs r) is ∙ list_any-append (λ (e : Equality). nat_eq e.register r) es (own r ∷ []) ∙ or_right (has es r) (nat_eq r r || false) (ap (λ b. b || false) (is_same r)),
+            ap (λ xs. has xs r) is ∙ list_any-append (λ (e : Equality). nat_eq e.register r) es (own r ∷ []) ∙ or_right (has es r) (nat_eq r r || false) (ap (λ b. b || false) (equals_itself r)),
             λ k h. ap (λ xs. has xs k) is ∙ list_any-append (λ (e : Equality). nat_eq e.register k) es (own r ∷ []) ∙ ap (λ b. b || (nat_eq r k || false)) h,
           ),
         )
@@ -332,30 +320,30 @@ pub uses_begin : (us : List Uses) (lines : List (Line ℕ)) → Begins us (with_
 uses_begin us [] p x h = h
 uses_begin us (l ∷ lines) p x h = elim (kind l) [
   | inl t ↦ uses_begin (with_line us l) lines p x (ap (λ vs. slice_get vs p) (t.uses us) ∙ h)
-  | inr t ↦ uses_begin (with_line us l) lines p x (ap (λ vs. slice_get vs p) (t.uses us) ∙ get_append us (line_uses l ∷ []) p x h)
+  | inr t ↦ uses_begin (with_line us l) lines p x (ap (λ vs. slice_get vs p) (t.uses us) ∙ get_before us (line_uses l ∷ []) p x h)
 ]
 
 pub nexts_begin : (ns : List (List ℕ)) (lines : List (Line ℕ)) → Begins ns (next_lines ns lines)
 nexts_begin ns [] p x h = h
 nexts_begin ns (l ∷ lines) p x h = elim (kind l) [
   | inl t ↦ nexts_begin (next_line ns l) lines p x (ap (λ vs. slice_get vs p) (t.nexts ns) ∙ h)
-  | inr t ↦ nexts_begin (next_line ns l) lines p x (ap (λ vs. slice_get vs p) (t.nexts ns) ∙ get_append ns (after_point (length ns) ∷ []) p x h)
+  | inr t ↦ nexts_begin (next_line ns l) lines p x (ap (λ vs. slice_get vs p) (t.nexts ns) ∙ get_before ns (after_point (length ns) ∷ []) p x h)
 ]
 
 pub blocks_begin : (us : List Uses) (blocks : List (Block ℕ)) → Begins us (with_blocks us blocks)
 blocks_begin us [] p x h = h
-blocks_begin us (b ∷ blocks) p x h = blocks_begin (with_block us b) blocks p x (get_append (with_lines us b.lines) (jump_uses b.jump ∷ []) p x (uses_begin us b.lines p x h))
+blocks_begin us (b ∷ blocks) p x h = blocks_begin (with_block us b) blocks p x (get_before (with_lines us b.lines) (jump_uses b.jump ∷ []) p x (uses_begin us b.lines p x h))
 
 pub next_blocks_begin : (firsts : List ℕ) (ns : List (List ℕ)) (blocks : List (Block ℕ)) → Begins ns (next_blocks firsts ns blocks)
 next_blocks_begin firsts ns [] p x h = h
 next_blocks_begin firsts ns (b ∷ blocks) p x h =
-    next_blocks_begin firsts (next_block firsts ns b) blocks p x (get_append (next_lines ns b.lines) (jump_next firsts b.jump ∷ []) p x (nexts_begin ns b.lines p x h))
+    next_blocks_begin firsts (next_block firsts ns b) blocks p x (get_before (next_lines ns b.lines) (jump_next firsts b.jump ∷ []) p x (nexts_begin ns b.lines p x h))
 
 -- ---- what points name
 
 one_below : (n : ℕ) (us : List Uses) (u : Uses) → list_all (use_below n) us ≡ true → list_all (is_below n) u.reads ≡ true → below_wanted n u.writes ≡ true → list_all (use_below n) (us ++ u ∷ []) ≡ true
 one_below n us u h reads writes =
-    every_append (use_below n) us (u ∷ []) h (ap (λ b. (b && below_wanted n u.writes) && true) reads ∙ ap (λ b. b && true) writes)
+    all_append (use_below n) us (u ∷ []) h (ap (λ b. (b && below_wanted n u.writes) && true) reads ∙ ap (λ b. b && true) writes)
 
 lines_below : (n : ℕ) (us : List Uses) (lines : List (Line ℕ)) → list_all (use_below n) us ≡ true → list_all (line_keeps (is_below n)) lines ≡ true → list_all (use_below n) (with_lines us lines) ≡ true
 lines_below n us [] h below = h
@@ -405,7 +393,7 @@ pub live_every : (n : ℕ) (rows : List Bits) (q m : ℕ) (pass : Equality → B
     → list_all pass (live_places (slots n) rows q m) ≡ true
 live_every n rows q zero pass low h = refl
 live_every n rows q (suc m) pass low h =
-    every_append pass (live_places (slots n) rows q m) (if holds rows q m then place_in (slots n) m else []) (live_every n rows q m pass (omega arith) h)
+    all_append pass (live_places (slots n) rows q m) (if holds rows q m then place_in (slots n) m else []) (live_every n rows q m pass (omega arith) h)
     (if_live n rows q m pass (omega arith) (h m (omega arith)))
 
 pub live_named : (n : ℕ) (rows : List Bits) (q m r : ℕ) → m ≤ n → r < m → holds rows q r ≡ true → has (live_places (slots n) rows q m) r ≡ true
@@ -418,7 +406,7 @@ live_named n rows q (suc m) r low in_m h = list_any-append (λ (e : Equality). n
         let same : r ≡ m = grind (arith, nat_tests) in
         let here : holds rows q m ≡ true = ap (holds rows q) (sym same) ∙ h in
         or_right (has (live_places (slots n) rows q m) r) (has (if holds rows q m then place_in (slots n) m else []) r)
-        (ap (λ b. has (if b then place_in (slots n) m else []) r) here ∙ ap (λ es. has es r) (place_slot n m (omega arith)) ∙ ap (λ b. b || false) (ap (nat_eq m) same ∙ is_same m))
+        (ap (λ b. has (if b then place_in (slots n) m else []) r) here ∙ ap (λ es. has es r) (place_slot n m (omega arith)) ∙ ap (λ b. b || false) (ap (nat_eq m) same ∙ equals_itself m))
     by false e before =
         let less : r < m = grind (arith, nat_tests) in
         ap (λ b. b || has (if holds rows q m then place_in (slots n) m else []) r) (before less)
@@ -459,7 +447,7 @@ named_at v n rows p u at below under =
     let here : places_at (slotted v n rows) p ≡ point_places (slots n) u =
     ap (λ (o : Option (List Equality)). option_map_or (λ (es : List Equality). es) o []) (slice_get-map (point_places (slots n)) (uses v.blocks) p ∙ ap (option_map (point_places (slots n))) at) in
     let owned = point_own n u below under in (
-      every_in (own_at (slotted v n rows) p) u.reads (λ r h. ap (λ es. same_location (place_by es r) (Slot r)) here ∙ ap (λ (q : Location). same_location q (Slot r)) (owned.0 r h) ∙ is_same r),
+      every_in (own_at (slotted v n rows) p) u.reads (λ r h. ap (λ es. same_location (place_by es r) (Slot r)) here ∙ ap (λ (q : Location). same_location q (Slot r)) (owned.0 r h) ∙ equals_itself r),
       by u.writes refl here owned.1,
     )
   where
@@ -468,7 +456,7 @@ named_at v n rows p u at below under =
     by None e here owned = ap (λ o. option_map_or (own_at (slotted v n rows) p) o true) e
     by (Some r) e here owned =
         ap (λ o. option_map_or (own_at (slotted v n rows) p) o true) e
-        ∙ ap (λ es. same_location (place_by es r) (Slot r)) here ∙ ap (λ (q : Location). same_location q (Slot r)) (owned r e) ∙ is_same r
+        ∙ ap (λ es. same_location (place_by es r) (Slot r)) here ∙ ap (λ (q : Location). same_location q (Slot r)) (owned r e) ∙ equals_itself r
 
 -- where block k begins
 start_is : (v : Code ℕ) (n : ℕ) (rows : List Bits) (k : ℕ) (o : Option ℕ) → slice_get (firsts_from 0 v.blocks) k ≡ o
@@ -495,7 +483,7 @@ start_kept ks None q h = h
 start_kept ks (Some k) q h = list_any-append (λ j. nat_eq j q) ks (k ∷ []) ∙ or_left (is_in ks q) (is_in (k ∷ []) q) h
 
 start_in : (ks : List ℕ) (o : Option ℕ) (q : ℕ) → o ≡ Some q → is_in (with_start ks o) q ≡ true
-start_in ks o q e = ap (λ x. is_in (with_start ks x) q) e ∙ list_any-append (λ j. nat_eq j q) ks (q ∷ []) ∙ or_right (is_in ks q) (is_in (q ∷ []) q) (ap (λ b. b || false) (is_same q))
+start_in ks o q e = ap (λ x. is_in (with_start ks x) q) e ∙ list_any-append (λ j. nat_eq j q) ks (q ∷ []) ∙ or_right (is_in ks q) (is_in (q ∷ []) q) (ap (λ b. b || false) (equals_itself q))
 
 targets_so : (v : Code ℕ) (n : ℕ) (rows : List Bits) → AreLive (graph_of v) n rows → (p : ℕ) (j : Jump ℕ) → At (graph_of v) p (jump_uses j) (jump_next (firsts_from 0 v.blocks) j)
     → targets_wanted (holds rows) (slotted v n rows) p j ≡ true
@@ -537,7 +525,7 @@ point_flows v n rows live p q r l ns at is h = by (writes_to l r) refl
     by true e = or_right (holds rows p r) (writes_to l r) e
     by false e =
         or_left (holds rows p r) (writes_to l r)
-        (flow_at (graph_of v) n rows live p (length ns + 1) r (line_uses l) (after_point (length ns)) at (ap (λ b. b || false) (is_same (length ns + 1))) e (ap (λ k. holds rows k r) (sym is) ∙ h))
+        (flow_at (graph_of v) n rows live p (length ns + 1) r (line_uses l) (after_point (length ns)) at (ap (λ b. b || false) (equals_itself (length ns + 1))) e (ap (λ k. holds rows k r) (sym is) ∙ h))
 
 lines_so : (v : Code ℕ) (n : ℕ) (rows : List Bits) → AreLive (graph_of v) n rows → (p : ℕ) (j : Jump ℕ) (lines : List (Line ℕ)) (us : List Uses) (ns : List (List ℕ))
     → length us ≡ p → length ns ≡ p → Begins (with_lines us lines ++ jump_uses j ∷ []) (uses v.blocks) → Begins (next_lines ns lines ++ jump_next (firsts_from 0 v.blocks) j ∷ []) (graph_of v).nexts
@@ -566,8 +554,8 @@ lines_so v n rows live p j (l ∷ lines) us ns cu cn bu bn below under =
           let rest = lines_so v n rows live (next_point p l) j lines (with_line us l) (next_line ns l) count_u count_n bu bn s.1 under in
           let at : At (graph_of v) p (line_uses l) (after_point (length ns)) =
           here_is (graph_of v) p us (line_uses l) ns (after_point (length ns)) cu cn
-          (λ q x h. bu q x (get_append (with_lines (with_line us l) lines) (jump_uses j ∷ []) q x (uses_begin (with_line us l) lines q x (ap (λ xs. slice_get xs q) (t.uses us) ∙ h))))
-          (λ q x h. bn q x (get_append (next_lines (next_line ns l) lines) (jump_next (firsts_from 0 v.blocks) j ∷ []) q x (nexts_begin (next_line ns l) lines q x (ap (λ xs. slice_get xs q) (t.nexts ns) ∙ h)))) in
+          (λ q x h. bu q x (get_before (with_lines (with_line us l) lines) (jump_uses j ∷ []) q x (uses_begin (with_line us l) lines q x (ap (λ xs. slice_get xs q) (t.uses us) ∙ h))))
+          (λ q x h. bn q x (get_before (next_lines (next_line ns l) lines) (jump_next (firsts_from 0 v.blocks) j ∷ []) q x (nexts_begin (next_line ns l) lines q x (ap (λ xs. slice_get xs q) (t.nexts ns) ∙ h)))) in
           let low = names_below (is_below n) l s.0 in
           let named = named_at v n rows p (line_uses l) at.uses low.0 low.1 in (
             (

@@ -15,10 +15,6 @@ use Rattle.vcode.specs.Places.{same_location}
 use Rattle.alloc_check.specs.Accepted.{exists_in}
 use Rattle.certificates.specs.declared.certificate.Equality.{Equality}
 
-and_three : (a b c : Bool) → ((a && b) && c) ≡ (a && (b && c))
-and_three true b c = refl
-and_three false b c = refl
-
 pub both_hold : (own : Owners) (xs ys : List Equality) → all_hold own (xs ++ ys) ≡ (all_hold own xs && all_hold own ys)
 both_hold own xs ys = list_all-append (λ (e : Equality). owns own e.place e.register) xs ys
 

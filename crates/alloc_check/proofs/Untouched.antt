@@ -23,6 +23,7 @@ use Rattle.alloc_check.specs.Accepted.{exists_in}
 use Rattle.alloc_check.specs.OwnerTable.{in_table}
 use Rattle.alloc_check.specs.Walk.{put_in, moves_before, moved_in, known_in, after_reads, line_in, point_in, lines_in, place_stays, register_stays, moves_stay, starts_stay, write_stays, line_stays, lines_stay, machine_stays, block_stays}
 use Rattle.alloc_check.proofs.Agreeing.{same_is}
+use Rattle.il_ast.proofs.Truth.{same_tests}
 
 -- ---- tests
 
@@ -90,11 +91,6 @@ every_two test other (x ∷ xs) h g =
     ap (λ b. (b && other x) && list_all (λ y. test y && other y) xs) s.0
     ∙ ap (λ b. b && list_all (λ y. test y && other y) xs) t.0
     ∙ every_two test other xs s.1 t.1
-
-same_tests : (a b : Bool) → (a ≡ true → b ≡ true) → (b ≡ true → a ≡ true) → a ≡ b
-same_tests true b f g = sym (f refl)
-same_tests false true f g = g refl
-same_tests false false f g = refl
 
 -- ---- one equality on its way through a block
 

@@ -26,6 +26,7 @@ use Rattle.alloc_check.specs.Walk.{put_in, moved_in, known_in, after_reads, rece
 use Rattle.alloc_check.proofs.Starting.{both_hold}
 use Rattle.alloc_check.proofs.Untouched.{stays_is}
 use Rattle.vcode.proofs.Lists.{item_next}
+use Rattle.il_ast.proofs.Truth.{and_assoc}
 
 -- ---- the code, line by line
 
@@ -223,10 +224,6 @@ blocks_are n c p k (b ∷ blocks) every apart starts e h =
     ∙ ap (λ t. lines_right c p (known (starts_at c k) nobody) b.jump b.lines && t) (blocks_are n c (jump_point p b.lines + 1) (k + 1) blocks every apart starts below.1 placed.1)
 
 -- ---- on entry
-
-and_assoc : (a b c : Bool) → ((a && b) && c) ≡ (a && (b && c))
-and_assoc true b c = refl
-and_assoc false b c = refl
 
 apart_sound : (n : ℕ) (v : Code ℕ) (c : Certificate) → keeps_places (is_below n) v ≡ true → list_all (exists_in n) c.everywhere ≡ true → equalities_exist n c.starts ≡ true
     → keeps_places (is_place n) (placed_by v c) ≡ true → are_apart c.everywhere ≡ true → (entry_in v c && blocks_in n c.everywhere c 0 0 v.blocks) ≡ is_sound v c

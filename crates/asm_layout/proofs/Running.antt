@@ -174,7 +174,7 @@ moves_more g s m n to h mv =
 
 -- ---- a far jump
 
-put_fits : (registers : ℕ → ℕ) (r v n : ℕ) → v < 2 ^ 64 → ((m : ℕ) → registers m < 2 ^ 64) → updated registers r v n < 2 ^ 64
+pub put_fits : (registers : ℕ → ℕ) (r v n : ℕ) → v < 2 ^ 64 → ((m : ℕ) → registers m < 2 ^ 64) → updated registers r v n < 2 ^ 64
 put_fits registers r v n h rest = by_test (n == r)
   where
     by_test : (b : Bool) → (if b then v else registers n) < 2 ^ 64

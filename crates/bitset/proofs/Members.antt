@@ -3,7 +3,7 @@ use Rattle.std.proofs.Common.{◌≡◌, ◌≢◌, ℕ, zero, suc, ◌+◌, ◌
 use Rattle.std.specs.Prelude.{MatchBool, ◌⊎◌}
 use Rattle.std.specs.Int.{bit_at, bit_not}
 use Rattle.std.proofs.Math.Nat.{eq-or-lt_of_le}
-use Rattle.std.proofs.lemmas.Bool.{cases_lt}
+use Rattle.std.proofs.lemmas.Bool.{cases_lt, cases_eq}
 use Rattle.std.proofs.lemmas.Bool.Decides.{nat_tests}
 use Rattle.std.proofs.lemmas.List.{get_or_past}
 use Rattle.std.proofs.Common.{get_or-set_same, get_or-set_other}
@@ -236,12 +236,6 @@ lost : (b : Bool) → (b && not true) ≡ false
 lost true = refl
 lost false = refl
 
-same_or_not : (m n : ℕ) → (m ≡ n) ⊎ (m ≢ n)
-same_or_not m n = elim (cases_lt m n) [ inl low ↦ inr (λ p. omega arith) | inr high ↦ at_least m n high ]
-  where
-    at_least : (m n : ℕ) → n ≤ m → (m ≡ n) ⊎ (m ≢ n)
-    at_least m n h = elim (eq-or-lt_of_le h) [ inl same ↦ inl (sym same) | inr low ↦ inr (λ p. omega arith) ]
-
 -- clearing the bit of a number takes out that number alone
 taken_out : (words : List ℕ) (i j : ℕ) → i / 64 < length words → (here : Bool) → (j == i) ≡ here → is_set (without_number words i) j ≡ (is_set words j && not here)
 taken_out words i j within true e =
@@ -249,7 +243,7 @@ taken_out words i j within true e =
     ap (λ k. is_set (without_number words i) k) (sym is) ∙ cleared_bit words i within ∙ sym (lost (is_set words j))
 taken_out words i j within false e =
     let differ : j ≢ i = λ p. grind (arith, nat_tests) in
-    elim (same_or_not (j / 64) (i / 64)) [
+    elim (cases_eq (j / 64) (i / 64)) [
       | inl same ↦ stays_other_bit words i j within same (λ rest. differ (omega arith))
       | inr other ↦ stays_other_word words i j other
     ] ∙ sym (kept_but (is_set words j))

@@ -1,5 +1,5 @@
 -- The code in an order takes no more than the code did, and names the registers of the function.
-use Rattle.std.proofs.Common.{◌≡◌, ℕ, zero, suc, ◌≤◌, Bool, true, false, not, ◌&&◌, ◌||◌, nat_eq, nat_lt, nat_le, if◌then◌else◌, List, [], ◌∷◌, map, length, refl, sym, ◌∙◌, ap, arith}
+use Rattle.std.proofs.Common.{◌≡◌, ℕ, zero, suc, ◌≤◌, Bool, true, false, not, ◌&&◌, nat_eq, nat_lt, nat_le, if◌then◌else◌, List, [], ◌∷◌, map, length, refl, sym, ◌∙◌, ap, arith}
 use Rattle.std.specs.List.{list_all, list_any, sum_by}
 use Rattle.std.proofs.lemmas.Bool.Decides.{nat_tests}
 use Rattle.std.proofs.lemmas.List.{length-map}
@@ -20,6 +20,7 @@ use Rattle.block_placement.specs.Ordered.{Order, place_in, is_named, block_at, l
 use Rattle.block_placement.proofs.Placing.{one_more_below, named_place}
 use Rattle.block_placement.proofs.Summing.{sum_in_order}
 use Rattle.block_placement.proofs.Running.{runs}
+use Rattle.il_ast.proofs.Truth.{neither_holds}
 
 -- ---- an order, by its parts
 
@@ -115,10 +116,6 @@ makes_none b = not (list_any is_alloc b.lines)
 unlike : (k z : ℕ) → nat_eq k z ≡ false → nat_eq z 0 ≡ true → nat_eq k 0 ≡ false
 unlike k z h e = grind (arith, nat_tests)
 
-neither : (a b : Bool) → not (a || b) ≡ true → (a ≡ false) × (not b ≡ true)
-neither true b h = absurd (let no : ⊥ = cc in no)
-neither false b h = (refl, h)
-
 later_none : (b : Block ℕ) (blocks : List (Block ℕ)) (k : ℕ) → list_all makes_none blocks ≡ true → nat_eq k 0 ≡ false → nat_lt k (length (b ∷ blocks)) ≡ true → makes_none (block_at (b ∷ blocks) k) ≡ true
 later_none b blocks zero all other low = absurd (let no : ⊥ = cc in no)
 later_none b blocks (suc k) all other low = passes_at makes_none blocks k all (one_less k (length blocks) low)
@@ -127,7 +124,7 @@ rest_none : (b : Block ℕ) (blocks : List (Block ℕ)) (all : Order) (z : ℕ) 
     → list_all (λ k. nat_lt k (length (b ∷ blocks))) order ≡ true → list_all makes_none (map (λ k. placed all (block_at (b ∷ blocks) k)) order) ≡ true
 rest_none b blocks all z [] none first once there = refl
 rest_none b blocks all z (k ∷ order) none first once there =
-    let s = neither (nat_eq k z) (is_named order z) once in
+    let s = neither_holds (nat_eq k z) (is_named order z) once in
     let t = and_parts (nat_lt k (length (b ∷ blocks))) (list_all (λ j. nat_lt j (length (b ∷ blocks))) order) there in
     and_from (makes_none (block_at (b ∷ blocks) k)) (list_all makes_none (map (λ j. placed all (block_at (b ∷ blocks) j)) order))
     (later_none b blocks k none (unlike k z s.0 first) t.0)

@@ -6,7 +6,7 @@ use Rattle.std.proofs.lemmas.Bool.Decides.{nat_tests}
 use Rattle.std.proofs.lemmas.List.{get_or-set_other, get_or-replicate, get_or_past, length-replicate, get_or_default}
 use Rattle.std.proofs.lemmas.Grind.{get_or-set_at}
 use Rattle.std.proofs.lemmas.Option.{unwrap_or-slice_get}
-use Rattle.std.proofs.lemmas.Bool.{and_parts, and_from, eqb-true, ltb-true, lt-ltb}
+use Rattle.std.proofs.lemmas.Bool.{and_parts, and_from, eqb-true, ltb-true, lt-ltb, le-ltb}
 use Rattle.vcode.proofs.Lists.{item_next}
 use Rattle.block_placement.specs.Ordered.{Order, place_in, is_named, names_once}
 use Rattle.block_placement.specs.Placed.{kept_place, AreUnset, names_blocks}
@@ -18,9 +18,6 @@ other_number j k h = grind (arith, nat_tests)
 
 not_below : (j k : ℕ) → nat_lt j k ≡ false → k ≤ j
 not_below j k h = grind (arith, nat_tests)
-
-above_is : (j k : ℕ) → k ≤ j → nat_lt j k ≡ false
-above_is j k h = grind (arith, nat_tests)
 
 pub one_more_below : (p n : ℕ) → nat_lt p n ≡ nat_lt (suc p) (suc n)
 one_more_below p n = grind (arith, nat_tests)
@@ -102,7 +99,7 @@ places_above order old new i j low high at there written before k =
 unnamed_below : (order : Order) (old : List ℕ) (i j : ℕ) → i ≤ length order → kept_place order old j ≡ i + place_in (drop i order) j → length order ≤ kept_place order old j → is_named (drop i order) j ≡ false
 unnamed_below order old i j high is none =
     let short = length-drop i order in
-    named_place (drop i order) j ∙ above_is (place_in (drop i order) j) (length (drop i order)) (omega arith)
+    named_place (drop i order) j ∙ le-ltb (place_in (drop i order) j) (length (drop i order)) (omega arith)
 
 named_below : (order : Order) (old : List ℕ) (i j : ℕ) → i ≤ length order → kept_place order old j ≡ i + place_in (drop i order) j → kept_place order old j < length order → is_named (drop i order) j ≡ true
 named_below order old i j high is some =
@@ -157,4 +154,4 @@ not_there order n i j low high at past =
     let rest = drop i order in
     fails_whole n (i - 1) order
     (ap (λ xs. names_blocks xs n) (item_above order i j low high at)
-    ∙ third_no (not (is_named rest j)) (names_once rest) (nat_lt j n) (list_all (λ k. nat_lt k n) rest) (above_is j n past))
+    ∙ third_no (not (is_named rest j)) (names_once rest) (nat_lt j n) (list_all (λ k. nat_lt k n) rest) (le-ltb j n past))

@@ -1,11 +1,10 @@
 -- The code in an order follows the code, in the same states, each block where it stands in the order.
-use Rattle.std.proofs.Common.{◌≡◌, ℕ, suc, Bool, true, ◌||◌, nat_eq, if◌then◌else◌, List, [], ◌∷◌, length, Option, Some, slice_get, refl, sym, ◌∙◌, ap, subst, arith}
+use Rattle.std.proofs.Common.{◌≡◌, ℕ, suc, Bool, true, ◌||◌, if◌then◌else◌, List, [], ◌∷◌, length, Option, Some, slice_get, refl, sym, ◌∙◌, ap, subst, arith}
 use Rattle.std.specs.Prelude.{unwrap_or}
 use Rattle.std.specs.List.{list_all}
 use Rattle.std.specs.Option.{option_map}
-use Rattle.std.proofs.lemmas.Bool.Decides.{nat_tests}
 use Rattle.std.proofs.lemmas.Option.{slice_get-map, slice_get_within}
-use Rattle.std.proofs.lemmas.Bool.{and_parts}
+use Rattle.std.proofs.lemmas.Bool.{and_parts, eqb-true}
 use Rattle.il_ast.specs.declared.value.Value.{Value}
 use Rattle.il_ast.specs.Keeps.{KeepsCode}
 use Rattle.vcode.specs.declared.place.Operand.{Operand}
@@ -84,16 +83,13 @@ stands order f k b at named =
     ∙ ap (option_map (λ j. placed order (block_at f.blocks j))) (at_place order k named)
     ∙ ap (λ (c : Block ℕ). Some (placed order c)) (found f k b at)
 
-none_there : (n : ℕ) → nat_eq n 0 ≡ true → n ≡ 0
-none_there n h = grind (arith, nat_tests)
-
 start_stands : (blocks : List (Block ℕ)) (order : Order) → begins (length blocks) order ≡ true → place_in order 0 ≡ 0
 start_stands blocks [] h = refl
 start_stands blocks (k ∷ order) h = ap (λ (b : Bool). if b then 0 else suc (place_in order 0)) h
 
 start_named : (blocks : List (Block ℕ)) (order : Order) → begins (length blocks) order ≡ true → (b : Block ℕ) → slice_get blocks 0 ≡ Some b → is_named order 0 ≡ true
 start_named blocks [] h b at =
-    let none = none_there (length blocks) h in
+    let none = eqb-true (length blocks) 0 h in
     let some = slice_get_within blocks 0 b at in
     absurd (omega arith)
 start_named blocks (k ∷ order) h b at = ap (λ x. x || is_named order 0) h

@@ -2,7 +2,7 @@
 use Rattle.std.proofs.Common.{◌≡◌, ℕ, zero, suc, ◌+◌, ◌<◌, ◌≤◌, Bool, true, false, not, ◌&&◌, ◌||◌, nat_eq, nat_lt, cond, List, [], ◌∷◌, map, length, refl, sym, ap, ◌∙◌, arith}
 use Rattle.std.specs.List.{list_all, range_with_len}
 use Rattle.std.proofs.lemmas.Bool.Decides.{nat_tests}
-use Rattle.std.proofs.lemmas.Bool.{and_parts, and_from, ltb-true, lt-ltb}
+use Rattle.std.proofs.lemmas.Bool.{and_parts, and_from, ltb-true, lt-ltb, eq-eqb}
 use Rattle.vcode.specs.declared.line.Jump.{Jump}
 use Rattle.vcode.specs.declared.line.Jump.TheVariants.{Goto, Branch, Return, Halt}
 use Rattle.vcode.specs.declared.code.Block.{Block}
@@ -11,6 +11,7 @@ use Rattle.vcode.specs.declared.function.VFunc.{VFunc}
 use Rattle.vcode.specs.Regular.{is_target, leads_inside}
 use Rattle.block_placement.specs.Ordered.{is_named, block_at, begins, names_once, leads_within, is_order, place_in, led, placed, in_order, IsOrdered}
 use Rattle.block_placement.proofs.Keeping.{passes_at, all_from}
+use Rattle.il_ast.proofs.Truth.{less_differs}
 
 past : (a k : ℕ) → a ≤ k → nat_eq a k ≡ false → a + 1 ≤ k
 past a k low e = grind (arith, nat_tests)
@@ -70,18 +71,12 @@ as_they_stand f inside =
 
 -- ---- in that order the code is as it was
 
-here : (a k : ℕ) → a ≡ k → nat_eq a k ≡ true
-here a k h = grind (arith, nat_tests)
-
-behind : (a k : ℕ) → a < k → nat_eq a k ≡ false
-behind a k h = grind (arith, nat_tests)
-
 place_within : (n a k j : ℕ) → j < n → a + j ≡ k → place_in (range_with_len a n) k ≡ j
 place_within zero a k j low e = absurd (omega arith)
 place_within (suc n) a k zero low e =
-    ap (λ b. cond b 0 (suc (place_in (range_with_len (a + 1) n) k))) (here a k (omega (arith, e)))
+    ap (λ b. cond b 0 (suc (place_in (range_with_len (a + 1) n) k))) (eq-eqb a k (omega (arith, e)))
 place_within (suc n) a k (suc j) low e =
-    ap (λ b. cond b 0 (suc (place_in (range_with_len (a + 1) n) k))) (behind a k (omega (arith, e)))
+    ap (λ b. cond b 0 (suc (place_in (range_with_len (a + 1) n) k))) (less_differs a k (omega (arith, e)))
     ∙ ap suc (place_within n (a + 1) k j (omega arith) (omega (arith, e)))
 
 same_target : (n k : ℕ) → is_target n k ≡ true → place_in (range_with_len 0 n) k ≡ k

@@ -1,11 +1,11 @@
 -- What blocks that an order names sum up to is at most what all do.
 use Rattle.std.proofs.Common.{◌≡◌, ℕ, zero, suc, ◌+◌, ◌<◌, ◌≤◌, Bool, true, false, not, nat_eq, nat_lt, if◌then◌else◌, List, [], ◌∷◌, map, length, refl, sym, ◌∙◌, ap, arith}
 use Rattle.std.specs.List.{list_all, sum_by}
-use Rattle.std.proofs.lemmas.Bool.Decides.{nat_tests}
 use Rattle.std.proofs.lemmas.List.Sums.{sum_by-cons}
 use Rattle.std.proofs.lemmas.Bool.{and_parts, ltb-true, or_parts, not-true}
 use Rattle.vcode.specs.declared.code.Block.{Block}
 use Rattle.block_placement.specs.Ordered.{Order, is_named, block_at, names_once}
+use Rattle.il_ast.proofs.Truth.{equals_itself}
 
 -- the sum of a number for each below n
 abbrev total : (ℕ → ℕ) → ℕ → ℕ
@@ -37,9 +37,6 @@ without_less j f k = by (nat_eq k j)
     by true = omega arith
     by false = omega arith
 
-same_is : (j : ℕ) → nat_eq j j ≡ true
-same_is j = grind (arith, nat_tests)
-
 sum_unnamed : (f : ℕ → ℕ) (j : ℕ) (order : Order) → is_named order j ≡ false → sum_by f order ≡ sum_by (without j f) order
 sum_unnamed f j [] h = refl
 sum_unnamed f j (k ∷ order) h =
@@ -55,7 +52,7 @@ sum_named n (j ∷ order) f once low =
     let first = sum_by-cons f j order in
     let unnamed = sum_unnamed f j order (not-true (is_named order j) s.0) in
     let rest = sum_named n order (without j f) s.1 t.1 in
-    let apart = total_apart f (without j f) (without_less j f) n j (ap (λ (b : Bool). if b then 0 else f j) (same_is j)) (ltb-true j n t.0) in
+    let apart = total_apart f (without j f) (without_less j f) n j (ap (λ (b : Bool). if b then 0 else f j) (equals_itself j)) (ltb-true j n t.0) in
     omega arith
 
 total_blocks : (g : Block ℕ → ℕ) (blocks : List (Block ℕ)) → total (λ k. g (block_at blocks k)) (length blocks) ≡ sum_by g blocks

@@ -34,11 +34,7 @@ use Rattle.constant_hoisting.specs.declared.plan.Constant.{Constant}
 use Rattle.constant_hoisting.specs.declared.plan.Constant.TheVariants.{Number as OfNumber, Name as OfName}
 use Rattle.constant_hoisting.specs.declared.plan.Plan.{Plan}
 use Rattle.constant_hoisting.specs.Held.{operand_of, is_it, is_held, is_set, replaced, setting, held_block, with_blocks, with_constant, is_other, may_lead, leads_well, is_safe}
-
-pub all_at : {X : Type 0} (test : X → Bool) (xs : List X) (k : ℕ) (x : X) → list_all test xs ≡ true → slice_get xs k ≡ Some x → test x ≡ true
-all_at test [] k x h at = absurd (let no : ⊥ = cc in no)
-all_at test (y ∷ xs) zero x h at = let same : y ≡ x = cc in ap test (sym same) ∙ (and_parts (test y) (list_all test xs) h).0
-all_at test (y ∷ xs) (suc k) x h at = all_at test xs k x (and_parts (test y) (list_all test xs) h).1 at
+use Rattle.il_ast.proofs.Listed.{all_at}
 
 -- ---- what is claimed
 

@@ -1,8 +1,7 @@
 -- What is known goes on from line to line, and lines and blocks are made one after another.
-use Rattle.std.proofs.Common.{◌≡◌, ℕ, ◌+◌, ◌<◌, Bool, true, false, not, ◌&&◌, nat_eq, nat_lt, if◌then◌else◌, List, [], ◌∷◌, ◌++◌, length, get_or, drop, Option, Some, None, refl, sym, ◌∙◌, ap, subst, arith}
+use Rattle.std.proofs.Common.{◌≡◌, ℕ, ◌+◌, ◌<◌, Bool, true, false, not, ◌&&◌, nat_eq, nat_lt, if◌then◌else◌, List, ◌∷◌, length, get_or, drop, Option, Some, None, refl, sym, ◌∙◌, ap, subst}
 use Rattle.std.specs.Option.{option_map_or}
 use Rattle.std.proofs.Math.Path.{fun_ext}
-use Rattle.std.proofs.lemmas.Bool.Decides.{nat_tests}
 use Rattle.vcode.specs.declared.line.Line.{Line}
 use Rattle.vcode.specs.declared.line.Jump.{Jump}
 use Rattle.vcode.specs.declared.code.Block.{Block}
@@ -17,16 +16,14 @@ use Rattle.constant_propagation.specs.FactTable.{facts_of, changed, over}
 use Rattle.constant_propagation.specs.Shortened.{shortened}
 use Rattle.constant_propagation.specs.Forwarded.{with_line, AreForwarded, IsForwarded, AllForwarded}
 use Rattle.constant_propagation.specs.After.{changes_memory, fact_of, after}
+use Rattle.il_ast.proofs.Truth.{equal_turned}
 
 -- ---- what is known after a line
-
-turned : (a b : ℕ) → nat_eq a b ≡ nat_eq b a
-turned a b = grind (arith, nat_tests)
 
 -- what a line does that writes register r
 after_some : (n r : ℕ) (memory : Bool) (known : Option Fact) (fs : Facts) → ((f : Fact) → known ≡ Some f → (memory && asks_memory f) ≡ false) → (q : ℕ)
     → kept_if (λ f. nat_lt q n && (fact_below n f && (not (fact_names f r) && not (memory && asks_memory f)))) (if nat_eq r q then known else fs q) ≡ over n r known (changed memory fs) q
-after_some n r memory known fs asks q = by (nat_eq r q) (nat_eq q r) (turned r q)
+after_some n r memory known fs asks q = by (nat_eq r q) (nat_eq q r) (equal_turned r q)
   where
     test : Fact → Bool
     test f = nat_lt q n && (fact_below n f && (not (fact_names f r) && not (memory && asks_memory f)))
@@ -112,10 +109,6 @@ after_nothing n l fs writes low q =
     ∙ after_none n (changes_memory l) fs low q
 
 -- ---- lines
-
-pub append_one : {X : Type 0} (xs : List X) (x : X) (ys : List X) → (xs ++ x ∷ []) ++ ys ≡ xs ++ x ∷ ys
-append_one [] x ys = refl
-append_one (z ∷ xs) x ys = ap (λ zs. z ∷ zs) (append_one xs x ys)
 
 pub lines_on : (n : ℕ) (es : List Entry) (whole : List (Line ℕ)) (t u : FactTable) (lines : List (Line ℕ)) (i : ℕ) (l m : Line ℕ) (rest : List (Line ℕ)) (j k : Jump ℕ) → i < length lines → l ≡ get_or lines i l
     → m ≡ shortened (with_line (facts_of t) l) → ((q : ℕ) → facts_of u q ≡ after n m (facts_of t) q) → AreForwarded n es whole (facts_of u) (drop (i + 1) lines) rest j k

@@ -58,6 +58,8 @@ use Rattle.constant_propagation.specs.Shortened.{shortened}
 use Rattle.constant_propagation.proofs.Computing.{numbers_compared, unchanged, shortened_act}
 use Rattle.constant_propagation.specs.Forwarded.{is_short, copied, propagate, regrouped, grouped, folded, further, from_base, with_address, with_line, test_of, tested_by, with_test, with_branch, numbers_hold, decided, with_jump, AreForwarded, AllForwarded}
 use Rattle.constant_propagation.specs.After.{is_add, sum_of, changes_memory, writes_it, fact_of, leaves, after}
+use Rattle.il_ast.proofs.Truth.{equals_itself, equal_turned}
+use Rattle.il_ast.proofs.Wrapping.{further_sum}
 
 -- a state with these registers and this memory
 abbrev in_state : Memory → Values ℕ → State ℕ
@@ -82,15 +84,12 @@ operand_same globals s fs all (Name g) = refl
 
 -- ---- sums
 
-same_sums : (a n m : ℕ) → ((a + n % 2 ^ 64) % 2 ^ 64 + m % 2 ^ 64) % 2 ^ 64 ≡ (a + (n + m) % 2 ^ 64 % 2 ^ 64) % 2 ^ 64
-same_sums a n m = omega arith
-
 -- of a sum with a number and another number
 sum_twice : (memory : Memory) (o : Option Value) (n m : ℕ) → operated memory (Reg Add) (summed o n) (Some (Integer (m % 2 ^ 64))) ≡ operated memory (Reg Add) o (Some (Integer ((n + m) % 2 ^ 64 % 2 ^ 64)))
 unfolding operate
 sum_twice memory None n m = refl
-sum_twice memory (Some (Integer a)) n m = ap (λ k. Some (Integer k)) (same_sums a n m)
-sum_twice memory (Some (Pointer b o)) n m = ap (λ k. Some (Pointer b k)) (same_sums o n m)
+sum_twice memory (Some (Integer a)) n m = ap (λ k. Some (Integer k)) (further_sum a n m)
+sum_twice memory (Some (Pointer b o)) n m = ap (λ k. Some (Pointer b k)) (further_sum o n m)
 sum_twice memory (Some (Function g)) n m = refl
 
 -- a sum asks no memory
@@ -437,23 +436,17 @@ record Moved (globals : List Value) (m : Line ℕ) (s u : State ℕ) : Type 0 wh
   memory : changes_memory m ≡ false → u.memory ≡ s.memory
   fact : (r : ℕ) (f : Fact) → writes_it m r ≡ true → fact_of m ≡ Some f → ((k : ℕ) → writes_it m k ≡ true → fact_names f k ≡ false) → Truth globals u r f
 
-turned : (a b : ℕ) → nat_eq a b ≡ nat_eq b a
-turned a b = grind (arith, nat_tests)
-
 other_value : (ev : Values ℕ) (to : ℕ) (o : Option Value) (r : ℕ) → nat_eq to r ≡ false → assign virtual to o ev r ≡ ev r
-other_value ev to o r h = ap (λ (b : Bool). if b then o else ev r) (turned r to ∙ h)
+other_value ev to o r h = ap (λ (b : Bool). if b then o else ev r) (equal_turned r to ∙ h)
 
 own_value : (ev : Values ℕ) (to : ℕ) (o : Option Value) (r : ℕ) → nat_eq to r ≡ true → assign virtual to o ev r ≡ o
-own_value ev to o r h = ap (λ (b : Bool). if b then o else ev r) (turned r to ∙ h)
+own_value ev to o r h = ap (λ (b : Bool). if b then o else ev r) (equal_turned r to ∙ h)
 
 -- an operand that doesn't name the register has the value that it had
 still : (globals : List Value) (ev : Values ℕ) (to : ℕ) (o : Option Value) (a : Operand ℕ) → names_it a to ≡ false → value_of globals (assign virtual to o ev) a ≡ value_of globals ev a
-still globals ev to o (At k) h = other_value ev to o k (turned to k ∙ h)
+still globals ev to o (At k) h = other_value ev to o k (equal_turned to k ∙ h)
 still globals ev to o (Number n) h = refl
 still globals ev to o (Name g) h = refl
-
-is_same : (r : ℕ) → nat_eq r r ≡ true
-is_same r = grind (arith, nat_tests)
 
 set_true : (globals : List Value) (s : State ℕ) (to : ℕ) (a : Operand ℕ) (r : ℕ) (f : Fact) → nat_eq to r ≡ true → Some (Same a) ≡ Some f → ((k : ℕ) → nat_eq to k ≡ true → fact_names f k ≡ false)
     → Truth globals (record s { values = assign virtual to (value_of globals s.values a) s.values }) r f
@@ -461,7 +454,7 @@ set_true globals s to a r f w h names =
     let o = value_of globals s.values a in
     let is : Same a ≡ f = some_fact (Same a) f h in
     subst (λ (x : Fact). Truth globals (record s { values = assign virtual to o s.values }) r x) is
-    (own_value s.values to o r w ∙ sym (still globals s.values to o a (ap (λ (x : Fact). fact_names x to) is ∙ names to (is_same to))))
+    (own_value s.values to o r w ∙ sym (still globals s.values to o a (ap (λ (x : Fact). fact_names x to) is ∙ names to (equals_itself to))))
   where
     some_fact : (x y : Fact) → Some x ≡ Some y → x ≡ y
     some_fact x y e = cc
@@ -470,7 +463,7 @@ compared_true : (globals : List Value) (s : State ℕ) (to : ℕ) (c : Compariso
     → ((k : ℕ) → nat_eq to k ≡ true → fact_names f k ≡ false) → Truth globals (record s { values = assign virtual to (compared globals s c) s.values }) r f
 compared_true globals s to c r f w h names =
     let is : Test c ≡ f = some_fact (Test c) f h in
-    let unnamed = or_parts (names_it c.left to) (names_it c.right to) (ap (λ (x : Fact). fact_names x to) is ∙ names to (is_same to)) in
+    let unnamed = or_parts (names_it c.left to) (names_it c.right to) (ap (λ (x : Fact). fact_names x to) is ∙ names to (equals_itself to)) in
     let o = compared globals s c in
     let ev : Values ℕ = assign virtual to o s.values in
     let same : compared globals (record s { values = ev }) c ≡ o =
@@ -495,7 +488,7 @@ sum_true globals s to op a b r f w h names = by_op (is_add op) refl h
 
     known : (q n : ℕ) → Sum (At q) n ≡ f → operated s.memory (Reg Add) (s.values q) (Some (Integer (n % 2 ^ 64))) ≡ given → Truth globals (record s { values = ev }) r f
     known q n is sum =
-        let unnamed : names_it (At q) to ≡ false = ap (λ (x : Fact). fact_names x to) is ∙ names to (is_same to) in
+        let unnamed : names_it (At q) to ≡ false = ap (λ (x : Fact). fact_names x to) is ∙ names to (equals_itself to) in
         subst (λ (x : Fact). Truth globals (record s { values = ev }) r x) is
         (own_value s.values to given r w
         ∙ (sym sum ∙ (no_memory s.memory (s.values q) (n % 2 ^ 64) ∙ ap (λ (x : Option Value). summed x n) (sym (still globals s.values to given (At q) unnamed)))))
@@ -561,7 +554,7 @@ value_kept : (globals : List Value) (m : Line ℕ) (s u : State ℕ) → Moved g
 value_kept globals m s u moved (At k) h = by (writes_it m k) refl
   where
     by : (b : Bool) → writes_it m k ≡ b → u.values k ≡ s.values k
-    by true e = let no : nat_eq k k ≡ false = h k e in let yes_it_is = is_same k in cc
+    by true e = let no : nat_eq k k ≡ false = h k e in let yes_it_is = equals_itself k in cc
     by false e = moved.values k e
 value_kept globals m s u moved (Number n) h = refl
 value_kept globals m s u moved (Name g) h = refl

@@ -12,6 +12,8 @@ use Rattle.constant_propagation.specs.declared.fact.DatedFact.{DatedFact}
 use Rattle.constant_propagation.specs.declared.table.FactTable.{FactTable}
 use Rattle.constant_propagation.specs.Facts.{names_it, fact_names, asks_memory, operand_below, fact_below, kept_if}
 use Rattle.constant_propagation.specs.FactTable.{cell, is_fresh, stands, counted, facts_of, IsTable, IsAtLine, changed, over}
+use Rattle.il_ast.proofs.Listed.{get_set_same, get_set_other, length_slice_set}
+use Rattle.il_ast.proofs.Truth.{and_false}
 
 -- ---- lists that are written at a place
 
@@ -21,30 +23,12 @@ set_past [] (suc i) x h = refl
 set_past (y ∷ ys) zero x h = absurd (let no : ⊥ = grind (arith, nat_tests) in no)
 set_past (y ∷ ys) (suc i) x h = ap (λ zs. y ∷ zs) (set_past ys i x (grind (arith, nat_tests)))
 
-pub set_length : {X : Type 0} (xs : List X) (i : ℕ) (x : X) → length (slice_set xs i x) ≡ length xs
-set_length [] zero x = refl
-set_length [] (suc i) x = refl
-set_length (y ∷ ys) zero x = refl
-set_length (y ∷ ys) (suc i) x = ap suc (set_length ys i x)
-
-get_set : {X : Type 0} (xs : List X) (i : ℕ) (x : X) → i < length xs → slice_get (slice_set xs i x) i ≡ Some x
-get_set [] i x low = absurd (omega (arith, low))
-get_set (y ∷ ys) zero x low = refl
-get_set (y ∷ ys) (suc i) x low = get_set ys i x (omega (arith, low))
-
 get_same : {X : Type 0} (xs : List X) (i : ℕ) (x : X) → slice_get (slice_set xs i x) i ≡ (if nat_lt i (length xs) then Some x else None)
 get_same xs i x = by (nat_lt i (length xs)) refl
   where
     by : (b : Bool) → nat_lt i (length xs) ≡ b → slice_get (slice_set xs i x) i ≡ (if b then Some x else None)
-    by true e = get_set xs i x (grind (arith, nat_tests))
-    by false e = slice_get_past (slice_set xs i x) i (let many = set_length xs i x in let past : length xs ≤ i = grind (arith, nat_tests) in omega (arith, many, past))
-
-get_other : {X : Type 0} (xs : List X) (i j : ℕ) (x : X) → nat_eq j i ≡ false → slice_get (slice_set xs i x) j ≡ slice_get xs j
-get_other [] i j x e = refl
-get_other (y ∷ ys) zero zero x e = absurd (let no : ⊥ = grind (arith, nat_tests) in no)
-get_other (y ∷ ys) zero (suc j) x e = refl
-get_other (y ∷ ys) (suc i) zero x e = refl
-get_other (y ∷ ys) (suc i) (suc j) x e = get_other ys i j x (grind (arith, nat_tests))
+    by true e = get_set_same xs i x (grind (arith, nat_tests))
+    by false e = slice_get_past (slice_set xs i x) i (let many = length_slice_set xs i x in let past : length xs ≤ i = grind (arith, nat_tests) in omega (arith, many, past))
 
 get_within : {X : Type 0} (xs : List X) (i : ℕ) (x : X) → slice_get xs i ≡ Some x → nat_lt i (length xs) ≡ true
 get_within [] i x e = absurd (let no : ⊥ = cc in no)
@@ -130,9 +114,6 @@ memory_changes t u is cells written later begun q =
 
 -- ---- a register is written
 
-is_same : (k : ℕ) → nat_eq k k ≡ true
-is_same k = grind (arith, nat_tests)
-
 -- times that were written up to now
 abbrev UpTo : List ℕ → ℕ → Type 0
 UpTo written time = (x w : ℕ) → slice_get written x ≡ Some w → w ≤ time
@@ -168,15 +149,11 @@ fresh_over written time since r before (At x) = by (nat_eq x r) refl
         ∙ none (option_map_or (λ w. nat_le w since) (slice_get written x) false) (nat_lt x (length written))
         ∙ ap (λ b. option_map_or (λ w. nat_le w since) (slice_get written x) false && (nat_lt x (length written) && not b)) (sym e)
     by false e =
-        ap (λ (o : Option ℕ). option_map_or (λ w. nat_le w since) o false) (get_other written r x time e)
+        ap (λ (o : Option ℕ). option_map_or (λ w. nat_le w since) o false) (get_set_other written r x time e)
         ∙ or_fresh (slice_get written x) refl
         ∙ ap (λ b. option_map_or (λ w. nat_le w since) (slice_get written x) false && (nat_lt x (length written) && not b)) (sym e)
 fresh_over written time since r before (Number n) = refl
 fresh_over written time since r before (Name g) = refl
-
-and_false : (b : Bool) → (b && false) ≡ false
-and_false true = refl
-and_false false = refl
 
 and_turned : (a b : Bool) → (a && b) ≡ (b && a)
 and_turned true true = refl
@@ -249,7 +226,7 @@ up_to written time r up x w e = by (nat_eq x r) refl
 
     by : (b : Bool) → nat_eq x r ≡ b → w ≤ time
     by true h = let same : x ≡ r = grind (arith, nat_tests) in low (nat_lt r (length written)) (sym (get_same written r time) ∙ ap (λ k. slice_get (slice_set written r time) k) (sym same) ∙ e)
-    by false h = up x w (sym (get_other written r x time h) ∙ e)
+    by false h = up x w (sym (get_set_other written r x time h) ∙ e)
 
 -- what a register's cell becomes
 abbrev pub noted : ℕ → ℕ → Option Fact → Option DatedFact
@@ -263,7 +240,7 @@ cell_same cells r o = ap (λ x. option_map_or (λ (k : Option DatedFact). k) x N
     by false = refl
 
 cell_other : (cells : List (Option DatedFact)) (r q : ℕ) (o : Option DatedFact) → nat_eq q r ≡ false → cell (slice_set cells r o) q ≡ cell cells q
-cell_other cells r q o e = ap (λ x. option_map_or (λ (k : Option DatedFact). k) x None) (get_other cells r q o e)
+cell_other cells r q o e = ap (λ x. option_map_or (λ (k : Option DatedFact). k) x None) (get_set_other cells r q o e)
 
 cell_within : (cells : List (Option DatedFact)) (q : ℕ) (k : DatedFact) → cell cells q ≡ Some k → nat_lt q (length cells) ≡ true
 cell_within cells q k e = by (slice_get cells q) refl e
@@ -324,7 +301,7 @@ register_written t u r known is cells written memory begun q =
         ap (λ k. counted times t.memory t.begun (cell new k)) same
         ∙ ap (λ o. counted times t.memory t.begun o) (cell_same t.cells.items r (noted r t.clock known) ∙ ap (λ m. if nat_lt r m then noted r t.clock known else None) is.table.wide)
         ∙ noted_now times t.memory t.begun t.clock r (nat_lt r n) (up_to t.written.items t.clock r is.table.written) is.table.memory is.begun known
-        ∙ ap (λ m. kept_if (λ f. nat_lt r n && (fact_below m f && not (fact_names f r))) known) (set_length t.written.items r t.clock)
+        ∙ ap (λ m. kept_if (λ f. nat_lt r n && (fact_below m f && not (fact_names f r))) known) (length_slice_set t.written.items r t.clock)
         ∙ ap (λ k. kept_if (λ f. nat_lt k n && (fact_below n f && not (fact_names f r))) known) (sym same)
     by false e = ap (λ o. counted times t.memory t.begun o) (cell_other t.cells.items r q (noted r t.clock known) e) ∙ other (cell t.cells.items q) refl
 
@@ -336,7 +313,7 @@ table_written t u r known is cells written memory begun clock =
       written = λ q w h. let low : w ≤ t.clock = up_to t.written.items t.clock r is.table.written q w (ap (λ ws. slice_get ws q) (sym written) ∙ h) in omega (arith, low, clock);
       memory = let low = is.table.memory in omega (arith, low, memory, clock);
       begun = let low = is.table.begun in omega (arith, low, begun, clock);
-      wide = ap length cells ∙ set_length t.cells.items r (noted r t.clock known) ∙ is.table.wide ∙ sym (set_length t.written.items r t.clock) ∙ sym (ap length written);
+      wide = ap length cells ∙ length_slice_set t.cells.items r (noted r t.clock known) ∙ is.table.wide ∙ sym (length_slice_set t.written.items r t.clock) ∙ sym (ap length written);
     }
   where
     new : List (Option DatedFact)

@@ -34,6 +34,7 @@ use Rattle.constant_sinking.specs.declared.known.Known.{Known}
 use Rattle.constant_sinking.specs.declared.known.Plan.{Plan}
 use Rattle.constant_sinking.specs.Known.{same, is_planned, sets, known_behind, known_at_end, stay_known, plan_at, are_known, leads_well}
 use Rattle.constant_sinking.specs.Sunk.{set_line, with_sets, Sinks, Sets, Stays, IsSunk, AllSunk}
+use Rattle.il_ast.proofs.Truth.{equal_turned}
 
 -- ---- what is claimed
 
@@ -80,14 +81,11 @@ set_true globals memory before (Alloc to size) n o next may h = absurd (let no :
 set_true globals memory before (Blit from to count) n o next may h = absurd (let no : ⊥ = cc in no)
 set_true globals memory before (Call to callee args) n o next may h = absurd (let no : ⊥ = cc in no)
 
-turned : (a b : ℕ) → nat_eq a b ≡ nat_eq b a
-turned a b = grind (arith, nat_tests)
-
 behind_true : (to : Option ℕ) (o : Option Value) (before : Values ℕ) (s : Known) (known set : Bool) (x : Option Value)
     → (known ≡ true → before s.register ≡ x) → (set ≡ true → o ≡ x)
     → option_map_or (λ r. if nat_eq r s.register then set else known) to known ≡ true → written to o before s.register ≡ x
 behind_true None o before s known set x stays now h = stays h
-behind_true (Some k) o before s known set x stays now h = by (nat_eq k s.register) (turned s.register k) h
+behind_true (Some k) o before s known set x stays now h = by (nat_eq k s.register) (equal_turned s.register k) h
   where
     by : (b : Bool) → nat_eq s.register k ≡ b → (if b then set else known) ≡ true → (if nat_eq s.register k then o else before s.register) ≡ x
     by true e g = ap (λ b. if b then o else before s.register) e ∙ now g

@@ -1,14 +1,11 @@
 -- One line more of a block that reads copies.
-use Rattle.std.proofs.Common.{◌≡◌, ℕ, ◌+◌, ◌<◌, List, [], ◌∷◌, ◌++◌, drop, length, get_or, refl, sym, ◌∙◌, ap}
+use Rattle.std.proofs.Common.{◌≡◌, ℕ, ◌+◌, ◌<◌, List, [], ◌∷◌, ◌++◌, drop, length, get_or, sym, ◌∙◌, ap}
 use Rattle.vcode.specs.declared.line.Line.{Line}
 use Rattle.vcode.specs.Replaced.{with_line}
 use Rattle.vcode.proofs.Lists.{item_next}
 use Rattle.copy_propagation.specs.declared.known.KnownCopy.{KnownCopy}
 use Rattle.copy_propagation.specs.Copied.{read_by, after, reading_lines, known_behind}
-
-append_one : {X : Type 0} (xs : List X) (x : X) (ys : List X) → (xs ++ x ∷ []) ++ ys ≡ xs ++ x ∷ ys
-append_one [] x ys = refl
-append_one (z ∷ xs) x ys = ap (λ zs. z ∷ zs) (append_one xs x ys)
+use Rattle.il_ast.proofs.Listed.{append_one}
 
 pub lines_on : (made : List (Line ℕ)) (copies : List KnownCopy) (lines : List (Line ℕ)) (i : ℕ) (l m : Line ℕ) → i < length lines → l ≡ get_or lines i l → m ≡ with_line (read_by copies) l
     → (made ++ m ∷ []) ++ reading_lines (after m copies) (drop (i + 1) lines) ≡ made ++ reading_lines copies (drop i lines)

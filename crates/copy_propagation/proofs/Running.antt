@@ -25,11 +25,12 @@ use Rattle.vcode.specs.Rewrites.{Rewrites}
 use Rattle.vcode.specs.Facts.{Facts, claimed}
 use Rattle.vcode.proofs.SameReads.{SameValue}
 use Rattle.vcode.proofs.SameActs.{reads_every, jump_reads_every, act_same, way_same, writes_stay}
-use Rattle.vcode.proofs.Writing.{is_written, turned, unwritten, now_holds}
+use Rattle.vcode.proofs.Writing.{is_written, unwritten, now_holds}
 use Rattle.vcode.proofs.Factual.{fact_line, Claimed, fact_jump, facts_rewrite}
 use Rattle.vcode.proofs.Rewriting.{rewrites_keep}
 use Rattle.copy_propagation.specs.declared.known.KnownCopy.{KnownCopy}
 use Rattle.copy_propagation.specs.Copied.{copy_of, read_by, survives, surviving, made_by, with_copy, after, reading_lines, known_behind, reading_block, reading_copies}
+use Rattle.il_ast.proofs.Truth.{equal_turned}
 
 -- ---- what is known
 
@@ -96,7 +97,7 @@ one_true : (ev new : Values ℕ) (k : ℕ) → LeavesOthers (Some k) ev new → 
     → AreTrue new (if b then c ∷ filter (survives k) copies else filter (survives k) copies)
 one_true ev new k same c copies h rest true e =
     let s = not_both (nat_eq c.source k) (nat_eq c.copy k) e in
-    (same c.copy (turned k c.copy ∙ s.1) ∙ h ∙ sym (same c.source (turned k c.source ∙ s.0)), rest)
+    (same c.copy (equal_turned k c.copy ∙ s.1) ∙ h ∙ sym (same c.source (equal_turned k c.source ∙ s.0)), rest)
 one_true ev new k same c copies h rest false e = rest
 
 filtered_true : (ev new : Values ℕ) (k : ℕ) → LeavesOthers (Some k) ev new → (copies : List KnownCopy) → AreTrue ev copies → AreTrue new (filter (survives k) copies)

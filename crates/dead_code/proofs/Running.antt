@@ -1,5 +1,5 @@
 -- Code without dead lines follows the code, where the registers that are wanted hold the same: a dead line is gone, any other is beside one.
-use Rattle.std.proofs.Common.{◌≡◌, ℕ, zero, suc, Bool, true, false, not, ◌&&◌, ◌||◌, nat_eq, if◌then◌else◌, List, [], ◌∷◌, map, Option, Some, None, slice_get, refl, sym, ◌∙◌, ap}
+use Rattle.std.proofs.Common.{◌≡◌, ℕ, Bool, true, false, not, ◌&&◌, ◌||◌, nat_eq, if◌then◌else◌, List, [], ◌∷◌, map, Option, Some, None, slice_get, refl, sym, ◌∙◌, ap}
 use Rattle.std.specs.Option.{option_and_then}
 use Rattle.std.specs.List.{list_any}
 use Rattle.std.proofs.lemmas.Bool.{and_from, not-true, or_left, or_right}
@@ -26,10 +26,12 @@ use Rattle.vcode.specs.Claims.{Claims}
 use Rattle.vcode.specs.Follows.{OnlyGives, Alike, MayGo, LeadAlike, Follows, Jumps, Both, Gone, Less}
 use Rattle.vcode.specs.Rewrites.{Rewrites}
 use Rattle.vcode.proofs.SameActs.{ArgumentsRead, Reads, JumpReads, act_agrees}
-use Rattle.vcode.proofs.Writing.{is_written, is_itself, Agree, written_agree, unlike, first_writes}
+use Rattle.vcode.proofs.Writing.{is_written, Agree, written_agree, unlike, first_writes}
 use Rattle.vcode.proofs.Leading.{LeadsTo, Arriving, jump_itself_alike, leads_more}
 use Rattle.vcode.proofs.Rewriting.{rewrites_keep}
 use Rattle.dead_code.specs.Without.{Wanted, is_dead, names_it, reads_it, writes_it, wanted_above, wanted_at, as_wanted, kept_lines, held, wanted_behind, kept_block, Closed}
+use Rattle.il_ast.proofs.Truth.{equals_itself}
+use Rattle.il_ast.proofs.Listed.{get_mapped}
 
 -- what is wanted has the same values; at the beginning of a block that is all that is wanted there
 abbrev claims : ℕ → List Bits → Claims
@@ -47,7 +49,7 @@ abbrev HasSame : List Value → (before after : Values ℕ) → Operand ℕ → 
 HasSame globals ev el a = value_of globals el a ≡ value_of globals ev a
 
 value_same : (globals : List Value) (ev el : Values ℕ) (a : Operand ℕ) → Agree (names_it a) ev el → HasSame globals ev el a
-value_same globals ev el (At p) h = h p (is_itself p)
+value_same globals ev el (At p) h = h p (equals_itself p)
 value_same globals ev el (Number n) h = refl
 value_same globals ev el (Name g) h = refl
 
@@ -144,11 +146,6 @@ line_goes n starts w (Call to callee args) dead globals memory ev el agrees = ab
 
 -- ---- the code follows
 
-map_at : {X Y : Type 0} (f : X → Y) (xs : List X) (k : ℕ) (x : X) → slice_get xs k ≡ Some x → slice_get (map f xs) k ≡ Some (f x)
-map_at f [] k x h = cc
-map_at f (y ∷ xs) zero x h = let same : y ≡ x = cc in ap (λ z. Some (f z)) same
-map_at f (y ∷ xs) (suc k) x h = map_at f xs k x h
-
 module _ (n : ℕ) (starts : List Bits) where
   jump_read : (globals : List Value) (ev el : Values ℕ) (j : Jump ℕ) → Agree (wanted_behind n starts j) ev el → JumpReads (HasSame globals ev el) j
   jump_read globals ev el (Goto k) h = tt
@@ -205,7 +202,7 @@ module _ (n : ℕ) (starts : List Bits) where
         follows = λ w k j arrives b at. (
           kept_block n starts b,
           (
-            ap (slice_get (map (kept_block n starts) v.blocks)) arrives.0 ∙ map_at (kept_block n starts) v.blocks k b at,
+            ap (slice_get (map (kept_block n starts) v.blocks)) arrives.0 ∙ get_mapped (kept_block n starts) v.blocks k b at,
             Less (λ globals memory ev el agrees r e. agrees r (arrives.1 r (closed k b at r e))) (lines_follow v (with_these v (map (kept_block n starts) v.blocks)) b.lines b.jump),
           ),
         );

@@ -1,5 +1,5 @@
 -- One line further up.
-use Rattle.std.proofs.Common.{◌≡◌, ℕ, zero, suc, ◌+◌, ◌-◌, ◌<◌, ◌≤◌, Bool, true, false, if◌then◌else◌, List, [], ◌∷◌, ◌++◌, length, get_or, drop, map, reverse, slice_get, Some, refl, sym, ◌∙◌, ap, arith, inl, inr}
+use Rattle.std.proofs.Common.{◌≡◌, ℕ, zero, suc, ◌+◌, ◌-◌, ◌<◌, ◌≤◌, Bool, true, false, if◌then◌else◌, List, [], ◌∷◌, ◌++◌, length, get_or, drop, map, reverse, slice_get, Some, sym, ◌∙◌, ap, arith, inl, inr}
 use Rattle.std.proofs.Math.Nat.{eq-or-lt_of_le}
 use Rattle.std.proofs.lemmas.Grind.{reverse_onto}
 use Rattle.bitset.specs.Bits.{Bits}
@@ -7,10 +7,7 @@ use Rattle.vcode.specs.declared.line.Line.{Line}
 use Rattle.vcode.specs.declared.code.Block.{Block}
 use Rattle.dead_code.specs.Without.{Wanted, is_dead, wanted_above, wanted_at, as_wanted, kept_lines, kept_block, wanted_in, held}
 use Rattle.vcode.proofs.Lists.{item_next, same_some}
-
-append_one : {X : Type 0} (xs : List X) (x : X) (rest : List X) → (xs ++ x ∷ []) ++ rest ≡ xs ++ x ∷ rest
-append_one [] x rest = refl
-append_one (y ∷ xs) x rest = ap (λ zs. y ∷ zs) (append_one xs x rest)
+use Rattle.il_ast.proofs.Listed.{append_one}
 
 line_above : (lines : List (Line ℕ)) (k : ℕ) (l : Line ℕ) → 0 < k → k ≤ length lines → l ≡ get_or lines (k - 1) l → drop (k - 1) lines ≡ l ∷ drop k lines
 line_above lines k l low high at =

@@ -3,15 +3,16 @@ use Rattle.std.proofs.Common.{◌≡◌, ◌≢◌, ℕ, zero, suc, ◌+◌, ◌
 use Rattle.std.specs.Prelude.{nat_eq, nat_le, nat_lt, slice_set}
 use Rattle.std.specs.Option.{option_map, option_and_then, option_flatten}
 use Rattle.std.proofs.lemmas.Bool.Decides.{nat_tests}
-use Rattle.std.proofs.lemmas.Option.{slice_get_within}
-use Rattle.std.proofs.lemmas.Bool.{eqb-true}
+use Rattle.std.proofs.lemmas.Option.{slice_get_within, same_Some, none-some}
+use Rattle.std.proofs.lemmas.Bool.{eqb-true, eqb-false}
 use Rattle.il_ast.specs.declared.value.Cell.{Cell}
 use Rattle.il_ast.specs.Memory.{Memory, block_at, size_at, put, write_at}
 use Rattle.flat_code.specs.Spots.{NoAccess, ThisByte, Spots, Bases, Entries, ShowsCell, ShowsMemory, IsPlaced, SameBlocks, SameReach}
 use Rattle.flat_code.specs.Step.{is_there, all_there, is_in}
-use Rattle.flat_code.proofs.Shown.{some_is, none_is}
 use Rattle.flat_code.proofs.Standing.{two_addresses}
-use Rattle.flat_code.proofs.Runs.{cell_there, not_away, taken_get, dropped_get, length_taken, length_dropped}
+use Rattle.flat_code.proofs.Runs.{cell_there, not_away, taken_get, dropped_get}
+use Rattle.il_ast.proofs.Listed.{get_set_same, length_slice_set, get_below, length_take, get_set_apart}
+use Rattle.std.proofs.lemmas.List.{length-drop}
 
 -- memory and bytes after a change: the blocks of before, shown, and no further address
 pub record Changed (e : Entries) (p : Bases) (m : Memory) (f : Spots) (n : Memory) (g : Spots) : Type 0 where
@@ -24,28 +25,6 @@ abbrev pub MemoryFollows : Entries → Bases → Memory → Spots → Option Mem
 MemoryFollows e p m f o n = (now : Memory) → o ≡ Some now → (g : Spots) × (n ≡ Some g) × Changed e p m f now g
 
 -- ---- lists
-
-pub get_some : {A : Type 0} (xs : List A) (k : ℕ) → k < length xs → (x : A) × (slice_get xs k ≡ Some x)
-get_some [] k h = absurd (omega arith)
-get_some (x ∷ xs) zero h = (x, refl)
-get_some (x ∷ xs) (suc k) h = get_some xs k (omega arith)
-
-set_here : {A : Type 0} (xs : List A) (i : ℕ) (x : A) → i < length xs → slice_get (slice_set xs i x) i ≡ Some x
-set_here [] i x h = absurd (omega arith)
-set_here (y ∷ xs) zero x h = refl
-set_here (y ∷ xs) (suc i) x h = set_here xs i x (omega arith)
-
-set_other : {A : Type 0} (xs : List A) (i j : ℕ) (x : A) → j ≢ i → slice_get (slice_set xs i x) j ≡ slice_get xs j
-set_other [] i j x differ = refl
-set_other (y ∷ xs) zero zero x differ = absurd (differ refl)
-set_other (y ∷ xs) zero (suc j) x differ = refl
-set_other (y ∷ xs) (suc i) zero x differ = refl
-set_other (y ∷ xs) (suc i) (suc j) x differ = set_other xs i j x (omega arith)
-
-set_length : {A : Type 0} (xs : List A) (i : ℕ) (x : A) → length (slice_set xs i x) ≡ length xs
-set_length [] i x = refl
-set_length (y ∷ xs) zero x = refl
-set_length (y ∷ xs) (suc i) x = ap suc (set_length xs i x)
 
 pub append_get : {A : Type 0} (xs ys : List A) (k : ℕ) (x : A) → slice_get (xs ++ ys) k ≡ Some x → ((k < length xs) × (slice_get xs k ≡ Some x)) ⊎ ((j : ℕ) × (k ≡ length xs + j) × (slice_get ys j ≡ Some x))
 append_get [] ys k x h = inr (k, same k, h)
@@ -66,31 +45,28 @@ live_get : (m : Memory) (b : ℕ) (cells : List Cell) → block_at m b ≡ Some 
 live_get m b cells h = by_item (slice_get m b) h
   where
     by_item : (o : Option (Option (List Cell))) → option_flatten o ≡ Some cells → o ≡ Some (Some cells)
-    by_item None h = absurd (none_is cells h)
+    by_item None h = absurd (none-some cells h)
     by_item (Some x) h = ap Some h
 
 pub live_made : (m : Memory) (b : ℕ) (cells : List Cell) → block_at m b ≡ Some cells → b < length m
 live_made m b cells h = slice_get_within m b (Some cells) (live_get m b cells h)
 
 pub block_set : (m : Memory) (b : ℕ) (x : Option (List Cell)) → b < length m → block_at (slice_set m b x) b ≡ x
-block_set m b x h = ap option_flatten (set_here m b x h)
+block_set m b x h = ap option_flatten (get_set_same m b x h)
 
 pub block_other : (m : Memory) (b c : ℕ) (x : Option (List Cell)) → c ≢ b → block_at (slice_set m b x) c ≡ block_at m c
-block_other m b c x differ = ap option_flatten (set_other m b c x differ)
+block_other m b c x differ = ap option_flatten (get_set_apart m b c x differ)
 
 pub set_made : (m : Memory) (b : ℕ) (x : Option (List Cell)) → length (slice_set m b x) ≡ length m
-set_made m b x = set_length m b x
-
-pub is_other : (a b : ℕ) → nat_eq a b ≡ false → a ≢ b
-is_other a b h = grind (arith, nat_tests)
+set_made m b x = length_slice_set m b x
 
 -- a block of the same size was live before
 pub live_before : (m n : Memory) → SameBlocks m n → (b : ℕ) (xs : List Cell) → block_at n b ≡ Some xs → (ys : List Cell) × (block_at m b ≡ Some ys) × (length ys ≡ length xs)
 live_before m n same b xs h = by_block (block_at m b) refl (sym (same b) ∙ ap (option_map length) h)
   where
     by_block : (o : Option (List Cell)) → block_at m b ≡ o → option_map length o ≡ Some (length xs) → (ys : List Cell) × (block_at m b ≡ Some ys) × (length ys ≡ length xs)
-    by_block None e is = absurd (none_is (length xs) is)
-    by_block (Some ys) e is = (ys, e, some_is (length ys) (length xs) is)
+    by_block None e is = absurd (none-some (length xs) is)
+    by_block (Some ys) e is = (ys, e, same_Some (length ys) (length xs) is)
 
 pub placed_alike : (p : Bases) (b : ℕ) (xs ys : List Cell) → length ys ≡ length xs → IsPlaced p b ys → IsPlaced p b xs
 placed_alike p b xs ys same h =
@@ -145,17 +121,17 @@ is_written m b o new now h = by_block (block_at m b) refl h
 
     tested : (old : List Cell) → block_at m b ≡ Some old → (t : Bool) → nat_le (o + length new) (length old) ≡ t
         → option_map (λ cells. slice_set m b (Some cells)) (if t then Some (take o old ++ (new ++ drop (o + length new) old)) else None) ≡ Some now → IsWritten m b o new now
-    tested old live false e is = absurd (none_is now is)
+    tested old live false e is = absurd (none-some now is)
     tested old live true e is =
         record {
           old = old;
           live = live;
           within = grind (arith, nat_tests);
-          is = sym (some_is (slice_set m b (Some (take o old ++ (new ++ drop (o + length new) old)))) now is);
+          is = sym (same_Some (slice_set m b (Some (take o old ++ (new ++ drop (o + length new) old)))) now is);
         }
 
     by_block : (x : Option (List Cell)) → block_at m b ≡ x → option_map (λ cells. slice_set m b (Some cells)) (option_and_then (put o new) x) ≡ Some now → IsWritten m b o new now
-    by_block None e is = absurd (none_is now is)
+    by_block None e is = absurd (none-some now is)
     by_block (Some old) e is = tested old e (nat_le (o + length new) (length old)) refl is
 
 -- a cell of the block after it: one of before, outside of what was written, or a new one
@@ -168,7 +144,7 @@ spliced_get o new old k c within h =
     ]
   where
     long : length (take o old) ≡ o
-    long = length_taken o old (omega arith)
+    long = length_take o old (omega arith)
 
     right : (j : ℕ) → k ≡ o + j → ((j < length new) × (slice_get new j ≡ Some c)) ⊎ ((i : ℕ) × (j ≡ length new + i) × (slice_get (drop (o + length new) old) i ≡ Some c))
         → (((k < o) ⊎ (o + length new ≤ k)) × (slice_get old k ≡ Some c)) ⊎ ((i : ℕ) × (k ≡ o + i) × (slice_get new i ≡ Some c))
@@ -182,8 +158,8 @@ spliced_length : (o : ℕ) (new old : List Cell) → o + length new ≤ length o
 spliced_length o new old within =
     let a : length (take o old ++ (new ++ drop (o + length new) old)) ≡ length (take o old) + length (new ++ drop (o + length new) old) = length-append (take o old) (new ++ drop (o + length new) old) in
     let b : length (new ++ drop (o + length new) old) ≡ length new + length (drop (o + length new) old) = length-append new (drop (o + length new) old) in
-    let c : length (take o old) ≡ o = length_taken o old (omega arith) in
-    let d : length (drop (o + length new) old) ≡ length old - (o + length new) = length_dropped (o + length new) old in
+    let c : length (take o old) ≡ o = length_take o old (omega arith) in
+    let d : length (drop (o + length new) old) ≡ length old - (o + length new) = length-drop (o + length new) old in
     omega arith
 
 -- ---- bytes over it
@@ -202,8 +178,8 @@ written_block m b mid old live c cells h = by_test (nat_eq c b) refl
     by_test : (t : Bool) → nat_eq c b ≡ t → ((c ≡ b) × (cells ≡ mid)) ⊎ ((c ≢ b) × (block_at m c ≡ Some cells))
     by_test true e =
         let same : c ≡ b = eqb-true c b e in
-        inl (same, some_is cells mid (sym h ∙ (ap (block_at (slice_set m b (Some mid))) same ∙ block_set m b (Some mid) (live_made m b old live))))
-    by_test false e = inr (is_other c b e, sym (block_other m b c (Some mid) (is_other c b e)) ∙ h)
+        inl (same, same_Some cells mid (sym h ∙ (ap (block_at (slice_set m b (Some mid))) same ∙ block_set m b (Some mid) (live_made m b old live))))
+    by_test false e = inr (eqb-false c b e, sym (block_other m b c (Some mid) (eqb-false c b e)) ∙ h)
 
 written_sizes : (m : Memory) (b : ℕ) (mid old : List Cell) → block_at m b ≡ Some old → length mid ≡ length old → SameBlocks m (slice_set m b (Some mid))
 written_sizes m b mid old live long c = by_test (nat_eq c b) refl
@@ -214,14 +190,14 @@ written_sizes m b mid old live long c = by_test (nat_eq c b) refl
         ap (λ i. size_at (slice_set m b (Some mid)) i) same
         ∙ (ap (option_map length) (block_set m b (Some mid) (live_made m b old live))
         ∙ (ap Some long ∙ (sym (ap (option_map length) live) ∙ ap (λ i. size_at m i) (sym same))))
-    by_test false e = ap (option_map length) (block_other m b c (Some mid) (is_other c b e))
+    by_test false e = ap (option_map length) (block_other m b c (Some mid) (eqb-false c b e))
 
 -- the cells of the memory after it are shown
 written_cells : (e : Entries) (p : Bases) (m : Memory) (f g : Spots) (b o a : ℕ) (new old : List Cell) → ShowsMemory e p m f → block_at m b ≡ Some old → o + length new ≤ length old → p b ≡ Some a → IsCovered e p f g (a + o) new
     → (c d k : ℕ) (cells : List Cell) (x : Cell) → block_at (slice_set m b (Some (take o old ++ (new ++ drop (o + length new) old)))) c ≡ Some cells → p c ≡ Some d → slice_get cells k ≡ Some x → ShowsCell e p x (g (d + k))
 written_cells e p m f g b o a new old memory live within at covered c d k cells x h is got =
     elim (written_block m b (take o old ++ (new ++ drop (o + length new) old)) old live c cells h) [
-      | inl one ↦ in_it (some_is d a (sym is ∙ (ap p one.0 ∙ at))) (spliced_get o new old k x within (ap (λ (s : List Cell). slice_get s k) (sym one.1) ∙ got))
+      | inl one ↦ in_it (same_Some d a (sym is ∙ (ap p one.0 ∙ at))) (spliced_get o new old k x within (ap (λ (s : List Cell). slice_get s k) (sym one.1) ∙ got))
       | inr one ↦ elsewhere one.0 one.1 (outside_or_in (a + o) (length new) (d + k))
     ]
   where
@@ -280,7 +256,7 @@ written_shown e p m f g b o a new now memory w at covered =
     reached x away (inr z) =
         let small : z.0 < length new = z.1 in
         let le : o + length new ≤ length w.old = w.within in
-        let cell = get_some w.old (o + z.0) (omega arith) in
+        let cell = get_below w.old (o + z.0) (omega arith) in
         let same : x ≡ a + (o + z.0) = (let e : x ≡ a + o + z.0 = z.2 in omega arith) in
         absurd (not_away e p cell.0 (f (a + (o + z.0))) (memory.cells b a (o + z.0) w.old cell.0 w.live at cell.1) (ap f (sym same) ∙ away))
 
@@ -288,6 +264,6 @@ written_shown e p m f g b o a new now memory w at covered =
 pub written_there : (e : Entries) (p : Bases) (m : Memory) (f : Spots) (b o a n : ℕ) (old : List Cell) → ShowsMemory e p m f → block_at m b ≡ Some old → o + n ≤ length old → p b ≡ Some a → all_there f (a + o) n ≡ true
 written_there e p m f b o a n old memory live within at =
     there_all f (a + o) n (λ k lt.
-    let cell = get_some old (o + k) (omega arith) in
+    let cell = get_below old (o + k) (omega arith) in
     let same : a + (o + k) ≡ a + o + k = omega arith in
     cell_there e p cell.0 (f (a + o + k)) (subst (λ i. ShowsCell e p cell.0 (f i)) same (memory.cells b a (o + k) old cell.0 live at cell.1)))

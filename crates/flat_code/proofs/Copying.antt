@@ -3,18 +3,17 @@ use Rattle.std.proofs.Common.{◌≡◌, ℕ, zero, suc, ◌+◌, ◌-◌, ◌<�
 use Rattle.std.specs.Prelude.{nat_eq, nat_le}
 use Rattle.std.specs.Option.{option_and_then}
 use Rattle.std.proofs.lemmas.Bool.Decides.{nat_tests}
-use Rattle.std.proofs.lemmas.Option.{slice_get_within}
-use Rattle.std.proofs.lemmas.Bool.{eqb-true}
+use Rattle.std.proofs.lemmas.Option.{slice_get_within, same_Some, none-some}
+use Rattle.std.proofs.lemmas.Bool.{eqb-true, eqb-false}
 use Rattle.il_ast.specs.declared.value.Value.{Value}
 use Rattle.il_ast.specs.declared.value.Value.TheVariants.{Integer, Pointer, Function}
 use Rattle.il_ast.specs.declared.value.Cell.{Cell}
 use Rattle.il_ast.specs.Memory.{Memory, block_at, cells_at, write_at, copy, apart_or_same as cells_apart}
 use Rattle.flat_code.specs.Spots.{Spot, ThisByte, Spots, Bases, Entries, Shows, ShowsCell, ShowsMemory}
 use Rattle.flat_code.specs.Step.{is_in, all_there, apart_or_same, with_copy, copied}
-use Rattle.flat_code.proofs.Shown.{some_is, none_is}
 use Rattle.flat_code.proofs.Standing.{Stands, stands}
 use Rattle.flat_code.proofs.Runs.{IsSpan, is_span, span_shown}
-use Rattle.flat_code.proofs.Changing.{Changed, MemoryFollows, IsWritten, is_written, IsCovered, written_shown, written_there, in_range, out_of_range, is_other}
+use Rattle.flat_code.proofs.Changing.{Changed, MemoryFollows, IsWritten, is_written, IsCovered, written_shown, written_there, in_range, out_of_range}
 
 -- ---- ranges
 
@@ -75,9 +74,9 @@ clear_addresses e p m f n a o b q x y source old memory s t from to some within 
 
     by_test : (r : Bool) → nat_eq a b ≡ r → not r || (nat_eq o q || (nat_le (o + n) q || nat_le (q + n) o)) ≡ true → AreApart n x y
     by_test true e2 h =
-        shifted (some_is s.base t.base (sym s.is ∙ (ap p (eqb-true a b e2) ∙ t.is))) (clear_offsets n o q h)
+        shifted (same_Some s.base t.base (sym s.is ∙ (ap p (eqb-true a b e2) ∙ t.is))) (clear_offsets n o q h)
     by_test false e2 h =
-        sides (length source) (length old) within within2 (memory.apart a b s.base t.base source old (is_other a b e2) from to s.is t.is (omega arith) (omega arith))
+        sides (length source) (length old) within within2 (memory.apart a b s.base t.base source old (eqb-false a b e2) from to s.is t.is (omega arith) (omega arith))
 
 -- ---- the bytes after it
 
@@ -134,21 +133,21 @@ pub copied_follows : (e : Entries) (p : Bases) (m : Memory) (f : Spots) → Show
     → MemoryFollows e p m f (copy m n u v) (copied f n x y)
 unfolding copy copied
 copied_follows e p m f memory zero u v x y h k = λ now is.
-    (f, refl, subst (λ (n : Memory). Changed e p m f n f) (some_is m now is) (record { memory = memory; sizes = λ b. refl; reach = λ z away. away }))
+    (f, refl, subst (λ (n : Memory). Changed e p m f n f) (same_Some m now is) (record { memory = memory; sizes = λ b. refl; reach = λ z away. away }))
 copied_follows e p m f memory (suc n) (Pointer a o) (Pointer b q) x y h k = λ now is. by_test now (cells_apart (suc n) a o b q) refl is
   where
     by_span : (now : Memory) → cells_apart (suc n) a o b q ≡ true → (part : Option (List Cell)) → cells_at m a o (suc n) ≡ part → option_and_then (write_at m b q) part ≡ Some now
         → (g : Spots) × ((if apart_or_same (suc n) x y && (all_there f x (suc n) && all_there f y (suc n)) then Some (with_copy f (suc n) x y) else None) ≡ Some g) × Changed e p m f now g
-    by_span now test None cells is = absurd (none_is now is)
+    by_span now test None cells is = absurd (none-some now is)
     by_span now test (Some part) cells is =
         let all = part_copied e p m f memory (suc n) a o b q x y (omega arith) h k test part (is_span m a o (suc n) part cells) now (is_written m b q part now is) in
         (with_copy f (suc n) x y, copied_if f (suc n) x y (apart_or_same (suc n) x y) (all_there f x (suc n)) (all_there f y (suc n)) all.0 all.1 all.2, all.3)
 
     by_test : (now : Memory) (t : Bool) → cells_apart (suc n) a o b q ≡ t → (if t then option_and_then (write_at m b q) (cells_at m a o (suc n)) else None) ≡ Some now
         → (g : Spots) × ((if apart_or_same (suc n) x y && (all_there f x (suc n) && all_there f y (suc n)) then Some (with_copy f (suc n) x y) else None) ≡ Some g) × Changed e p m f now g
-    by_test now false test is = absurd (none_is now is)
+    by_test now false test is = absurd (none-some now is)
     by_test now true test is = by_span now test (cells_at m a o (suc n)) refl is
-copied_follows e p m f memory (suc n) (Pointer a o) (Integer j) x y h k = λ now is. absurd (none_is now is)
-copied_follows e p m f memory (suc n) (Pointer a o) (Function g) x y h k = λ now is. absurd (none_is now is)
-copied_follows e p m f memory (suc n) (Integer i) v x y h k = λ now is. absurd (none_is now is)
-copied_follows e p m f memory (suc n) (Function i) v x y h k = λ now is. absurd (none_is now is)
+copied_follows e p m f memory (suc n) (Pointer a o) (Integer j) x y h k = λ now is. absurd (none-some now is)
+copied_follows e p m f memory (suc n) (Pointer a o) (Function g) x y h k = λ now is. absurd (none-some now is)
+copied_follows e p m f memory (suc n) (Integer i) v x y h k = λ now is. absurd (none-some now is)
+copied_follows e p m f memory (suc n) (Function i) v x y h k = λ now is. absurd (none-some now is)

@@ -1,6 +1,6 @@
 -- Each line on bytes goes beside the line on blocks.
-use Rattle.std.proofs.Common.{◌≡◌, ℕ, zero, suc, ◌+◌, ◌<◌, ◌≤◌, ◌^◌, ◌%◌, Bool, true, false, not, ◌&&◌, ◌||◌, List, [], ◌∷◌, drop, length, slice_get, Option, Some, None, refl, sym, ◌∙◌, ap, subst, arith}
-use Rattle.std.specs.List.{sum_by, list_all, list_any}
+use Rattle.std.proofs.Common.{◌≡◌, ℕ, zero, suc, ◌+◌, ◌<◌, ◌≤◌, ◌^◌, ◌%◌, true, false, not, List, [], ◌∷◌, drop, length, slice_get, Option, Some, None, refl, sym, ◌∙◌, ap, subst, arith}
+use Rattle.std.specs.List.{sum_by, list_any}
 use Rattle.std.proofs.lemmas.List.Sums.{sum_by-cons}
 use Rattle.std.specs.Option.{option_map, option_and_then}
 use Rattle.il_ast.specs.declared.value.Value.{Value}
@@ -20,7 +20,7 @@ use Rattle.vcode.specs.Regular.{is_alloc, allocs_first, alloc_bytes, area}
 use Rattle.vcode.specs.Step.{State, value_of, read as value_read, read_all as values_read, operated as values_operated, address_of as value_address, made_in as value_made, line_step}
 use Rattle.flat_code.specs.Spots.{Bases, Entries, Shows}
 use Rattle.flat_code.specs.Step.{Numbers, FlatState, number_of, read, read_all, operated, address_of, made_in, known_number, stored, copied, opened, flat_line}
-use Rattle.flat_code.proofs.Shown.{some_is, AllFollow, some_follows, follows_then, put_follows, follow_grown, read_follows, all_follow}
+use Rattle.flat_code.proofs.Shown.{AllFollow, some_follows, follows_then, put_follows, follow_grown, read_follows, all_follow}
 use Rattle.flat_code.proofs.Loading.{loaded_follows}
 use Rattle.flat_code.proofs.Storing.{stored_follows}
 use Rattle.flat_code.proofs.Copying.{copied_follows}
@@ -28,13 +28,10 @@ use Rattle.flat_code.proofs.Making.{IsMade, makes}
 use Rattle.flat_code.proofs.Going.{Setting, ground, IsSetting, HasRoom, Related, Together, names_shown, sets_together, takes_together, changes_together, ticks_together, memory_then}
 use Rattle.flat_code.proofs.Operands.{operand_shown, operation_shown, address_shown}
 use Rattle.flat_code.proofs.Calling.{calls_together}
+use Rattle.il_ast.proofs.Listed.{all_at, any_at, drop_at}
+use Rattle.std.proofs.lemmas.Option.{same_Some}
 
 -- ---- where the line stands
-
-pub drop_at : {A : Type 0} (xs : List A) (k : ℕ) (x : A) → slice_get xs k ≡ Some x → drop k xs ≡ x ∷ drop (k + 1) xs
-drop_at [] k x h = cc
-drop_at (y ∷ xs) zero x h = cc
-drop_at (y ∷ xs) (suc k) x h = let e : suc k + 1 ≡ suc (k + 1) = omega arith in rw e (drop_at xs k x h)
 
 -- the line is the next one of its block
 pub record IsNext (c : Setting) (s : State Location) (l : Line Location) : Type 0 where
@@ -54,7 +51,7 @@ room_with c s l used n room first =
 
 room_later : (c : Setting) (s : State Location) (l : Line Location) (used later : ℕ) → IsNext c s l → HasRoom c s.block s.next used → later ≡ used + alloc_bytes l → HasRoom c s.block (s.next + 1) later
 room_later c s l used later n room sum b first found =
-    let same : n.here ≡ b = some_is n.here b (sym n.block ∙ (ap (slice_get c.code.blocks) first ∙ found)) in
+    let same : n.here ≡ b = same_Some n.here b (sym n.block ∙ (ap (slice_get c.code.blocks) first ∙ found)) in
     subst (λ (d : Block Location). later + sum_by alloc_bytes (drop (s.next + 1) d.lines) ≤ area c.code) same
     (joined (alloc_bytes l) (sum_by alloc_bytes (drop (s.next + 1) n.here.lines)) (area c.code) sum (room_with c s l used n room first))
   where
@@ -66,34 +63,12 @@ nothing_more used = omega arith
 
 -- ---- blocks of memory are made in the first block
 
-at_in : {A : Type 0} (test : A → Bool) (xs : List A) (k : ℕ) (x : A) → slice_get xs k ≡ Some x → test x ≡ true → list_any test xs ≡ true
-at_in test [] k x h e = cc
-at_in {A} test (y ∷ xs) zero x h e = ap (λ (b : Bool). b || list_any test xs) (ap test (some_is y x h) ∙ e)
-at_in test (y ∷ xs) (suc k) x h e = either (test y) (list_any test xs) (at_in test xs k x h e)
-  where
-    either : (s t : Bool) → t ≡ true → s || t ≡ true
-    either true t h = refl
-    either false t h = h
-
-pub in_all : {A : Type 0} (test : A → Bool) (xs : List A) (k : ℕ) (x : A) → list_all test xs ≡ true → slice_get xs k ≡ Some x → test x ≡ true
-in_all test [] k x all h = cc
-in_all test (y ∷ xs) zero x all h = ap test (sym (some_is y x h)) ∙ left (test y) (list_all test xs) all
-  where
-    left : (s t : Bool) → s && t ≡ true → s ≡ true
-    left true t h = refl
-    left false t h = h
-in_all test (y ∷ xs) (suc k) x all h = in_all test xs k x (right (test y) (list_all test xs) all) h
-  where
-    right : (s t : Bool) → s && t ≡ true → t ≡ true
-    right true t h = h
-    right false t h = cc
-
 alloc_first : (blocks : List (Block Location)) (k i : ℕ) (b : Block Location) (to : Option Location) (size : ℕ) → allocs_first blocks ≡ true → slice_get blocks k ≡ Some b → slice_get b.lines i ≡ Some (Alloc to size) → k ≡ 0
 alloc_first blocks zero i b to size all block line = refl
 alloc_first [] (suc k) i b to size all block line = cc
 alloc_first (d ∷ blocks) (suc k) i b to size all block line =
-    let none : not (list_any is_alloc b.lines) ≡ true = in_all (λ (c : Block Location). not (list_any is_alloc c.lines)) blocks k b all block in
-    let some : list_any is_alloc b.lines ≡ true = at_in is_alloc b.lines i (Alloc to size) line refl in
+    let none : not (list_any is_alloc b.lines) ≡ true = all_at (λ (c : Block Location). not (list_any is_alloc c.lines)) blocks k b all block in
+    let some : list_any is_alloc b.lines ≡ true = any_at is_alloc b.lines i (Alloc to size) line refl in
     absurd (false_true (ap not (sym some) ∙ none))
   where
     false_true : false ≡ true → ⊥

@@ -1,15 +1,16 @@
 -- The return: the body's blocks die, and their bytes are closed.
 use Rattle.std.proofs.Common.{◌≡◌, ℕ, ◌+◌, ◌<◌, ◌≤◌, ◌⊎◌, inl, inr, Bool, true, false, if◌then◌else◌, List, length, slice_get, Option, Some, None, refl, sym, ◌∙◌, ap, subst, arith}
 use Rattle.std.specs.Option.{option_map}
-use Rattle.std.proofs.lemmas.Option.{slice_get_within}
+use Rattle.std.proofs.lemmas.Option.{slice_get_within, same_Some, none-some}
 use Rattle.il_ast.specs.declared.value.Cell.{Cell}
 use Rattle.il_ast.specs.Memory.{Memory, block_at, size_at, free_all}
 use Rattle.flat_code.specs.Spots.{Spot, NoAccess, ThisByte, Spots, Bases, ShowsCell, ShowsMemory, SameReach, SameBlocks}
 use Rattle.flat_code.specs.Step.{is_in, closed}
-use Rattle.flat_code.proofs.Shown.{some_is, none_is}
 use Rattle.flat_code.proofs.Runs.{not_away}
-use Rattle.flat_code.proofs.Changing.{get_some, in_range, out_of_range, outside_or_in}
-use Rattle.flat_code.proofs.Owning.{Ground, IsGround, is_among, IsHeld, freed_made, freed_size, freed_live}
+use Rattle.flat_code.proofs.Changing.{in_range, out_of_range, outside_or_in}
+use Rattle.flat_code.proofs.Owning.{Ground, IsGround, is_among, IsHeld, freed_size, freed_live}
+use Rattle.il_ast.proofs.Listed.{get_below}
+use Rattle.il_ast.proofs.Measured.{length_freed}
 
 -- ---- closed bytes
 
@@ -44,19 +45,19 @@ found_outside g ground p m owned f used held b a k cells other live at lt =
     size o e is = ap (option_map length) (e ∙ is)
 
     by_block : (o : Option (List Cell)) → block_at g.made b ≡ o → option_map length o ≡ Some (length cells) → (ys : List Cell) × (block_at g.made b ≡ Some ys) × (length ys ≡ length cells)
-    by_block None e is = absurd (none_is (length cells) is)
-    by_block (Some ys) e is = (ys, e, some_is (length ys) (length cells) is)
+    by_block None e is = absurd (none-some (length cells) is)
+    by_block (Some ys) e is = (ys, e, same_Some (length ys) (length cells) is)
 
     first : (ys : List Cell) × (block_at g.made b ≡ Some ys) × (length ys ≡ length cells)
     first = by_block (block_at g.made b) refl (sym (held.others b other) ∙ size (Some cells) live refl)
 
     cell : (c : Cell) × (slice_get first.0 k ≡ Some c)
-    cell = get_some first.0 k (subst (λ n. k < n) (sym first.2) lt)
+    cell = get_below first.0 k (subst (λ n. k < n) (sym first.2) lt)
 
     placed : g.bases b ≡ Some a
     placed =
         let there = ground.memory.placed b first.0 first.1 in
-        there.is ∙ ap (λ (n : ℕ). Some n) (some_is there.base a (sym (held.grown b there.base there.is) ∙ at))
+        there.is ∙ ap (λ (n : ℕ). Some n) (same_Some there.base a (sym (held.grown b there.base there.is) ∙ at))
 
     shown : ShowsCell g.entries g.bases cell.0 (g.before (a + k))
     shown = ground.memory.cells b a k first.0 cell.0 first.1 placed cell.1
@@ -80,7 +81,7 @@ left_by g ground p m owned f used held =
     record {
       memory = record {
         placed = λ b cells h. held.memory.placed b cells (freed_live m owned b cells h).1;
-        unmade = λ b le. held.memory.unmade b (subst (λ n. n ≤ b) (freed_made m owned) le);
+        unmade = λ b le. held.memory.unmade b (subst (λ n. n ≤ b) (length_freed m owned) le);
         cells = λ b a k cells c h at got. stays b a k cells c (freed_live m owned b cells h) at got;
         apart = λ b c a d xs ys differ h k at dt some some2.
             held.memory.apart b c a d xs ys differ (freed_live m owned b xs h).1 (freed_live m owned c ys k).1 at dt some some2;

@@ -19,9 +19,10 @@ use Rattle.flat_code.specs.Spots.{Spots, Bases, Entries, Grown, Shows, AllShow}
 use Rattle.flat_code.specs.Flat.{FlatGiven, FlatAsked, FlatOutcome, FlatEnded, ShowsGiven, Frame, Names}
 use Rattle.flat_code.specs.Step.{put, FlatState, goes_on as flat_goes_on, sets as flat_sets, changes as flat_changes, ticks as flat_ticks}
 use Rattle.flat_code.proofs.Playing.{Beside}
-use Rattle.flat_code.proofs.Shown.{some_is, none_is, Follows, AllFollow, put_follows, all_grown}
+use Rattle.flat_code.proofs.Shown.{Follows, AllFollow, put_follows, all_grown}
 use Rattle.flat_code.proofs.Changing.{Changed, MemoryFollows}
 use Rattle.flat_code.proofs.Owning.{Ground, IsGround, IsHeld, held_later}
+use Rattle.std.proofs.lemmas.Option.{same_Some, none-some}
 
 -- ---- what stays
 
@@ -101,7 +102,7 @@ sets_together c p s t to (Some v) n r room follows =
           block = r.block;
           next = ap (λ k. k + 1) r.next;
           spent = r.spent;
-          follow = put_follows c.names.entries p s.values t.numbers to (Some v) (Some a.0) r.follow (λ w is. (a.0, refl, subst (λ (u : Value). Shows c.names.entries p u a.0) (some_is v w is) a.2));
+          follow = put_follows c.names.entries p s.values t.numbers to (Some v) (Some a.0) r.follow (λ w is. (a.0, refl, subst (λ (u : Value). Shows c.names.entries p u a.0) (same_Some v w is) a.2));
           held = r.held;
           room = room;
         },
@@ -182,7 +183,7 @@ ticks_together c is p s t true w r room =
 
 pub memory_then : (e : Entries) (p : Bases) (m : Memory) (f : Spots) (o : Option Value) (n : Option ℕ) (act : Value → Option Memory) (act2 : ℕ → Option Spots) → Follows e p o n
     → ((v : Value) (x : ℕ) → Shows e p v x → MemoryFollows e p m f (act v) (act2 x)) → MemoryFollows e p m f (option_and_then act o) (option_and_then act2 n)
-memory_then e p m f None n act act2 h k = λ now is. absurd (none_is now is)
+memory_then e p m f None n act act2 h k = λ now is. absurd (none-some now is)
 memory_then e p m f (Some v) n act act2 h k = λ now is.
     let a = h v refl in
     let b = k v a.0 a.2 now is in (b.0, ap (option_and_then act2) a.1 ∙ b.1, b.2)

@@ -1,5 +1,5 @@
 -- Each jump on bytes goes beside the jump on blocks.
-use Rattle.std.proofs.Common.{◌≡◌, ℕ, zero, suc, Bool, true, false, ◌&&◌, if◌then◌else◌, length, Option, Some, None, refl, sym, ◌∙◌, ap, subst, arith}
+use Rattle.std.proofs.Common.{◌≡◌, ℕ, zero, suc, Bool, true, false, if◌then◌else◌, length, Option, Some, None, refl, sym, ◌∙◌, ap, subst, arith}
 use Rattle.std.specs.Prelude.{nat_eq, nat_lt}
 use Rattle.il_ast.specs.declared.operation.Class.{Class}
 use Rattle.il_ast.specs.declared.value.Value.{Value}
@@ -23,12 +23,9 @@ use Rattle.flat_code.proofs.Shown.{Follows, passed_follows, option_passes}
 use Rattle.flat_code.proofs.Freeing.{IsLeft, left_by}
 use Rattle.flat_code.proofs.Operands.{operation_shown}
 use Rattle.flat_code.proofs.Going.{Setting, ground, IsSetting, Related, Together, same_bases, names_shown}
+use Rattle.std.proofs.lemmas.Bool.{and_parts}
 
 -- ---- entering a block
-
-both_true : (s t : Bool) → s && t ≡ true → (s ≡ true) × (t ≡ true)
-both_true true t h = (refl, h)
-both_true false t h = cc
 
 enters_together : (c : Setting) (p : Bases) (s : State Location) (t : FlatState) (k : ℕ) → Related c p s t → is_target (length c.code.blocks) k ≡ true → Together c p (enters s k) (flat_enters t k)
 enters_together c p s t k r target = (
@@ -43,7 +40,7 @@ enters_together c p s t k r target = (
       spent = r.spent;
       follow = r.follow;
       held = r.held;
-      room = λ b first found. absurd (later k (both_true (nat_lt 0 k) (nat_lt k (length c.code.blocks)) target).0 first);
+      room = λ b first found. absurd (later k (and_parts (nat_lt 0 k) (nat_lt k (length c.code.blocks)) target).0 first);
     },
   ),
 )
@@ -110,7 +107,7 @@ pub jump_together : (c : Setting) → IsSetting c → (p : Bases) (s : State Loc
 unfolding jump_step flat_jump
 jump_together c is p s t (Goto k) r inside = enters_together c p s t k r inside
 jump_together c is p s t (Branch on met otherwise) r inside =
-    let targets = both_true (is_target (length c.code.blocks) met) (is_target (length c.code.blocks) otherwise) inside in
+    let targets = and_parts (is_target (length c.code.blocks) met) (is_target (length c.code.blocks) otherwise) inside in
     branches_together c p s t met otherwise (values_compared c.names.globals s on) (compared c.names.addresses t on) r
     (operation_shown c is p s t r (Compare on.condition on.class) on.left on.right) targets.0 targets.1
 jump_together c is p s t (Return None) r inside = leaves_together c is p s t None None r (no_result_suits c.code.result) tt

@@ -13,10 +13,12 @@ use Rattle.flat_code.specs.Spots.{Bases}
 use Rattle.flat_code.specs.Step.{FlatState, flat_begin, block_step, step_in, flat_step}
 use Rattle.flat_code.specs.Laws.{RegularIsKept}
 use Rattle.flat_code.proofs.Playing.{plays_by}
-use Rattle.flat_code.proofs.Shown.{some_is, none_follows, bound_follow}
-use Rattle.flat_code.proofs.EachLine.{line_together, in_all}
+use Rattle.flat_code.proofs.Shown.{none_follows, bound_follow}
+use Rattle.flat_code.proofs.EachLine.{line_together}
 use Rattle.flat_code.proofs.Jumping.{jump_together}
 use Rattle.flat_code.proofs.Going.{Setting, frame, IsSetting, Related, Together, same_bases}
+use Rattle.il_ast.proofs.Listed.{all_at}
+use Rattle.std.proofs.lemmas.Option.{same_Some}
 
 -- ---- a step
 
@@ -24,7 +26,7 @@ lines_together : (c : Setting) → IsSetting c → (p : Bases) (s : State Locati
     → Together c p (values_block_step located c.names.globals c.code c.given s b l) (block_step c.code c.names.addresses c.base c.shown t b l)
 lines_together c is p s t r b block (Some l) line = line_together c is p s t l r (record { here = b; block = block; line = line })
 lines_together c is p s t r b block None line =
-    jump_together c is p s t b.jump r (in_all (λ (d : Block Location). leads_inside (length c.code.blocks) d.jump) c.code.blocks s.block b is.regular.inside block)
+    jump_together c is p s t b.jump r (all_at (λ (d : Block Location). leads_inside (length c.code.blocks) d.jump) c.code.blocks s.block b is.regular.inside block)
 
 blocks_together : (c : Setting) → IsSetting c → (p : Bases) (s : State Location) (t : FlatState) → Related c p s t → (o : Option (Block Location)) → slice_get c.code.blocks s.block ≡ o
     → Together c p (values_step_in located c.names.globals c.code c.given s o) (step_in c.code c.names.addresses c.base c.shown t o)
@@ -44,7 +46,7 @@ steps_together c is p s t r =
 first_fits : (blocks : List (Block Location)) (b : Block Location) → slice_get blocks 0 ≡ Some b → 0 + sum_by alloc_bytes (drop 0 b.lines) ≤ sum_by (λ d. sum_by alloc_bytes d.lines) blocks
 first_fits [] b found = cc
 first_fits (d ∷ blocks) b found =
-    let same : d ≡ b = some_is d b found in
+    let same : d ≡ b = same_Some d b found in
     subst (λ (x : Block Location). 0 + sum_by alloc_bytes (drop 0 x.lines) ≤ sum_by (λ y. sum_by alloc_bytes y.lines) (d ∷ blocks)) same
     (at_most (sum_by alloc_bytes d.lines) (sum_by (λ y. sum_by alloc_bytes y.lines) blocks) (sum_by (λ y. sum_by alloc_bytes y.lines) (d ∷ blocks))
     (sum_by-cons (λ y. sum_by alloc_bytes y.lines) d blocks))

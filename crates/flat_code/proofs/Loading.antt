@@ -11,9 +11,10 @@ use Rattle.rv_isa.specs.Step.{load_size, load_value}
 use Rattle.vcode.specs.Operations.{narrowed, extended, loaded}
 use Rattle.flat_code.specs.Spots.{Bases, Entries, Spots, Shows, ShowsMemory}
 use Rattle.flat_code.specs.Step.{known_number}
-use Rattle.flat_code.proofs.Shown.{some_is, none_is, Follows, none_follows}
+use Rattle.flat_code.proofs.Shown.{Follows, none_follows}
 use Rattle.flat_code.proofs.Standing.{Stands, stands}
 use Rattle.flat_code.proofs.Runs.{run_of, value_known, known_below, IsSpan, is_span, span_shown}
+use Rattle.std.proofs.lemmas.Option.{same_Some, none-some}
 
 -- ---- narrow loads
 
@@ -37,19 +38,19 @@ narrowed_is Ld z h = refl
 
 extended_shown : (e : Entries) (p : Bases) (op : LoadOp) (u w : Value) (z : ℕ) → Shows e p u z → z < 256 ^ load_size op → extended op u ≡ Some w → Shows e p w (load_value op z)
 extended_shown e p op (Integer n) w z h small is =
-    subst (λ (v : Value). Shows e p v (load_value op z)) (some_is (Integer (load_value op (narrowed op n))) w is)
+    subst (λ (v : Value). Shows e p v (load_value op z)) (same_Some (Integer (load_value op (narrowed op n))) w is)
     (ap (load_value op) (sym (narrowed_is op z small) ∙ ap (narrowed op) h))
-extended_shown e p Ld (Pointer b o) w z h small is = subst (λ (v : Value). Shows e p v z) (some_is (Pointer b o) w is) h
-extended_shown e p Ld (Function f) w z h small is = subst (λ (v : Value). Shows e p v z) (some_is (Function f) w is) h
-extended_shown e p op (Pointer b o) w z h small is = absurd (none_is w is)
-extended_shown e p op (Function f) w z h small is = absurd (none_is w is)
+extended_shown e p Ld (Pointer b o) w z h small is = subst (λ (v : Value). Shows e p v z) (same_Some (Pointer b o) w is) h
+extended_shown e p Ld (Function f) w z h small is = subst (λ (v : Value). Shows e p v z) (same_Some (Function f) w is) h
+extended_shown e p op (Pointer b o) w z h small is = absurd (none-some w is)
+extended_shown e p op (Function f) w z h small is = absurd (none-some w is)
 
 -- ---- a load
 
 span_loaded : (e : Entries) (p : Bases) (m : Memory) (f : Spots) → ShowsMemory e p m f → (op : LoadOp) (b o x : ℕ) (w : Value) → Shows e p (Pointer b o) x
     → (part : List Cell) → IsSpan m b o (load_size op) part → (u : Option Value) → value_of part ≡ u → option_and_then (extended op) u ≡ Some w
     → (z : ℕ) × (option_map (load_value op) (known_number f x (load_size op)) ≡ Some z) × Shows e p w z
-span_loaded e p m f memory op b o x w h part s None value is = absurd (none_is w is)
+span_loaded e p m f memory op b o x w h part s None value is = absurd (none-some w is)
 span_loaded e p m f memory op b o x w h part s (Some u) value is =
     let at : Stands p b o x s.cells = stands e p m f b o x s.cells memory s.live (le o (load_size op) (length s.cells) s.within) h in
     let run = run_of e p f (at.base + o) part (span_shown e p m f b o (load_size op) at.base part memory s at.is) in
@@ -72,6 +73,6 @@ loaded_follows e p m f memory op (Pointer b o) x h = λ w is. by_span w (cells_a
   where
     by_span : (w : Value) (part : Option (List Cell)) → cells_at m b o (load_size op) ≡ part → option_and_then (extended op) (option_and_then value_of part) ≡ Some w
         → (z : ℕ) × (option_map (load_value op) (known_number f x (load_size op)) ≡ Some z) × Shows e p w z
-    by_span w None cells is = absurd (none_is w is)
+    by_span w None cells is = absurd (none-some w is)
     by_span w (Some part) cells is =
         span_loaded e p m f memory op b o x w h part (is_span m b o (load_size op) part cells) (value_of part) refl is

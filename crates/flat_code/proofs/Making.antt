@@ -4,18 +4,19 @@ use Rattle.std.specs.Prelude.{nat_eq}
 use Rattle.std.specs.Option.{option_map, option_flatten}
 use Rattle.std.proofs.lemmas.Bool.Decides.{nat_tests}
 use Rattle.std.proofs.lemmas.List.{length-replicate}
-use Rattle.std.proofs.lemmas.Option.{slice_get_past, slice_get_within}
-use Rattle.std.proofs.lemmas.Bool.{eqb-true}
+use Rattle.std.proofs.lemmas.Option.{slice_get_past, slice_get_within, same_Some, none-some}
+use Rattle.std.proofs.lemmas.Bool.{eqb-true, eqb-false}
 use Rattle.il_ast.specs.declared.value.Cell.{Cell}
 use Rattle.il_ast.specs.declared.value.Cell.TheVariants.{Plain, Part, Blank}
 use Rattle.il_ast.specs.Memory.{Memory, block_at, size_at, fresh}
 use Rattle.il_ast.specs.Cost.{round_16}
 use Rattle.flat_code.specs.Spots.{Spot, NoAccess, AnyByte, ThisByte, Spots, Bases, Entries, Grown, ShowsCell, ShowsMemory, IsPlaced}
 use Rattle.flat_code.specs.Step.{is_in, opened}
-use Rattle.flat_code.proofs.Shown.{some_is, none_is, shows_grown}
+use Rattle.flat_code.proofs.Shown.{shows_grown}
 use Rattle.flat_code.proofs.Runs.{not_away}
-use Rattle.flat_code.proofs.Changing.{append_get, get_some, in_range, out_of_range, outside_or_in, is_other}
+use Rattle.flat_code.proofs.Changing.{append_get, in_range, out_of_range, outside_or_in}
 use Rattle.flat_code.proofs.Owning.{Ground, IsGround, is_among, among_last, IsHeld}
+use Rattle.il_ast.proofs.Listed.{get_below}
 
 -- ---- opened bytes
 
@@ -57,7 +58,7 @@ more_grown : (p : Bases) (b a : ℕ) → p b ≡ None → Grown p (more p b a)
 more_grown p b a none c d h = by_test (nat_eq c b) refl
   where
     by_test : (t : Bool) → nat_eq c b ≡ t → (if t then Some a else p c) ≡ Some d
-    by_test true e = absurd (none_is d (sym none ∙ (ap p (sym (eqb-true c b e)) ∙ h)))
+    by_test true e = absurd (none-some d (sym none ∙ (ap p (sym (eqb-true c b e)) ∙ h)))
     by_test false e = h
 
 cell_grown : (e : Entries) (p q : Bases) → Grown p q → (c : Cell) (s : Spot) → ShowsCell e p c s → ShowsCell e q c s
@@ -66,8 +67,8 @@ cell_grown e p q g (Part v k) s h = (h.0, shows_grown e p q g v h.0 h.1, h.2, h.
 cell_grown e p q g Blank s h = h
 
 blank_get : (n k : ℕ) (c : Cell) → slice_get (replicate n Blank) k ≡ Some c → Blank ≡ c
-blank_get zero k c h = absurd (none_is c (sym (slice_get_past [] k (omega arith)) ∙ h))
-blank_get (suc n) zero c h = some_is Blank c h
+blank_get zero k c h = absurd (none-some c (sym (slice_get_past [] k (omega arith)) ∙ h))
+blank_get (suc n) zero c h = same_Some Blank c h
 blank_get (suc n) (suc k) c h = blank_get n k c h
 
 -- a live block afterwards: one of before, or the fresh one
@@ -75,8 +76,8 @@ fresh_live : (m : Memory) (size c : ℕ) (cells : List Cell) → block_at (fresh
 fresh_live m size c cells h = by_item (slice_get (fresh m size) c) refl h
   where
     last : (j : ℕ) (x : Option (List Cell)) → slice_get (Some (replicate size Blank) ∷ []) j ≡ Some x → (j ≡ 0) × (Some (replicate size Blank) ≡ x)
-    last zero x e = (refl, some_is (Some (replicate size Blank)) x e)
-    last (suc j) x e = absurd (none_is x (sym (slice_get_past [] j (omega arith)) ∙ e))
+    last zero x e = (refl, same_Some (Some (replicate size Blank)) x e)
+    last (suc j) x e = absurd (none-some x (sym (slice_get_past [] j (omega arith)) ∙ e))
 
     by_side : (x : List Cell) → x ≡ cells → ((c < length m) × (slice_get m c ≡ Some (Some x))) ⊎ ((j : ℕ) × (c ≡ length m + j) × (slice_get (Some (replicate size Blank) ∷ []) j ≡ Some (Some x)))
         → ((c < length m) × (block_at m c ≡ Some cells)) ⊎ ((c ≡ length m) × (cells ≡ replicate size Blank))
@@ -85,13 +86,13 @@ fresh_live m size c cells h = by_item (slice_get (fresh m size) c) refl h
         let l = last a.0 (Some x) a.2 in
         let at : c ≡ length m + a.0 = a.1 in
         let none : a.0 ≡ 0 = l.0 in
-        inr (omega arith, sym same ∙ sym (some_is (replicate size Blank) x l.1))
+        inr (omega arith, sym same ∙ sym (same_Some (replicate size Blank) x l.1))
 
     by_item : (o : Option (Option (List Cell))) → slice_get (fresh m size) c ≡ o → option_flatten o ≡ Some cells
         → ((c < length m) × (block_at m c ≡ Some cells)) ⊎ ((c ≡ length m) × (cells ≡ replicate size Blank))
-    by_item None e is = absurd (none_is cells is)
-    by_item (Some None) e is = absurd (none_is cells is)
-    by_item (Some (Some x)) e is = by_side x (some_is x cells is) (append_get m (Some (replicate size Blank) ∷ []) c (Some x) e)
+    by_item None e is = absurd (none-some cells is)
+    by_item (Some None) e is = absurd (none-some cells is)
+    by_item (Some (Some x)) e is = by_side x (same_Some x cells is) (append_get m (Some (replicate size Blank) ∷ []) c (Some x) e)
 
 append_other : (m : Memory) (x : Option (List Cell)) (c : ℕ) → c ≢ length m → slice_get (m ++ x ∷ []) c ≡ slice_get m c
 append_other [] x zero differ = absurd (differ refl)
@@ -120,7 +121,7 @@ cell_elsewhere e p m f at n memory room b a k cells live is lt =
     ]
   where
     cell : (c : Cell) × (slice_get cells k ≡ Some c)
-    cell = get_some cells k lt
+    cell = get_below cells k lt
 
     low : (i : ℕ) → a + k ≡ at + i → at ≤ a + k
     low i e = omega arith
@@ -174,7 +175,7 @@ fresh_shown e p m f at n memory room =
     old b a lt is = sym (more_other p (length m) at b (omega arith)) ∙ is
 
     new : (b a : ℕ) → b ≡ length m → q b ≡ Some a → a ≡ at
-    new b a same is = some_is a at (sym is ∙ (ap q same ∙ more_here p (length m) at))
+    new b a same is = same_Some a at (sym is ∙ (ap q same ∙ more_here p (length m) at))
 
     placed : (b : ℕ) (cells : List Cell) → ((b < length m) × (block_at m b ≡ Some cells)) ⊎ ((b ≡ length m) × (cells ≡ replicate n Blank)) → IsPlaced q b cells
     placed b cells (inl h) =
@@ -284,7 +285,7 @@ makes g ground p m owned f used n held fits =
       where
         by_tests : (s t : Bool) → is_among b owned ≡ s → nat_eq b (length m) ≡ t → s || t ≡ false → size_at (fresh m n) b ≡ size_at g.made b
         by_tests false false a c e =
-            ap (λ (o : Option (Option (List Cell))). option_map length (option_flatten o)) (append_other m (Some (replicate n Blank)) b (is_other b (length m) c)) ∙ held.others b a
+            ap (λ (o : Option (Option (List Cell))). option_map length (option_flatten o)) (append_other m (Some (replicate n Blank)) b (eqb-false b (length m) c)) ∙ held.others b a
         by_tests false true a c e = cc
         by_tests true t a c e = cc
 

@@ -2,13 +2,12 @@
 use Rattle.std.proofs.Common.{◌≡◌, ℕ, zero, suc, ◌+◌, ◌^◌, ◌<◌, ◌≤◌, ◌⊎◌, Bool, true, false, ◌||◌, if◌then◌else◌, List, [], ◌∷◌, ◌++◌, length, Some, None, refl, sym, ◌∙◌, ap, arith}
 use Rattle.std.specs.Prelude.{nat_eq}
 use Rattle.std.specs.Option.{option_map, option_flatten}
-use Rattle.std.proofs.lemmas.Option.{slice_get_past}
-use Rattle.std.proofs.lemmas.Bool.{eqb-true}
+use Rattle.std.proofs.lemmas.Option.{slice_get_past, none-some}
+use Rattle.std.proofs.lemmas.Bool.{eqb-true, eqb-false}
 use Rattle.il_ast.specs.declared.value.Cell.{Cell}
 use Rattle.il_ast.specs.Memory.{Memory, block_at, size_at, free, free_all}
 use Rattle.flat_code.specs.Spots.{NoAccess, Spots, Bases, Entries, Grown, ShowsMemory, AreEntries, Clear, SameReach, SameBlocks}
-use Rattle.flat_code.proofs.Shown.{none_is}
-use Rattle.flat_code.proofs.Changing.{block_other, set_made, is_other}
+use Rattle.flat_code.proofs.Changing.{block_other}
 
 -- what stays during the run: functions' addresses, the bytes for blocks, and the addresses, blocks and bytes that the body found
 pub record Ground : Type 0 where
@@ -73,10 +72,6 @@ free_here [] b = ap option_flatten (slice_get_past [] b (omega arith))
 free_here (x ∷ m) zero = refl
 free_here (x ∷ m) (suc b) = free_here m b
 
-pub freed_made : (m : Memory) (bs : List ℕ) → length (free_all m bs) ≡ length m
-freed_made m [] = refl
-freed_made m (b ∷ bs) = freed_made (free m b) bs ∙ set_made m b None
-
 pub freed_size : (m : Memory) (bs : List ℕ) (c : ℕ) → size_at (free_all m bs) c ≡ (if is_among c bs then None else size_at m c)
 freed_size m [] c = refl
 freed_size m (b ∷ bs) c = freed_size (free m b) bs c ∙ by_test (nat_eq c b) (is_among c bs) refl
@@ -85,7 +80,7 @@ freed_size m (b ∷ bs) c = freed_size (free m b) bs c ∙ by_test (nat_eq c b) 
     by_test true true e = refl
     by_test false true e = refl
     by_test true false e = ap (λ i. size_at (free m b) i) (eqb-true c b e) ∙ ap (option_map length) (free_here m b)
-    by_test false false e = ap (option_map length) (block_other m b c None (is_other c b e))
+    by_test false false e = ap (option_map length) (block_other m b c None (eqb-false c b e))
 
 -- a block that is live afterwards was not freed, and is as it was
 pub freed_live : (m : Memory) (bs : List ℕ) (c : ℕ) (cells : List Cell) → block_at (free_all m bs) c ≡ Some cells → (is_among c bs ≡ false) × (block_at m c ≡ Some cells)
@@ -93,5 +88,5 @@ freed_live m [] c cells h = (refl, h)
 freed_live m (b ∷ bs) c cells h = by_test (nat_eq c b) refl (freed_live (free m b) bs c cells h)
   where
     by_test : (s : Bool) → nat_eq c b ≡ s → (is_among c bs ≡ false) × (block_at (free m b) c ≡ Some cells) → (s || is_among c bs ≡ false) × (block_at m c ≡ Some cells)
-    by_test true e rest = absurd (none_is cells (sym (ap (λ i. block_at (free m b) i) (eqb-true c b e) ∙ free_here m b) ∙ rest.1))
-    by_test false e rest = (rest.0, sym (block_other m b c None (is_other c b e)) ∙ rest.1)
+    by_test true e rest = absurd (none-some cells (sym (ap (λ i. block_at (free m b) i) (eqb-true c b e) ∙ free_here m b) ∙ rest.1))
+    by_test false e rest = (rest.0, sym (block_other m b c None (eqb-false c b e)) ∙ rest.1)

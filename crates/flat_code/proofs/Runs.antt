@@ -5,8 +5,8 @@ use Rattle.std.specs.Int.{byte_at}
 use Rattle.std.specs.Option.{option_map, option_and_then}
 use Rattle.std.proofs.Math.Nat.{pow-suc, div-div-eq-div-mul}
 use Rattle.std.proofs.lemmas.Bool.Decides.{nat_tests}
-use Rattle.std.proofs.lemmas.Option.{slice_get_past}
-use Rattle.std.proofs.lemmas.Bool.{eqb-true}
+use Rattle.std.proofs.lemmas.Option.{slice_get_past, same_Some, none-some}
+use Rattle.std.proofs.lemmas.Bool.{eqb-true, and_parts}
 use Rattle.il_ast.specs.declared.value.Value.{Value}
 use Rattle.il_ast.specs.declared.value.Value.TheVariants.{Integer, Pointer, Function}
 use Rattle.il_ast.specs.declared.value.Cell.{Cell}
@@ -15,8 +15,10 @@ use Rattle.il_ast.specs.Values.{number_of, same_value}
 use Rattle.il_ast.specs.Memory.{Memory, block_at, cells_at, span, plain_bytes, are_parts_from, value_of}
 use Rattle.flat_code.specs.Spots.{Spot, NoAccess, AnyByte, ThisByte, Spots, Bases, Entries, Shows, ShowsCell, ShowsMemory}
 use Rattle.flat_code.specs.Step.{read_spot, known_number, is_there, all_there}
-use Rattle.flat_code.proofs.Shown.{some_is, none_is, shown_by_one}
+use Rattle.flat_code.proofs.Shown.{shown_by_one}
 use Rattle.flat_code.proofs.Operating.{callee_is}
+use Rattle.il_ast.proofs.Listed.{length_take}
+use Rattle.std.proofs.lemmas.List.{length-drop}
 
 -- the cells are shown by the bytes from an address upward
 abbrev pub RunShows : Entries → Bases → Spots → ℕ → List Cell → Type 0
@@ -62,28 +64,24 @@ run_there e p f at (c ∷ cells) h =
 
 bytes_known : (e : Entries) (p : Bases) (f : Spots) (at : ℕ) (cells : List Cell) (bs : List ℕ) → RunShows e p f at cells → plain_bytes cells ≡ Some bs → known_number f at (length cells) ≡ Some (number_of bs)
 unfolding known_number
-bytes_known e p f at [] bs run is = ap (λ (xs : List ℕ). Some (number_of xs)) (some_is [] bs is)
-bytes_known e p f at (Part v k ∷ cells) bs run is = absurd (none_is bs is)
-bytes_known e p f at (Blank ∷ cells) bs run is = absurd (none_is bs is)
+bytes_known e p f at [] bs run is = ap (λ (xs : List ℕ). Some (number_of xs)) (same_Some [] bs is)
+bytes_known e p f at (Part v k ∷ cells) bs run is = absurd (none-some bs is)
+bytes_known e p f at (Blank ∷ cells) bs run is = absurd (none-some bs is)
 bytes_known e p f at (Plain b ∷ cells) bs run is =
     ap (λ (s : Spot). read_spot s (known_number f (at + 1) (length cells))) run.0 ∙ rest (plain_bytes cells) (λ cs. bytes_known e p f (at + 1) cells cs run.1) is
   where
     rest : (o : Option (List ℕ)) → ((cs : List ℕ) → o ≡ Some cs → known_number f (at + 1) (length cells) ≡ Some (number_of cs)) → option_map (λ bytes. b ∷ bytes) o ≡ Some bs
         → option_map (λ n. b + 256 * n) (known_number f (at + 1) (length cells)) ≡ Some (number_of bs)
-    rest None all is = absurd (none_is bs is)
+    rest None all is = absurd (none-some bs is)
     rest (Some cs) all is =
-        ap (option_map (λ n. b + 256 * n)) (all cs refl) ∙ ap (λ (xs : List ℕ). Some (number_of xs)) (some_is (b ∷ cs) bs is)
+        ap (option_map (λ n. b + 256 * n)) (all cs refl) ∙ ap (λ (xs : List ℕ). Some (number_of xs)) (same_Some (b ∷ cs) bs is)
 
 -- ---- parts of a value
-
-both_true : (a b : Bool) → a && b ≡ true → (a ≡ true) × (b ≡ true)
-both_true true b h = (refl, h)
-both_true false b h = cc
 
 value_is : (u v : Value) → same_value u v ≡ true → u ≡ v
 value_is (Integer a) (Integer b) h = ap Integer (eqb-true a b h)
 value_is (Pointer a o) (Pointer b q) h =
-    let two = both_true (nat_eq a b) (nat_eq o q) h in ap (λ c. Pointer c o) (eqb-true a b two.0) ∙ ap (Pointer b) (eqb-true o q two.1)
+    let two = and_parts (nat_eq a b) (nat_eq o q) h in ap (λ c. Pointer c o) (eqb-true a b two.0) ∙ ap (Pointer b) (eqb-true o q two.1)
 value_is (Function f) (Function g) h = ap Function (callee_is f g h)
 value_is (Integer a) (Pointer b q) h = cc
 value_is (Integer a) (Function g) h = cc
@@ -114,8 +112,8 @@ parts_known e p f v x shown small at k [] run is =
 parts_known e p f v x shown small at k (Plain b ∷ cells) run is = cc
 parts_known e p f v x shown small at k (Blank ∷ cells) run is = cc
 parts_known e p f v x shown small at k (Part u i ∷ cells) run is =
-    let first = both_true (same_value u v) (nat_eq i k && are_parts_from (k + 1) v cells) is in
-    let second = both_true (nat_eq i k) (are_parts_from (k + 1) v cells) first.1 in
+    let first = and_parts (same_value u v) (nat_eq i k && are_parts_from (k + 1) v cells) is in
+    let second = and_parts (nat_eq i k) (are_parts_from (k + 1) v cells) first.1 in
     let here : Shows e p v run.0.0 = subst (λ (w : Value). Shows e p w run.0.0) (value_is u v first.0) run.0.1 in
     let byte : f at ≡ ThisByte (byte_at k x) =
     run.0.3 ∙ (ap (λ n. ThisByte (byte_at i n)) (shown_by_one e p v run.0.0 x here shown) ∙ ap (λ n. ThisByte (byte_at n x)) (eqb-true i k second.0)) in
@@ -127,9 +125,9 @@ parts_known e p f v x shown small at k (Part u i ∷ cells) run is =
 
 plain_known : (e : Entries) (p : Bases) (f : Spots) (at : ℕ) (cells : List Cell) (v : Value) → RunShows e p f at cells → (o : Option (List ℕ)) → plain_bytes cells ≡ o → option_map Integer (option_map number_of o) ≡ Some v
     → (z : ℕ) × (known_number f at (length cells) ≡ Some z) × Shows e p v z
-plain_known e p f at cells v run None e2 is = absurd (none_is v is)
+plain_known e p f at cells v run None e2 is = absurd (none-some v is)
 plain_known e p f at cells v run (Some bs) e2 is =
-    (number_of bs, bytes_known e p f at cells bs run e2, subst (λ (w : Value). Shows e p w (number_of bs)) (some_is (Integer (number_of bs)) v is) refl)
+    (number_of bs, bytes_known e p f at cells bs run e2, subst (λ (w : Value). Shows e p w (number_of bs)) (same_Some (Integer (number_of bs)) v is) refl)
 
 -- where the cells have a value, the bytes are known, and their number shows it
 pub value_known : (e : Entries) (p : Bases) (f : Spots) (at : ℕ) (cells : List Cell) (v : Value) → RunShows e p f at cells → value_of cells ≡ Some v
@@ -143,33 +141,33 @@ value_known e p f at (Part u i ∷ cells) v run is = by_test (are_parts_from 0 u
     whole n = omega arith
 
     by_test : (t : Bool) → are_parts_from 0 u (Part u i ∷ cells) ≡ t → (if t then Some u else None) ≡ Some v → (z : ℕ) × (known_number f at (length (Part u i ∷ cells)) ≡ Some z) × Shows e p v z
-    by_test false test is = absurd (none_is v is)
+    by_test false test is = absurd (none-some v is)
     by_test true test is = (
       run.0.0,
       parts_known e p f u run.0.0 run.0.1 run.0.2 at 0 (Part u i ∷ cells) run test ∙ ap (λ (n : ℕ). Some n) (whole run.0.0),
-      subst (λ (w : Value). Shows e p w run.0.0) (some_is u v is) run.0.1,
+      subst (λ (w : Value). Shows e p w run.0.0) (same_Some u v is) run.0.1,
     )
 
 -- ---- how large the number is
 
 pub known_below : (f : Spots) → ((x n : ℕ) → f x ≡ ThisByte n → n < 256) → (n at z : ℕ) → known_number f at n ≡ Some z → z < 256 ^ n
 unfolding known_number
-known_below f bytes zero at z is = subst (λ n. n < 256 ^ 0) (some_is 0 z is) (omega arith)
+known_below f bytes zero at z is = subst (λ n. n < 256 ^ 0) (same_Some 0 z is) (omega arith)
 known_below f bytes (suc n) at z is = by_spot (f at) (known_number f (at + 1) n) refl (known_below f bytes n (at + 1)) is
   where
     more : (b y j : ℕ) → b < 256 → y < 256 ^ j → b + 256 * y < 256 ^ suc j
     more b y j h k = let e : 256 ^ suc j ≡ 256 ^ j * 256 = pow-suc 256 j in omega arith
 
     by_spot : (s : Spot) (o : Option ℕ) → f at ≡ s → ((y : ℕ) → o ≡ Some y → y < 256 ^ n) → read_spot s o ≡ Some z → z < 256 ^ suc n
-    by_spot NoAccess o e rest is = absurd (none_is z is)
-    by_spot AnyByte o e rest is = absurd (none_is z is)
-    by_spot (ThisByte b) None e rest is = absurd (none_is z is)
-    by_spot (ThisByte b) (Some y) e rest is = subst (λ m. m < 256 ^ suc n) (some_is (b + 256 * y) z is) (more b y n (bytes at b e) (rest y refl))
+    by_spot NoAccess o e rest is = absurd (none-some z is)
+    by_spot AnyByte o e rest is = absurd (none-some z is)
+    by_spot (ThisByte b) None e rest is = absurd (none-some z is)
+    by_spot (ThisByte b) (Some y) e rest is = subst (λ m. m < 256 ^ suc n) (same_Some (b + 256 * y) z is) (more b y n (bytes at b e) (rest y refl))
 
 -- ---- spans of a block
 
 pub taken_get : {A : Type 0} (n : ℕ) (xs : List A) (k : ℕ) (x : A) → slice_get (take n xs) k ≡ Some x → slice_get xs k ≡ Some x
-taken_get zero xs k x h = absurd (none_is x (sym (slice_get_past [] k (omega arith)) ∙ h))
+taken_get zero xs k x h = absurd (none-some x (sym (slice_get_past [] k (omega arith)) ∙ h))
 taken_get (suc n) [] k x h = h
 taken_get (suc n) (y ∷ xs) zero x h = h
 taken_get (suc n) (y ∷ xs) (suc k) x h = taken_get n xs k x h
@@ -178,16 +176,6 @@ pub dropped_get : {A : Type 0} (o : ℕ) (xs : List A) (k : ℕ) → slice_get (
 dropped_get zero xs k = let e : 0 + k ≡ k = omega arith in rw e refl
 dropped_get (suc o) [] k = refl
 dropped_get (suc o) (y ∷ xs) k = let e : suc o + k ≡ suc (o + k) = omega arith in rw e (dropped_get o xs k)
-
-pub length_taken : {A : Type 0} (n : ℕ) (xs : List A) → n ≤ length xs → length (take n xs) ≡ n
-length_taken zero xs h = refl
-length_taken (suc n) [] h = absurd (omega arith)
-length_taken (suc n) (y ∷ xs) h = ap suc (length_taken n xs (omega arith))
-
-pub length_dropped : {A : Type 0} (o : ℕ) (xs : List A) → length (drop o xs) ≡ length xs - o
-length_dropped zero xs = omega arith
-length_dropped (suc o) [] = omega arith
-length_dropped (suc o) (y ∷ xs) = let h : length (drop o xs) ≡ length xs - o = length_dropped o xs in omega arith
 
 -- n cells from offset o of a live block
 pub record IsSpan (m : Memory) (b o n : ℕ) (part : List Cell) : Type 0 where
@@ -201,21 +189,21 @@ pub is_span : (m : Memory) (b o n : ℕ) (part : List Cell) → cells_at m b o n
 is_span m b o n part h = live (block_at m b) refl h
   where
     tested : (cells : List Cell) → block_at m b ≡ Some cells → (t : Bool) → nat_le (o + n) (length cells) ≡ t → (if t then Some (take n (drop o cells)) else None) ≡ Some part → IsSpan m b o n part
-    tested cells at false e is = absurd (none_is part is)
+    tested cells at false e is = absurd (none-some part is)
     tested cells at true e is =
         let within : o + n ≤ length cells = grind (arith, nat_tests) in
-        let same : take n (drop o cells) ≡ part = some_is (take n (drop o cells)) part is in
-        let left : length (drop o cells) ≡ length cells - o = length_dropped o cells in
+        let same : take n (drop o cells) ≡ part = same_Some (take n (drop o cells)) part is in
+        let left : length (drop o cells) ≡ length cells - o = length-drop o cells in
         record {
           cells = cells;
           live = at;
           within = within;
           is = sym same;
-          long = ap length (sym same) ∙ length_taken n (drop o cells) (omega arith);
+          long = ap length (sym same) ∙ length_take n (drop o cells) (omega arith);
         }
 
     live : (x : Option (List Cell)) → block_at m b ≡ x → option_and_then (span o n) x ≡ Some part → IsSpan m b o n part
-    live None at is = absurd (none_is part is)
+    live None at is = absurd (none-some part is)
     live (Some cells) at is = tested cells at (nat_le (o + n) (length cells)) refl is
 
 -- the cells of a span are shown where they stand

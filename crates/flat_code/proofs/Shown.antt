@@ -1,7 +1,7 @@
 -- Values that numbers show: places, operands, and what is read.
 use Rattle.std.proofs.Common.{◌≡◌, ℕ, zero, suc, ◌+◌, ◌%◌, ◌^◌, Bool, true, false, if◌then◌else◌, List, [], ◌∷◌, map, slice_get, Option, Some, None, refl, sym, ◌∙◌, ap, subst, arith}
-use Rattle.std.proofs.lemmas.Option.{slice_get_past}
-use Rattle.std.specs.Option.{option_map, option_and_then, option_map_or}
+use Rattle.std.proofs.lemmas.Option.{slice_get_past, same_Some, none-some}
+use Rattle.std.specs.Option.{option_map, option_and_then}
 use Rattle.bits.specs.Words.{sign_extended}
 use Rattle.il_ast.specs.declared.operation.Class.{Class}
 use Rattle.il_ast.specs.declared.operation.Class.TheVariants.{W, L}
@@ -24,12 +24,6 @@ use Rattle.flat_code.specs.Step.{Numbers, put, kept, held, taken, passed, bound,
 
 -- ---- one value
 
-pub some_is : {A : Type 0} (x y : A) → Some x ≡ Some y → x ≡ y
-some_is {A} x y h = ap (λ (o : Option A). option_map_or (λ (z : A). z) o x) h
-
-pub none_is : {A : Type 0} (x : A) → None ≡ Some x → ⊥
-none_is {A} x h = let e : true ≡ false = ap (λ (o : Option A). option_map_or (λ (z : A). false) o true) h in cc
-
 pub shows_grown : (e : Entries) (p q : Bases) → Grown p q → (v : Value) (x : ℕ) → Shows e p v x → Shows e q v x
 shows_grown e p q g (Integer n) x h = h
 shows_grown e p q g (Pointer b o) x h = (h.0, g b h.0 h.1, h.2)
@@ -45,8 +39,8 @@ all_grown e p q g (v ∷ vs) (x ∷ xs) h = (shows_grown e p q g v x h.0, all_gr
 pub shown_by_one : (e : Entries) (p : Bases) (v : Value) (x y : ℕ) → Shows e p v x → Shows e p v y → x ≡ y
 shown_by_one e p (Integer n) x y h k = h ∙ sym k
 shown_by_one e p (Pointer b o) x y h k =
-    let same : h.0 ≡ k.0 = some_is h.0 k.0 (sym h.1 ∙ k.1) in h.2 ∙ (ap (λ a. (a + o) % 2 ^ 64) same ∙ sym k.2)
-shown_by_one e p (Function f) x y h k = some_is x y (sym h ∙ k)
+    let same : h.0 ≡ k.0 = same_Some h.0 k.0 (sym h.1 ∙ k.1) in h.2 ∙ (ap (λ a. (a + o) % 2 ^ 64) same ∙ sym k.2)
+shown_by_one e p (Function f) x y h k = same_Some x y (sym h ∙ k)
 
 -- ---- a value that there may be
 
@@ -55,20 +49,20 @@ abbrev pub Follows : Entries → Bases → Option Value → Option ℕ → Type 
 Follows e p o n = (v : Value) → o ≡ Some v → (x : ℕ) × (n ≡ Some x) × Shows e p v x
 
 pub none_follows : (e : Entries) (p : Bases) (n : Option ℕ) → Follows e p None n
-none_follows e p n v h = absurd (none_is v h)
+none_follows e p n v h = absurd (none-some v h)
 
 pub some_follows : (e : Entries) (p : Bases) (v : Value) (x : ℕ) → Shows e p v x → Follows e p (Some v) (Some x)
-some_follows e p v x h w is = (x, refl, subst (λ (u : Value). Shows e p u x) (some_is v w is) h)
+some_follows e p v x h w is = (x, refl, subst (λ (u : Value). Shows e p u x) (same_Some v w is) h)
 
 pub follows_map : (e : Entries) (p : Bases) (o : Option Value) (n : Option ℕ) (f : Value → Option Value) (g : ℕ → ℕ) → Follows e p o n
     → ((v w : Value) (x : ℕ) → Shows e p v x → f v ≡ Some w → Shows e p w (g x)) → Follows e p (option_and_then f o) (option_map g n)
-follows_map e p None n f g h k w is = absurd (none_is w is)
+follows_map e p None n f g h k w is = absurd (none-some w is)
 follows_map e p (Some v) n f g h k w is =
     let a = h v refl in (g a.0, ap (option_map g) a.1, k v w a.0 a.2 is)
 
 pub follows_then : (e : Entries) (p : Bases) (o : Option Value) (n : Option ℕ) (f : Value → Option Value) (g : ℕ → Option ℕ) → Follows e p o n
     → ((v : Value) (x : ℕ) → Shows e p v x → Follows e p (f v) (g x)) → Follows e p (option_and_then f o) (option_and_then g n)
-follows_then e p None n f g h k w is = absurd (none_is w is)
+follows_then e p None n f g h k w is = absurd (none-some w is)
 follows_then e p (Some v) n f g h k w is =
     let a = h v refl in let b = k v a.0 a.2 w is in (b.0, ap (option_and_then g) a.1 ∙ b.1, b.2)
 
@@ -95,30 +89,30 @@ kept_follows e p values numbers h q = if_follows e p (is_callers q) None (values
 
 pub taken_shown : (e : Entries) (p : Bases) (k : Class) (v w : Value) (x : ℕ) → Shows e p v x → in_place k v ≡ Some w → Shows e p w (taken k x)
 taken_shown e p W (Integer n) w x h is =
-    subst (λ (u : Value). Shows e p u (x % 2 ^ 32)) (some_is (Integer (n % 2 ^ 32)) w is) (ap (λ (m : ℕ). m % 2 ^ 32) h)
-taken_shown e p W (Pointer b o) w x h is = absurd (none_is w is)
-taken_shown e p W (Function f) w x h is = absurd (none_is w is)
-taken_shown e p L v w x h is = subst (λ (u : Value). Shows e p u x) (some_is v w is) h
+    subst (λ (u : Value). Shows e p u (x % 2 ^ 32)) (same_Some (Integer (n % 2 ^ 32)) w is) (ap (λ (m : ℕ). m % 2 ^ 32) h)
+taken_shown e p W (Pointer b o) w x h is = absurd (none-some w is)
+taken_shown e p W (Function f) w x h is = absurd (none-some w is)
+taken_shown e p L v w x h is = subst (λ (u : Value). Shows e p u x) (same_Some v w is) h
 
 pub held_shown : (e : Entries) (p : Bases) (k : Class) (v : Value) (x : ℕ) → Shows e p v x → Passes k v → Shows e p (value_held k v) (held k x)
 held_shown e p W (Integer n) x h passes = ap (λ (m : ℕ). sign_extended (m % 2 ^ 32)) h
-held_shown e p W (Pointer b o) x h passes = absurd (none_is (Pointer b o) passes)
-held_shown e p W (Function f) x h passes = absurd (none_is (Function f) passes)
+held_shown e p W (Pointer b o) x h passes = absurd (none-some (Pointer b o) passes)
+held_shown e p W (Function f) x h passes = absurd (none-some (Function f) passes)
 held_shown e p L v x h passes = h
 
 pub passes_taken : (k : Class) (v w : Value) → in_place k v ≡ Some w → Passes k w
-passes_taken W (Integer n) w is = subst (λ (u : Value). in_place W u ≡ Some u) (some_is (Integer (n % 2 ^ 32)) w is) (ap (λ (m : ℕ). Some (Integer m)) (twice n))
+passes_taken W (Integer n) w is = subst (λ (u : Value). in_place W u ≡ Some u) (same_Some (Integer (n % 2 ^ 32)) w is) (ap (λ (m : ℕ). Some (Integer m)) (twice n))
   where
     twice : (n : ℕ) → n % 2 ^ 32 % 2 ^ 32 ≡ n % 2 ^ 32
     twice n = omega arith
-passes_taken W (Pointer b o) w is = absurd (none_is w is)
-passes_taken W (Function f) w is = absurd (none_is w is)
+passes_taken W (Pointer b o) w is = absurd (none-some w is)
+passes_taken W (Function f) w is = absurd (none-some w is)
 passes_taken L v w is = refl
 
 -- ---- operands
 
 names_follow : (e : Entries) (p : Bases) (vs : List Value) (xs : List ℕ) → AllShow e p vs xs → (g : ℕ) → Follows e p (slice_get vs g) (slice_get xs g)
-names_follow e p [] xs h g = λ v is. absurd (none_is v (sym (slice_get_past [] g (omega arith)) ∙ is))
+names_follow e p [] xs h g = λ v is. absurd (none-some v (sym (slice_get_past [] g (omega arith)) ∙ is))
 names_follow e p (v ∷ vs) [] h g = absurd h
 names_follow e p (v ∷ vs) (x ∷ xs) h zero = some_follows e p v x h.0
 names_follow e p (v ∷ vs) (x ∷ xs) h (suc g) = names_follow e p vs xs h.1 g
@@ -135,7 +129,7 @@ read_follows e p globals addresses values numbers names h k a =
     follows_map e p (value_of globals values a) (number_of addresses numbers a) (in_place k) (taken k) (operand_follows e p globals addresses values numbers names h a) (taken_shown e p k)
 
 pub read_passes : (k : Class) (o : Option Value) (v : Value) → option_and_then (in_place k) o ≡ Some v → Passes k v
-read_passes k None v is = absurd (none_is v is)
+read_passes k None v is = absurd (none-some v is)
 read_passes k (Some u) v is = passes_taken k u v is
 
 -- ---- what is passed
@@ -167,10 +161,10 @@ passed_passes Claimed W u v is = by (stands_extended u) is
   where
     by : (b : Bool) → (if b then in_place W u else None) ≡ Some v → Passes W v
     by true is = passes_taken W u v is
-    by false is = absurd (none_is v is)
+    by false is = absurd (none-some v is)
 
 pub option_passes : (t : Extension) (k : Class) (o : Option Value) (v : Value) → option_and_then (value_passed t k) o ≡ Some v → Passes k v
-option_passes t k None v is = absurd (none_is v is)
+option_passes t k None v is = absurd (none-some v is)
 option_passes t k (Some u) v is = passed_passes t k u v is
 
 -- ---- arguments
@@ -181,12 +175,12 @@ ArgsFollow e p cs o n = (vs : List Value) → o ≡ Some vs → (xs : List ℕ) 
 
 cons_follow : (e : Entries) (p : Bases) (k : Class) (cs : List Class) (o : Option Value) (n : Option ℕ) (os : Option (List Value)) (ns : Option (List ℕ)) → Follows e p o n → ((v : Value) → o ≡ Some v → Passes k v)
     → ArgsFollow e p cs os ns → ArgsFollow e p (k ∷ cs) (option_and_then (λ v. option_map (λ vs. v ∷ vs) os) o) (option_and_then (λ x. option_map (λ xs. x ∷ xs) ns) n)
-cons_follow e p k cs None n os ns h passes all vs is = absurd (none_is vs is)
-cons_follow e p k cs (Some v) n None ns h passes all vs is = absurd (none_is vs is)
+cons_follow e p k cs None n os ns h passes all vs is = absurd (none-some vs is)
+cons_follow e p k cs (Some v) n None ns h passes all vs is = absurd (none-some vs is)
 cons_follow e p k cs (Some v) n (Some us) ns h passes all vs is =
     let a = h v refl in
     let b = all us refl in
-    let same : v ∷ us ≡ vs = some_is (v ∷ us) vs is in (
+    let same : v ∷ us ≡ vs = same_Some (v ∷ us) vs is in (
       a.0 ∷ b.0,
       ap (option_and_then (λ x. option_map (λ xs. x ∷ xs) ns)) a.1 ∙ ap (option_map (λ xs. a.0 ∷ xs)) b.1,
       subst (λ (ws : List Value). AllShow e p ws (a.0 ∷ b.0)) same (a.2, b.2),
@@ -196,7 +190,7 @@ cons_follow e p k cs (Some v) n (Some us) ns h passes all vs is =
 pub all_follow : (e : Entries) (p : Bases) (globals : List Value) (addresses : List ℕ) (values : Values Location) (numbers : Numbers) → AllShow e p globals addresses → AllFollow e p values numbers
     → (args : List (Argument Location)) → ArgsFollow e p (map (λ a. a.class) args) (values_read globals values args) (read_all addresses numbers args)
 all_follow e p globals addresses values numbers names h [] = λ vs is.
-    let same : [] ≡ vs = some_is [] vs is in ([], refl, subst (λ (ws : List Value). AllShow e p ws []) same tt, subst (λ (ws : List Value). AreArgs [] ws) same tt)
+    let same : [] ≡ vs = same_Some [] vs is in ([], refl, subst (λ (ws : List Value). AllShow e p ws []) same tt, subst (λ (ws : List Value). AreArgs [] ws) same tt)
 all_follow e p globals addresses values numbers names h (a ∷ args) =
     cons_follow e p a.class (map (λ b. b.class) args) (value_argument globals values a) (read_argument addresses numbers a)
     (values_read globals values args) (read_all addresses numbers args) (passed_follows e p globals addresses values numbers names h a.extension a.class a.value)

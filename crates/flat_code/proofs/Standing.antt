@@ -8,7 +8,7 @@ use Rattle.il_ast.specs.declared.value.Cell.{Cell}
 use Rattle.il_ast.specs.Memory.{Memory, block_at}
 use Rattle.il_ast.specs.Operations.{reaches, lies_in}
 use Rattle.flat_code.specs.Spots.{Bases, Entries, Spots, Shows, ShowsMemory, IsPlaced}
-use Rattle.flat_code.proofs.Shown.{some_is}
+use Rattle.std.proofs.lemmas.Option.{same_Some}
 
 -- a pointer to offset o of a live block is shown by the address of its first byte and the offset
 pub record Stands (p : Bases) (b o x : ℕ) (cells : List Cell) : Type 0 where
@@ -21,7 +21,7 @@ pub record Stands (p : Bases) (b o x : ℕ) (cells : List Cell) : Type 0 where
 pub stands : (e : Entries) (p : Bases) (m : Memory) (f : Spots) (b o x : ℕ) (cells : List Cell) → ShowsMemory e p m f → block_at m b ≡ Some cells → o ≤ length cells → Shows e p (Pointer b o) x → Stands p b o x cells
 stands e p m f b o x cells memory live le h =
     let placed : IsPlaced p b cells = memory.placed b cells live in
-    let same : h.0 ≡ placed.base = some_is h.0 placed.base (sym h.1 ∙ placed.is) in
+    let same : h.0 ≡ placed.base = same_Some h.0 placed.base (sym h.1 ∙ placed.is) in
     record {
       base = placed.base;
       is = placed.is;

@@ -1,17 +1,15 @@
 -- A call of a function of the program is kept where its body is.
-use Rattle.std.proofs.Common.{◌≡◌, ℕ, ◌+◌, ◌-◌, ◌≤◌, true, false, List, [], ◌∷◌, map, refl, sym, ◌∙◌, subst, ap, ap₂, arith}
+use Rattle.std.proofs.Common.{◌≡◌, ℕ, ◌+◌, ◌-◌, ◌≤◌, true, false, List, map, refl, sym, ◌∙◌, subst, ap, arith}
 use Rattle.std.proofs.lemmas.Bool.Decides.{nat_tests}
 use Rattle.std.specs.Prelude.{nat_lt, Option, Some, None}
 use Rattle.std.proofs.lemmas.Bool.{and_parts}
 use Rattle.il_ast.specs.declared.operation.Class.{Class}
-use Rattle.il_ast.specs.declared.operation.Class.TheVariants.{W, L}
 use Rattle.il_ast.specs.declared.function.Param.{Param}
 use Rattle.il_ast.specs.declared.function.Func.{Func}
 use Rattle.il_ast.specs.declared.program.InText.{InText}
 use Rattle.il_ast.specs.declared.program.Program.{Program}
 use Rattle.il_ast.specs.declared.value.Value.{Value}
 use Rattle.il_ast.specs.declared.value.End.TheVariants.{Exit, Halt, Undefined, Stack, Turns}
-use Rattle.il_ast.specs.Values.{same_class}
 use Rattle.il_ast.specs.Memory.{Memory}
 use Rattle.il_ast.specs.Cost.{need}
 use Rattle.il_ast.specs.Run.{nothing, one_call, both, Outcome, Returned, Ended, after}
@@ -27,21 +25,9 @@ use Rattle.headline.specs.Knot.{Setting, KeepsCall, AllKept, KeptBody, KeepsBody
 use Rattle.headline.specs.Functions.{body_of}
 use Rattle.headline.proofs.InPlace.{same_body}
 use Rattle.headline.proofs.Trivial.{undefined_kept, stack_kept, by_test}
+use Rattle.il_ast.proofs.Alike.{same_class_is, same_classes_are}
 
 -- ---- types
-
-same_class_is : (c d : Class) → same_class c d ≡ true → c ≡ d
-same_class_is W W h = refl
-same_class_is W L h = cc
-same_class_is L W h = cc
-same_class_is L L h = refl
-
-pub same_classes_are : (cs ds : List Class) → same_classes cs ds ≡ true → cs ≡ ds
-same_classes_are [] [] h = refl
-same_classes_are [] (d ∷ ds) h = cc
-same_classes_are (c ∷ cs) [] h = cc
-same_classes_are (c ∷ cs) (d ∷ ds) h =
-    let t = and_parts (same_class c d) (same_classes cs ds) h in ap₂ (λ x xs. x ∷ xs) (same_class_is c d t.0) (same_classes_are cs ds t.1)
 
 pub suits_wanted : (wants has : Option Class) → result_fits wants has ≡ true → (v : Option Value) → Suits has v → Suits wants v
 suits_wanted None has h v s = tt

@@ -39,12 +39,12 @@ use Rattle.headline.specs.InPlace.{calls_in}
 use Rattle.headline.proofs.InPlace.{code_is_in}
 use Rattle.headline.proofs.InNeed.{bytes_in_need, frame_in_need}
 use Rattle.headline.proofs.LayersKeep.{layers_keep}
-use Rattle.headline.proofs.StartMemory.{get_within}
 use Rattle.headline.proofs.Running.{setting_is, executable_runs}
 use Rattle.headline.proofs.PlacedWords.{ground_of}
 use Rattle.headline.proofs.NativeCode.{natives_perform}
 use Rattle.headline.proofs.StartCode.{start_runs}
 use Rattle.headline.proofs.DataPlaced.{bounds, address_most, address_aligned, function_stands, Worth, worth, stands_well}
+use Rattle.il_ast.proofs.Listed.{get_before}
 
 -- ---- what names are worth
 
@@ -113,7 +113,7 @@ object_shown : (p : Program) (codes : List Words) → FitsBelow p codes → Wort
     → (a : ℕ) × (slice_get (start_places (addresses_of p codes).objects words) k ≡ Some a) × (slice_index (addresses_of p codes).objects k ≡ (a + 0) % 2 ^ 64)
 object_shown p codes fits w words k lt =
     let small = object_small p codes fits k in
-    (slice_index (addresses_of p codes).objects k, get_within (addresses_of p codes).objects _ k _ (w.objects k lt), omega (arith, small))
+    (slice_index (addresses_of p codes).objects k, get_before (addresses_of p codes).objects _ k _ (w.objects k lt), omega (arith, small))
 
 names_shown : (p : Program) (codes : List Words) → FitsBelow p codes → Worth p codes → (words : List (List ℕ)) (ts : List Target) → ((n : ℕ) (t : Target) → slice_get ts n ≡ Some t → IsThere (length p.functions) (length p.objects) t)
     → AllShow (entries_of p codes) (λ b. slice_get (start_places (addresses_of p codes).objects words) b) (map target_value ts) (map (λ t. target_address (addresses_of p codes) (Some t)) ts)

@@ -1,11 +1,11 @@
 -- The data of a placed program stands in its executable, and its functions have addresses of their own.
-use Rattle.std.proofs.Common.{◌≡◌, ℕ, zero, suc, ◌+◌, ◌-◌, ◌*◌, ◌/◌, ◌%◌, ◌^◌, ◌<◌, ◌≤◌, Bool, true, false, nat_eq, List, [], ◌∷◌, ◌++◌, length, map, replicate, refl, sym, ◌∙◌, ap, subst, arith, lit<, append_assoc}
+use Rattle.std.proofs.Common.{◌≡◌, ℕ, zero, suc, ◌+◌, ◌-◌, ◌*◌, ◌%◌, ◌^◌, ◌<◌, ◌≤◌, Bool, true, false, nat_eq, List, [], ◌∷◌, ◌++◌, length, map, replicate, refl, sym, ◌∙◌, ap, subst, arith, lit<, append_assoc}
 use Rattle.std.specs.Prelude.{if◌then◌else◌, slice_get, slice_index, Option, Some, None}
 use Rattle.std.specs.Option.{option_map}
 use Rattle.std.specs.List.{flat_map, sum_by}
 use Rattle.std.proofs.lemmas.List.{length-append, length-map, length-replicate}
 use Rattle.std.proofs.lemmas.List.Sums.{sum_by-cons}
-use Rattle.std.proofs.lemmas.Option.{slice_get-get_or, slice_get-map, slice_get_within}
+use Rattle.std.proofs.lemmas.Option.{slice_get-get_or, slice_get-map, slice_get_within, same_Some}
 use Rattle.il_ast.specs.declared.datum.DataDef.{DataDef}
 use Rattle.il_ast.specs.declared.datum.Field.{Field}
 use Rattle.il_ast.specs.declared.datum.Field.TheVariants.{Items, Zeros}
@@ -47,6 +47,8 @@ use Rattle.flat_code.specs.Spots.{Bases, AreEntries}
 use Rattle.headline.specs.Places.{CellStands, CellsStand, BlocksStand, DataStands}
 use Rattle.headline.specs.Executables.{entries_of, places_of, NamesAreThere, ProgramsHaveNames, PlacedStands}
 use Rattle.headline.proofs.PlacedWords.{ground_of, words_stand}
+use Rattle.il_ast.proofs.Measured.{length_bytes}
+use Rattle.obj_link.proofs.ImageLemmas.{slots_count}
 
 -- ---- addresses of functions
 
@@ -84,9 +86,6 @@ length_addresses : (at : ℕ) (codes : List Words) → length (function_addresse
 length_addresses at [] = refl
 length_addresses at (c ∷ codes) = ap suc (length_addresses (at + 4 * length c.words) codes)
 
-pub same_some : (a b : ℕ) → Some a ≡ Some b → a ≡ b
-same_some a b h = cc
-
 -- ---- sizes
 
 pub record Bounds (p : Program) (codes : List Words) : Type 0 where
@@ -106,13 +105,13 @@ are_entries p codes every fits = record { distinct = distinct; small = small }
 
     distinct : (f g : Callee) (a : ℕ) → entries_of p codes f ≡ Some a → entries_of p codes g ≡ Some a → f ≡ g
     distinct (Defined k) (Defined m) a h j = ap Defined (address_own functions_start codes every k m a h j)
-    distinct (Defined k) SystemWrite a h j = let same = same_some write_address a j in absurd (natives k a h (omega (arith, same)))
-    distinct (Defined k) SystemExit a h j = let same = same_some exit_address a j in absurd (natives k a h (omega (arith, same)))
-    distinct SystemWrite (Defined m) a h j = let same = same_some write_address a h in absurd (natives m a j (omega (arith, same)))
+    distinct (Defined k) SystemWrite a h j = let same = same_Some write_address a j in absurd (natives k a h (omega (arith, same)))
+    distinct (Defined k) SystemExit a h j = let same = same_Some exit_address a j in absurd (natives k a h (omega (arith, same)))
+    distinct SystemWrite (Defined m) a h j = let same = same_Some write_address a h in absurd (natives m a j (omega (arith, same)))
     distinct SystemWrite SystemWrite a h j = refl
-    distinct SystemWrite SystemExit a h j = let one = same_some write_address a h in let two = same_some exit_address a j in absurd (omega (arith, one, two))
-    distinct SystemExit (Defined m) a h j = let same = same_some exit_address a h in absurd (natives m a j (omega (arith, same)))
-    distinct SystemExit SystemWrite a h j = let one = same_some exit_address a h in let two = same_some write_address a j in absurd (omega (arith, one, two))
+    distinct SystemWrite SystemExit a h j = let one = same_Some write_address a h in let two = same_Some exit_address a j in absurd (omega (arith, one, two))
+    distinct SystemExit (Defined m) a h j = let same = same_Some exit_address a h in absurd (natives m a j (omega (arith, same)))
+    distinct SystemExit SystemWrite a h j = let one = same_Some exit_address a h in let two = same_Some write_address a j in absurd (omega (arith, one, two))
     distinct SystemExit SystemExit a h j = refl
 
     small : (f : Callee) (a : ℕ) → entries_of p codes f ≡ Some a → a < 2 ^ 64
@@ -123,13 +122,13 @@ are_entries p codes every fits = record { distinct = distinct; small = small }
         let two = b.objects in
         let three = b.end in
         omega (arith, most, one, two, three)
-    small SystemWrite a h = let same = same_some write_address a h in omega (arith, same)
-    small SystemExit a h = let same = same_some exit_address a h in omega (arith, same)
+    small SystemWrite a h = let same = same_Some write_address a h in omega (arith, same)
+    small SystemExit a h = let same = same_Some exit_address a h in omega (arith, same)
 
 pub entries_aligned : (p : Program) (codes : List Words) (f : Callee) (a : ℕ) → entries_of p codes f ≡ Some a → a % 4 ≡ 0
 entries_aligned p codes (Defined k) a h = address_aligned functions_start codes refl k a h
-entries_aligned p codes SystemWrite a h = subst (λ n. n % 4 ≡ 0) (same_some write_address a h) refl
-entries_aligned p codes SystemExit a h = subst (λ n. n % 4 ≡ 0) (same_some exit_address a h) refl
+entries_aligned p codes SystemWrite a h = subst (λ n. n % 4 ≡ 0) (same_Some write_address a h) refl
+entries_aligned p codes SystemExit a h = subst (λ n. n % 4 ≡ 0) (same_Some exit_address a h) refl
 
 -- ---- a function's words among the code
 
@@ -305,10 +304,6 @@ names_there p has t g v h = by (slice_get p.targets t) refl h
 
 -- ---- sizes of data
 
-bytes_count : (k n : ℕ) → length (bytes_of k n) ≡ k
-bytes_count zero n = refl
-bytes_count (suc k) n = ap suc (bytes_count k (n / 256))
-
 address_size : (o : Option Value) (offset : ℕ) → length (address_cells o offset) ≡ 8
 address_size None offset = refl
 address_size (Some (Integer k)) offset = refl
@@ -320,7 +315,7 @@ address_size (Some (Function f)) offset = by (nat_eq offset 0)
     by false = refl
 
 item_long : (globals : List Value) (size : Size) (i : Item) → length (item_cells globals size i) ≡ item_size size i
-item_long globals size (Int k) = length-map (bytes_of (byte_count size) k) Plain ∙ bytes_count (byte_count size) k
+item_long globals size (Int k) = length-map (bytes_of (byte_count size) k) Plain ∙ length_bytes (byte_count size) k
 item_long globals size (Bytes bytes) = length-map bytes Plain
 item_long globals size (Address g offset) = address_size (slice_get globals g) offset
 
@@ -339,14 +334,6 @@ field_long globals (Zeros k) = length-replicate k (Plain 0)
 
 object_long : (p : Program) (d : InText DataDef) → length (object_cells p d) ≡ object_size d.item
 object_long p d = all_long (field_cells (globals_of p d.text)) field_size (field_long (globals_of p d.text)) d.item.fields
-
-slot_long : (bs : List ℕ) → length (in_slots bs) ≡ round_16 (length bs)
-unfolding in_slots
-slot_long bs =
-    let both = length-append bs (replicate (round_16 (length bs) - length bs) 0) in
-    let nought : ℕ = 0 in
-    let zeros : length (replicate (round_16 (length bs) - length bs) nought) ≡ round_16 (length bs) - length bs = length-replicate (round_16 (length bs) - length bs) nought in
-    omega (arith, both, zeros)
 
 slot_starts : (byte : ℕ → Option ℕ) (bs : List ℕ) (at : ℕ) → BytesStand byte (in_slots bs) at → BytesStand byte bs at
 unfolding in_slots
@@ -392,7 +379,7 @@ objects_stand p codes has w byte high (d ∷ ds) from at le b fits =
     let there = fields_there (length p.functions) (length p.objects) (globals_of p d.text) (names_there p has d.text) d.item.fields in
     let long : length bytes ≡ length cells = length-map cells (cell_byte a) in
     let size : length cells ≡ object_size d.item = object_long p d in
-    let slot : length (object_bytes a p d) ≡ round_16 (length bytes) = slot_long bytes in
+    let slot : length (object_bytes a p d) ≡ round_16 (length bytes) = slots_count bytes in
     let both : length (object_bytes a p d ++ rest) ≡ length (object_bytes a p d) + length rest = length-append (object_bytes a p d) rest in
     let whole : length (object_bytes a p d) ≡ round_16 (object_size d.item) = slot ∙ ap round_16 (long ∙ size) in
     let next : at + length (object_bytes a p d) ≡ at + round_16 (object_size d.item) = omega (arith, whole) in (

@@ -1,5 +1,5 @@
 -- The layers of the example keep its one function.
-use Rattle.std.proofs.Common.{◌≡◌, ℕ, zero, suc, ◌-◌, List, [], ◌∷◌, ◌++◌, map, refl, sym, ◌∙◌, subst, ap, arith, lit<, lit≤}
+use Rattle.std.proofs.Common.{◌≡◌, ℕ, zero, suc, ◌-◌, List, [], ◌∷◌, map, refl, sym, ◌∙◌, subst, ap, arith, lit<, lit≤}
 use Rattle.std.specs.Prelude.{Option, Some}
 use Rattle.il_ast.specs.declared.operation.Class.TheVariants.{W}
 use Rattle.il_ast.specs.declared.operation.Class.{Class}
@@ -34,6 +34,7 @@ use Rattle.headline.specs.Functions.{body_of, FunctionsKept}
 use Rattle.headline.specs.Example.{setting, halting, flat_halting, begin, step, flat_begin, flat_step}
 use Rattle.headline.proofs.Answer.{grown_same}
 use Rattle.headline.proofs.LayersKeep.{layers_keep}
+use Rattle.std.proofs.lemmas.List.{append-nil}
 
 -- the function of the example
 abbrev pub main_function : InText Func
@@ -80,15 +81,11 @@ break_stops s fixed here =
     ap (λ r. then_run (λ t. runs 0 t) s r)
     (step_at setting.world.memory_map s Ebreak fixed (subst (λ a. InstrAt setting.world.memory_map a Ebreak) (sym here) breaks_at))
 
-append_nil : (xs : List ℕ) → xs ≡ xs ++ []
-append_nil [] = refl
-append_nil (x ∷ xs) = ap (λ ys. x ∷ ys) (append_nil xs)
-
 halting_performs : (sp : ℕ) (before : Spots) (s : State) → Fixed setting.world.memory_map s → s.pc ≡ 0x10000 → (t : ℕ) → Performs setting.world sp (Some W) before s (flat_after one_call (flat_halting t))
 halting_performs sp before s fixed here zero =
-    record { steps = 0; after = s; comes = comes_here s; price = omega arith; pace = omega arith; output = append_nil s.output }
+    record { steps = 0; after = s; comes = comes_here s; price = omega arith; pace = omega arith; output = sym (append-nil s.output) }
 halting_performs sp before s fixed here (suc n) =
-    record { steps = 1; last = s; stopped = break_stops s fixed here; price = lit≤ tt; output = append_nil s.output }
+    record { steps = 1; last = s; stopped = break_stops s fixed here; price = lit≤ tt; output = sym (append-nil s.output) }
 
 flat_over : (j : FlatGiven) (b n : ℕ) (log : List (Entry FlatAsked FlatOutcome)) (r : FlatOutcome) → Logged (flat_step b j) n tt log r → flat_halting j.turns ≡ r
 unfolding Logged

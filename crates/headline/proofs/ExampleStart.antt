@@ -2,7 +2,7 @@
 use Rattle.std.proofs.Common.{◌≡◌, ◌≢◌, ℕ, zero, suc, ◌+◌, ◌-◌, ◌%◌, ◌^◌, ◌<◌, ◌≤◌, Bool, true, false, List, [], ◌∷◌, refl, sym, ◌∙◌, subst, ap, arith, lit<, lit≤}
 use Rattle.std.proofs.lemmas.Bool.Decides.{nat_tests}
 use Rattle.std.specs.Prelude.{◌==◌, ◌&&◌, if◌then◌else◌, nat_le, nat_lt, slice_get, unwrap_or, replicate, Some, None, Ok, Err}
-use Rattle.std.proofs.lemmas.Option.{slice_get_past}
+use Rattle.std.proofs.lemmas.Option.{slice_get_past, none-some}
 use Rattle.std.specs.Prelude.{pos}
 use Rattle.std.proofs.lemmas.Int.{ints}
 use Rattle.bits.specs.Words.{sign_extended, Fits12}
@@ -55,15 +55,12 @@ usable x low high =
 world : IsWorld setting.world
 world = record { usable = λ x low high. usable x low (omega arith); above_zero = lit< tt; small = lit< tt }
 
-nothing : {A : Type 0} (a : A) → None ≡ Some a → ⊥
-nothing a h = cc
-
 -- `main` has the one address
 entry_is : (f : Callee) (a : ℕ) → entry f ≡ Some a → (f ≡ Defined 0) × (a ≡ 0x10000)
 entry_is (Defined zero) a h = (refl, cc)
-entry_is (Defined (suc k)) a h = absurd (nothing a h)
-entry_is SystemWrite a h = absurd (nothing a h)
-entry_is SystemExit a h = absurd (nothing a h)
+entry_is (Defined (suc k)) a h = absurd (none-some a h)
+entry_is SystemWrite a h = absurd (none-some a h)
+entry_is SystemExit a h = absurd (none-some a h)
 
 pub setting_is : IsSetting setting
 setting_is =
@@ -78,7 +75,7 @@ setting_is =
     }
 
 pub natives : NativesPerform setting
-natives = record { write = λ at sp j h good. absurd (nothing at h); exit = λ at sp j h good. absurd (nothing at h) }
+natives = record { write = λ at sp j h good. absurd (none-some at h); exit = λ at sp j h good. absurd (none-some at h) }
 
 -- ---- bytes
 
@@ -153,7 +150,7 @@ holds =
 -- ---- the start memory: one block of eight zero bytes
 
 cell_is : (n k : ℕ) (c : Cell) → slice_get (replicate n (Plain 0)) k ≡ Some c → (k < n) × (Plain 0 ≡ c)
-cell_is zero k c h = absurd (nothing c h)
+cell_is zero k c h = absurd (none-some c h)
 cell_is (suc n) zero c h = (omega arith, cc)
 cell_is (suc n) (suc k) c h = let r = cell_is n k c h in let few = r.0 in (omega arith, r.1)
 
@@ -162,7 +159,7 @@ list_cells = replicate 8 (Plain 0)
 
 one_block : (b : ℕ) (cells : List Cell) → block_at (start_memory halts []) b ≡ Some cells → (b ≡ 0) × (list_cells ≡ cells)
 one_block zero cells h = (refl, cc)
-one_block (suc b) cells h = absurd (nothing cells h)
+one_block (suc b) cells h = absurd (none-some cells h)
 
 placed : (b : ℕ) (cells : List Cell) → block_at (start_memory halts []) b ≡ Some cells → IsPlaced base b cells
 placed b cells h =
@@ -258,8 +255,8 @@ ready turns =
       place = refl;
       stack_pointer = refl;
       return_address = refl;
-      in_registers = λ k n c few class arg. absurd (nothing c class);
-      on_stack = λ k n c few class arg. absurd (nothing c class);
+      in_registers = λ k n c few class arg. absurd (none-some c class);
+      on_stack = λ k n c few class arg. absurd (none-some c class);
       below_top = lit≤ tt;
       memory = holds;
     }

@@ -15,7 +15,7 @@ use Rattle.il_ast.specs.Laws.{StillGoes, IsFailure}
 use Rattle.il_ast.proofs.Pacing.{turns_are_spent, output_comes_first}
 use Rattle.rv_isa.specs.State.{State}
 use Rattle.rv_isa.specs.Step.{Stop, Exited, Broken}
-use Rattle.rv_isa.specs.Runs.{Run, Going, Stopped, runs, Comes}
+use Rattle.rv_isa.specs.Runs.{Going, Stopped, runs}
 use Rattle.flat_code.specs.Spots.{Spots, Bases}
 use Rattle.flat_code.specs.Flat.{FlatOutcome, FlatReturned, FlatEnded, ShowsOutcome}
 use Rattle.abi_frames.specs.Calls.{ResultIn, passed}
@@ -25,15 +25,10 @@ use Rattle.headline.specs.Start.{CallsMain}
 use Rattle.headline.specs.Headline.{GoesOnSo, PutsOut}
 use Rattle.headline.specs.Whole.{ProgramIsExecuted}
 use Rattle.headline.proofs.Entered.{main_asked, main_flat, main_kept}
+use Rattle.rv_machine.proofs.PieceLaws.{joined}
+use Rattle.rv_machine.proofs.RunEnding.{came_to}
 
 -- ---- runs of the machine, one after another
-
-then_stops : (s t : State) (m n : ℕ) (r : Run) → Comes s m t → runs n t ≡ r → runs (m + n) s ≡ r
-then_stops s t m n r comes is = comes.comes n ∙ is
-
-goes : (s t : State) (m : ℕ) → Comes s m t → runs m s ≡ Going t
-unfolding runs
-goes s t m comes = let same : m ≡ m + 0 = omega arith in ap (λ n. runs n s) same ∙ comes.comes 0
 
 -- the machine stops so, with this output and in at most so many instructions
 record Stopping (s : State) (stop : Stop) (output : List ℕ) (most : ℕ) : Type 0 where
@@ -73,8 +68,8 @@ exit_after c p words s start q t k x f same is ret =
       steps = start.steps + (ret.steps + out.steps);
       last = out.last;
       stopped =
-          then_stops s start.called start.steps (ret.steps + out.steps) _ start.comes
-          (then_stops start.called ret.after ret.steps out.steps _ ret.comes out.stopped);
+          joined s start.called start.steps (ret.steps + out.steps) _ start.comes
+          (joined start.called ret.after ret.steps out.steps _ ret.comes out.stopped);
       output_is = out.output ∙ output_from start.called.output ret.after.output t.output q.output start.output ret.output (ap (λ y. y.output) same);
       few = within start.steps start.leaving ret.steps out.steps t q same start.price ret.price out.few;
     }
@@ -87,7 +82,7 @@ stop_in c p words s start q t stop same st =
       last = st.last;
       stopped =
           (let none : st.steps + 0 ≡ st.steps = omega arith in
-          then_stops s start.called start.steps (st.steps + 0) _ start.comes (ap (λ n. runs n start.called) none ∙ st.stopped));
+          joined s start.called start.steps (st.steps + 0) _ start.comes (ap (λ n. runs n start.called) none ∙ st.stopped));
       output_is = output_from start.called.output st.last.output t.output q.output start.output st.output (ap (λ y. y.output) same);
       few = within start.steps start.leaving st.steps 0 t q same start.price st.price (omega arith);
     }
@@ -101,8 +96,8 @@ going_in c p words s start q t same on =
       now = on.after;
       going =
           (let none : on.steps + 0 ≡ on.steps = omega arith in
-          then_stops s start.called start.steps (on.steps + 0) _ start.comes
-          (ap (λ n. runs n start.called) none ∙ goes start.called on.after on.steps on.comes));
+          joined s start.called start.steps (on.steps + 0) _ start.comes
+          (ap (λ n. runs n start.called) none ∙ came_to start.called on.after on.steps on.comes));
       output_is = output_from start.called.output on.after.output t.output q.output start.output on.output (ap (λ y. y.output) same);
       few = within start.steps start.leaving on.steps 0 t q same start.price on.price (omega arith);
       pace = omega arith;
@@ -114,7 +109,7 @@ put_out_by c p words s start q t x f same ret =
     record {
       steps = start.steps + ret.steps;
       now = ret.after;
-      going = then_stops s start.called start.steps ret.steps _ start.comes (goes start.called ret.after ret.steps ret.comes);
+      going = joined s start.called start.steps ret.steps _ start.comes (came_to start.called ret.after ret.steps ret.comes);
       output_is = output_from start.called.output ret.after.output t.output q.output start.output ret.output (ap (λ y. y.output) same);
     }
 

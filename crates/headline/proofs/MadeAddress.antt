@@ -20,7 +20,7 @@ use Rattle.rv_isa.proofs.StepLemmas.{step_at}
 use Rattle.rv_isa.proofs.RunLemmas.{comes_by_step, comes_then}
 use Rattle.rv_isa.proofs.MemoryLemmas.{updated_here, updated_elsewhere}
 use Rattle.rv_isa.proofs.RangeLemmas.{upper_value_fits, addiw_value_fits}
-use Rattle.asm_layout.proofs.Running.{AllAt, instr_at}
+use Rattle.asm_layout.proofs.Running.{AllAt, instr_at, put_fits}
 
 -- in 1 to `most` instructions the machine comes from s to the address `to`, with the value v in rd; all else stays
 pub record Gets (g : Ground) (most to : ℕ) (rd : Register) (v : ℕ) (s : State) : Type 0 where
@@ -35,13 +35,6 @@ pub record Gets (g : Ground) (most to : ℕ) (rd : Register) (v : ℕ) (s : Stat
   pub bytes : after.bytes ≡ s.bytes
   pub value : after.registers rd.number ≡ v
   pub registers : (n : ℕ) → n ≢ rd.number → after.registers n ≡ s.registers n
-
-put_fits : (registers : ℕ → ℕ) (r v n : ℕ) → v < 2 ^ 64 → ((m : ℕ) → registers m < 2 ^ 64) → updated registers r v n < 2 ^ 64
-put_fits registers r v n h rest = by_test (n == r)
-  where
-    by_test : (b : Bool) → (if b then v else registers n) < 2 ^ 64
-    by_test true = h
-    by_test false = rest n
 
 -- `lui` and `addiw` make it
 address_is : (n : ℕ) → n < 2 ^ 31 → addiw_value (sign_extended (upper_field n * 4096)) (lower_field n) ≡ n

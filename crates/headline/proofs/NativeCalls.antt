@@ -25,7 +25,8 @@ use Rattle.headline.specs.Knot.{Setting, KeepsCall}
 use Rattle.headline.specs.Natives.{known_byte, known_bytes, flat_answered, flat_put_out, flat_write, flat_exit, NativesPerform}
 use Rattle.headline.proofs.Answer.{grown_same}
 use Rattle.headline.proofs.Trivial.{undefined_kept, by_test}
-use Rattle.headline.proofs.Called.{suits_wanted, performs_wanted, same_classes_are}
+use Rattle.headline.proofs.Called.{suits_wanted, performs_wanted}
+use Rattle.il_ast.proofs.Alike.{same_classes_are}
 
 -- ---- bytes
 

@@ -23,7 +23,7 @@ use Rattle.rv_isa.specs.Laid.{WordsStand}
 use Rattle.rv_isa.specs.Words.{Words}
 use Rattle.rv_isa.proofs.StepLemmas.{step_at}
 use Rattle.rv_isa.proofs.RunLemmas.{comes_then, comes_by_step}
-use Rattle.asm_layout.proofs.Running.{instr_at}
+use Rattle.asm_layout.proofs.Running.{instr_at, put_fits}
 use Rattle.obj_link.specs.Image.{IsImage}
 use Rattle.obj_link.specs.Natives.{start_words, write_words, exit_words, write_address, exit_address}
 use Rattle.obj_link.specs.Placed.{callee_address, functions_words, addresses_of, contents_of}
@@ -38,6 +38,7 @@ use Rattle.headline.specs.Places.{setting_of}
 use Rattle.headline.specs.Natives.{known_byte, known_bytes, flat_answered, flat_put_out, flat_write, flat_exit}
 use Rattle.headline.specs.Executables.{places_of, PlacedNatives}
 use Rattle.headline.proofs.PlacedWords.{ground_of, words_stand}
+use Rattle.headline.proofs.StartMemory.{not_away}
 
 -- ---- the instructions
 
@@ -65,12 +66,6 @@ record Readable (g : Ground) (f : Spots) (s : State) (at n : ℕ) (bytes : List 
   each : each_of (λ a. (s.allows a).readable) at n ≡ true
   are : bytes_at s.bytes at n ≡ bytes
   below : at + n ≤ 2 ^ 64
-
-not_away : (s : Spot) (b : ℕ) → s ≡ ThisByte b → s ≢ NoAccess
-not_away s b h e = let no : ThisByte b ≡ NoAccess = sym h ∙ e in apart no
-  where
-    apart : ThisByte b ≡ NoAccess → ⊥
-    apart g = cc
 
 readable_from : (g : Ground) (f : Spots) (s : State) → Fixed g s → HoldsSpots g f s → (n at : ℕ) (bytes : List ℕ) → at ≤ 2 ^ 64 → known_bytes f at n ≡ Some bytes → Readable g f s at n bytes
 unfolding each_of bytes_at
@@ -113,23 +108,16 @@ answered s all n =
 abbrev went_back : State → List ℕ → ℕ → State
 went_back s all n = record (answered s all n) { pc = s.registers 1 }
 
-pub updated_fits : (f : ℕ → ℕ) (at v n : ℕ) → v < 2 ^ 64 → ((m : ℕ) → f m < 2 ^ 64) → updated f at v n < 2 ^ 64
-updated_fits f at v n h rest = by (n == at)
-  where
-    by : (b : Bool) → (if b then v else f n) < 2 ^ 64
-    by true = h
-    by false = rest n
-
 pub numbered_fixed : (g : Ground) (k : ℕ) (s : State) → k < 2 ^ 64 → Fixed g s → Fixed g (numbered k s)
 numbered_fixed g k s small f =
-    record { permissions = f.permissions; code_here = f.code_here; words = λ n. updated_fits s.registers 17 k n small f.words; small = f.small }
+    record { permissions = f.permissions; code_here = f.code_here; words = λ n. put_fits s.registers 17 k n small f.words; small = f.small }
 
 answered_fixed : (g : Ground) (s : State) (all : List ℕ) (n : ℕ) → n < 2 ^ 64 → Fixed g s → Fixed g (answered s all n)
 answered_fixed g s all n small f =
     record {
       permissions = f.permissions;
       code_here = f.code_here;
-      words = λ m. updated_fits (updated s.registers 17 64) 10 n m small (λ k. updated_fits s.registers 17 64 k (lit< tt) f.words);
+      words = λ m. put_fits (updated s.registers 17 64) 10 n m small (λ k. put_fits s.registers 17 64 k (lit< tt) f.words);
       small = f.small;
     }
 

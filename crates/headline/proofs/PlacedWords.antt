@@ -15,7 +15,7 @@ use Rattle.elf_file.specs.declared.flags.Flags.TheVariants.{Execute}
 use Rattle.elf_file.specs.Loaded.{Executable}
 use Rattle.elf_file.specs.Stands.{Stands}
 use Rattle.rv_machine.specs.Start.{Starts}
-use Rattle.headline.proofs.StartMemory.{get_behind, get_within}
+use Rattle.il_ast.proofs.Listed.{get_before, get_behind}
 
 -- ---- a number of 32 bits by its bytes
 
@@ -83,4 +83,4 @@ words_stand image x words s good stands starts pre mid post is =
     place k = omega arith
 
     found_in : (k w : ℕ) → slice_get mid k ≡ Some w → slice_get image.code (length pre + k) ≡ Some w
-    found_in k w found = ap (λ l. slice_get l (length pre + k)) is ∙ (get_behind pre (mid ++ post) k ∙ get_within mid post k w found)
+    found_in k w found = ap (λ l. slice_get l (length pre + k)) is ∙ (get_behind pre (mid ++ post) k ∙ get_before mid post k w found)

@@ -14,8 +14,9 @@ use Rattle.abi_frames.specs.Calls.{IsUsable}
 use Rattle.headline.specs.Knot.{IsSetting}
 use Rattle.headline.specs.Places.{Places, DataStands, word_places, first_word, start_places, setting_of, start_spots}
 use Rattle.headline.specs.Executable.{main_numbers, ExecutableRuns}
-use Rattle.headline.proofs.StartMemory.{objects_count, get_behind, start_shown, stack_clear}
+use Rattle.headline.proofs.StartMemory.{objects_count, start_shown, stack_clear}
 use Rattle.headline.proofs.Executed.{program_is_executed}
+use Rattle.il_ast.proofs.Listed.{get_behind}
 
 usable : (at : Places) (x : Executable) (words : List (List ℕ)) (s : State) → Starts x words s → (a : ℕ) → stack_bottom ≤ a → a < stack_top → IsUsable (setting_of at words s).world.memory_map a
 usable at x words s starts a low high =

@@ -29,7 +29,7 @@ use Rattle.rv_isa.specs.Words.{Words}
 use Rattle.rv_isa.proofs.StepLemmas.{step_at}
 use Rattle.rv_isa.proofs.MemoryLemmas.{each_from}
 use Rattle.rv_isa.proofs.RunLemmas.{comes_then, comes_by_step}
-use Rattle.asm_layout.proofs.Running.{instr_at}
+use Rattle.asm_layout.proofs.Running.{instr_at, put_fits}
 use Rattle.headline.proofs.MadeAddress.{Gets, address_gets}
 use Rattle.obj_link.specs.Image.{IsImage, code_start}
 use Rattle.obj_link.specs.Natives.{start_words, write_words, exit_words}
@@ -46,7 +46,8 @@ use Rattle.headline.specs.Start.{ExitsWith}
 use Rattle.headline.specs.Executable.{main_numbers, StartRuns}
 use Rattle.headline.specs.Executables.{places_of}
 use Rattle.headline.proofs.PlacedWords.{ground_of, words_stand}
-use Rattle.headline.proofs.NativeCode.{number_of_exit, numbered, numbered_fixed, updated_fits, even_is, ends, low_status, main_of, behind_start}
+use Rattle.headline.proofs.NativeCode.{number_of_exit, numbered, numbered_fixed, even_is, ends, low_status, main_of, behind_start}
+use Rattle.headline.proofs.StartMemory.{spot_byte}
 
 -- ---- the instructions
 
@@ -149,7 +150,7 @@ lists : (g : Ground) (s : State) (n : ℕ) → n < 2 ^ 64 → Fixed g s → s.pc
 lists g s n small fixed place top stand =
     let next : code_start + 4 ≡ (s.pc + 4) % 2 ^ 64 = ap (λ a. (a + 4) % 2 ^ 64) (sym place) in
     let mid : Fixed g (counted s n) =
-    record { permissions = fixed.permissions; code_here = fixed.code_here; words = λ m. updated_fits s.registers 10 n m small fixed.words; small = fixed.small } in
+    record { permissions = fixed.permissions; code_here = fixed.code_here; words = λ m. put_fits s.registers 10 n m small fixed.words; small = fixed.small } in
     step_at g (counted s n) take_list mid (subst (λ a. InstrAt g a take_list) next stand)
     ∙ ap (λ a. Ok (record s { pc = ((s.pc + 4) % 2 ^ 64 + 4) % 2 ^ 64; registers = updated (updated s.registers 10 n) 11 ((a + 8) % 2 ^ 64) })) top
 
@@ -158,7 +159,7 @@ listed_fixed g s n small fixed =
     record {
       permissions = fixed.permissions;
       code_here = fixed.code_here;
-      words = λ m. updated_fits (updated s.registers 10 n) 11 (stack_top + 8) m (lit< tt) (λ k. updated_fits s.registers 10 n k small fixed.words);
+      words = λ m. put_fits (updated s.registers 10 n) 11 (stack_top + 8) m (lit< tt) (λ k. put_fits s.registers 10 n k small fixed.words);
       small = fixed.small;
     }
 
@@ -202,7 +203,7 @@ calls g s main n fixed place top readable is few small aligned stand =
       state = in_main u main;
       comes = comes_then (comes_then (comes_then (comes_by_step s (counted s n) one) (comes_by_step (counted s n) s2 two)) gets.comes) (comes_by_step u (in_main u main) last);
       fixed =
-          record { permissions = gets.fixed.permissions; code_here = gets.fixed.code_here; words = λ m. updated_fits u.registers 1 (code_start + 20) m (lit< tt) gets.fixed.words; small = gets.fixed.small };
+          record { permissions = gets.fixed.permissions; code_here = gets.fixed.code_here; words = λ m. put_fits u.registers 1 (code_start + 20) m (lit< tt) gets.fixed.words; small = gets.fixed.small };
       place = refl;
       back = refl;
       top = gets.registers 2 (λ e. cc) ∙ top;
@@ -226,13 +227,6 @@ exits g main stand u n fixed place result =
     record { steps = 2; last = u1; few = lit≤ tt; stopped = ends u u1 (u.registers 10 % 256) (n % 256) first second (low_status n (u.registers 10) result); output = refl }
 
 -- ---- what `main` finds
-
-spot_known : (at : Places) (words : List (List ℕ)) (s : State) (a n : ℕ) → start_spots at words s a ≡ ThisByte n → s.bytes a ≡ n
-spot_known at words s a n h = by ((nat_le at.low a && nat_lt a at.high) || (nat_le stack_top a && nat_lt a (stack_top + length (argument_bytes words)))) h
-  where
-    by : (b : Bool) → (if b then ThisByte (s.bytes a) else NoAccess) ≡ ThisByte n → s.bytes a ≡ n
-    by true k = cc
-    by false k = cc
 
 abbrev InRange : Places → List (List ℕ) → ℕ → Type 0
 InRange at words a = ((at.low ≤ a) × (a < at.high)) ⊎ ((stack_top ≤ a) × (a < stack_top + length (argument_bytes words)))
@@ -330,7 +324,7 @@ start_runs p codes x words s good stands starts there few short is_main small al
             below_top = let some = few_classes params in omega (arith, some);
             memory =
                 record {
-                  known = λ a n h. ap (λ (f : ℕ → ℕ). f a) c.bytes ∙ spot_known at words s a n h;
+                  known = λ a n h. ap (λ (f : ℕ → ℕ). f a) c.bytes ∙ spot_byte at words s a n h;
                   usable = λ a some. usable_at p at x words s starts there few short a (range_of at words s a some);
                 };
           };

@@ -17,22 +17,10 @@ use Rattle.headline.specs.Places.{Places, CellStands, CellsStand, BlocksStand, D
 use Rattle.headline.proofs.LayersKeep.{shows_grown}
 use Rattle.headline.proofs.Blocks.{SpotsShow, spots_append, BlockShows, AllShow, all_append, AllApart, Between, apart_from, apart_append, shows_all}
 use Rattle.headline.proofs.StartBytes.{BytesKnown, known_split, plain_shown, words_shown, words_between, words_apart, StandFrom, pointers_shown}
+use Rattle.il_ast.proofs.Listed.{get_before, get_behind}
+use Rattle.rv_machine.proofs.Arguments.{pointers_length, arguments_length}
 
 -- ---- lists
-
-pub get_behind : {A : Type 0} (xs ys : List A) (j : ℕ) → slice_get (xs ++ ys) (length xs + j) ≡ slice_get ys j
-get_behind [] ys j = let same : 0 + j ≡ j = omega arith in ap (slice_get ys) same
-get_behind (x ∷ xs) ys j =
-    let same : suc (length xs) + j ≡ suc (length xs + j) = omega arith in
-    ap (slice_get (x ∷ (xs ++ ys))) same ∙ get_behind xs ys j
-
-pub get_within : {A : Type 0} (xs ys : List A) (b : ℕ) (a : A) → slice_get xs b ≡ Some a → slice_get (xs ++ ys) b ≡ Some a
-get_within [] ys b a h = absurd (nothing h)
-  where
-    nothing : None ≡ Some a → ⊥
-    nothing g = cc
-get_within (x ∷ xs) ys zero a h = h
-get_within (x ∷ xs) ys (suc b) a h = get_within xs ys b a h
 
 stand_by : (p : Bases) (ys zs : List ℕ) (k : ℕ) → ((j : ℕ) → p (k + j) ≡ slice_get (ys ++ zs) j) → StandFrom p k ys
 stand_by p [] zs k h = tt
@@ -48,7 +36,7 @@ record DataKnown (f : Spots) (byte : ℕ → Option ℕ) (low high : ℕ) : Type
   known : (a : ℕ) → low ≤ a → a < high → f a ≡ ThisByte (bytes a)
   same : (a b : ℕ) → byte a ≡ Some b → bytes a ≡ b
 
-not_away : (s : Spot) (n : ℕ) → s ≡ ThisByte n → s ≢ NoAccess
+pub not_away : (s : Spot) (n : ℕ) → s ≡ ThisByte n → s ≢ NoAccess
 not_away s n h e = apart (sym h ∙ e)
   where
     apart : ThisByte n ≡ NoAccess → ⊥
@@ -108,10 +96,6 @@ known_from f (b ∷ bs) at h =
       known_from f bs (at + 1) (λ k lt. let next : at + 1 + k ≡ at + suc k = omega arith in ap f next ∙ h (suc k) (omega arith)),
     )
 
-length_pointers : (at : ℕ) (ws : List (List ℕ)) → length (pointer_bytes at ws) ≡ 8 * length ws
-length_pointers at [] = refl
-length_pointers at (w ∷ ws) = let rest = length_pointers (at + length w + 1) ws in omega arith
-
 length_pointer_cells : (b n : ℕ) → length (pointers_from b n) ≡ 8 * n
 length_pointer_cells b zero = refl
 length_pointer_cells b (suc n) = let rest = length_pointer_cells (b + 1) n in omega arith
@@ -131,7 +115,7 @@ ranges f words h =
     let one = known_split f ((count ++ pointers) ++ replicate 32 0) (word_bytes words) stack_top h in
     let two = known_split f (count ++ pointers) (replicate 32 0) stack_top one.0 in
     let three = known_split f count pointers stack_top two.0 in
-    let size : length pointers ≡ 8 * length words = length_pointers first words in
+    let size : length pointers ≡ 8 * length words = pointers_length first words in
     let both : length (count ++ pointers) ≡ 8 + length pointers = length-append count pointers in
     let all : length ((count ++ pointers) ++ replicate 32 0) ≡ length (count ++ pointers) + 32 = length-append (count ++ pointers) (replicate 32 0) in
     let zeros = known_split f (replicate 8 0) (replicate 24 0) (stack_top + length (count ++ pointers)) two.1 in
@@ -176,19 +160,6 @@ pub objects_count : (p : Program) (at : Places) (x : Executable) → DataStands 
 objects_count p at x there =
     blocks_count at.entries (λ b. slice_get at.objects b) (byte_in x) at.high (object_cells p) p.objects at.low at.objects there.objects
 
-length_arguments : (words : List (List ℕ)) → length (argument_bytes words) ≡ 40 + 8 * length words + length (word_bytes words)
-unfolding argument_bytes
-length_arguments words =
-    let count = to_le_bytes w64 (length words) in
-    let pointers = pointer_bytes (first_word words) words in
-    let size : length pointers ≡ 8 * length words = length_pointers (first_word words) words in
-    let both : length (count ++ pointers) ≡ 8 + length pointers = length-append count pointers in
-    let all : length ((count ++ pointers) ++ replicate 32 0) ≡ length (count ++ pointers) + 32 = length-append (count ++ pointers) (replicate 32 0) in
-    let whole : length (((count ++ pointers) ++ replicate 32 0) ++ word_bytes words) ≡ length ((count ++ pointers) ++ replicate 32 0) + length (word_bytes words) =
-    length-append ((count ++ pointers) ++ replicate 32 0) (word_bytes words)
-    in
-    omega arith
-
 spot_in_data : (at : Places) (words : List (List ℕ)) (s : State) (a : ℕ) → at.low ≤ a → a < at.high → start_spots at words s a ≡ ThisByte (s.bytes a)
 spot_in_data at words s a low high =
     of_tests (nat_le at.low a && nat_lt a at.high) (nat_le stack_top a && nat_lt a (stack_top + length (argument_bytes words))) (grind (arith, nat_tests))
@@ -206,7 +177,7 @@ spot_in_arguments at words s a low high =
     of_tests false true h = refl
     of_tests false false h = cc
 
-spot_byte : (at : Places) (words : List (List ℕ)) (s : State) (x n : ℕ) → start_spots at words s x ≡ ThisByte n → s.bytes x ≡ n
+pub spot_byte : (at : Places) (words : List (List ℕ)) (s : State) (x n : ℕ) → start_spots at words s x ≡ ThisByte n → s.bytes x ≡ n
 spot_byte at words s x n h =
     of_test ((nat_le at.low x && nat_lt x at.high) || (nat_le stack_top x && nat_lt x (stack_top + length (argument_bytes words)))) h
   where
@@ -234,9 +205,9 @@ start_shown p at x words s starts there few short =
     let later = word_places (first_word words) words ++ (stack_top + 8) ∷ [] in
     let texts = map (λ (w : List ℕ). Some (word_cells w)) words in
     let list = list_cells (length p.objects) (length words) in
-    let size = length_arguments words in
+    let size = arguments_length words in
     let below = there.below in
-    let grown : Grown (λ b. slice_get at.objects b) q = λ b a h. get_within at.objects later b a h in
+    let grown : Grown (λ b. slice_get at.objects b) q = λ b a h. get_before at.objects later b a h in
     let known : DataKnown f (byte_in x) at.low at.high =
     record { bytes = s.bytes; known = λ a low high. spot_in_data at words s a low high; same = λ a b h. starts.bytes a b h }
     in

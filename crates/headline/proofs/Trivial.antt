@@ -1,5 +1,5 @@
 -- Calls that are kept because nothing is owed, or because nothing is done.
-use Rattle.std.proofs.Common.{◌≡◌, ℕ, Bool, true, false, List, [], ◌∷◌, ◌++◌, refl, ap, arith}
+use Rattle.std.proofs.Common.{sym, ◌≡◌, ℕ, Bool, true, false, refl, ap, arith}
 use Rattle.std.specs.Prelude.{if◌then◌else◌}
 use Rattle.il_ast.specs.declared.value.End.TheVariants.{Undefined, Stack, Turns}
 use Rattle.il_ast.specs.Run.{Spent, nothing, Outcome, Ended}
@@ -8,6 +8,7 @@ use Rattle.rv_isa.specs.Runs.{runs}
 use Rattle.flat_code.specs.Flat.{FlatEnded}
 use Rattle.headline.specs.Knot.{Setting, KeepsCall}
 use Rattle.headline.proofs.Answer.{grown_same}
+use Rattle.std.proofs.lemmas.List.{append-nil}
 
 pub undefined_kept : (c : Setting) (sp : ℕ) (i : Asked) (s : Spent) → KeepsCall c sp i (Ended s Undefined)
 undefined_kept c sp i s p j g shows good =
@@ -16,10 +17,6 @@ undefined_kept c sp i s p j g shows good =
 pub stack_kept : (c : Setting) (sp : ℕ) (i : Asked) (s : Spent) → KeepsCall c sp i (Ended s Stack)
 stack_kept c sp i s p j g shows good =
     record { placed = p; went = FlatEnded s Stack; grown = grown_same p; shows = (refl, refl); performs = λ u r. tt }
-
-append_nil : (xs : List ℕ) → xs ≡ xs ++ []
-append_nil [] = refl
-append_nil (x ∷ xs) = ap (λ ys. x ∷ ys) (append_nil xs)
 
 -- nothing is done yet
 pub nothing_kept : (c : Setting) (sp : ℕ) (i : Asked) → KeepsCall c sp i (Ended nothing Turns)
@@ -36,7 +33,7 @@ nothing_kept c sp i p j g shows good =
             comes = record { comes = λ k. ap (λ n. runs n u) (omega arith) };
             price = omega arith;
             pace = omega arith;
-            output = append_nil u.output;
+            output = sym (append-nil u.output);
           };
     }
 

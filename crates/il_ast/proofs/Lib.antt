@@ -5,3 +5,9 @@ pub mod Computed
 pub mod Simulated
 pub mod TurnsLogged
 pub mod Passing
+pub mod Truth
+pub mod Chosen
+pub mod Listed
+pub mod Alike
+pub mod Measured
+pub mod Wrapping

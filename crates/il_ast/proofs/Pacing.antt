@@ -1,5 +1,5 @@
 -- Which runs with fewer turns still go on: those below the turns that a return has taken, and those before a failure.
-use Rattle.std.proofs.Common.{◌≡◌, ◌⊎◌, inl, inr, ℕ, zero, suc, ◌+◌, ◌-◌, ◌<◌, ◌≤◌, Bool, true, false, List, [], ◌∷◌, ◌++◌, map, refl, sym, ◌∙◌, ap, subst, arith, cond}
+use Rattle.std.proofs.Common.{◌≡◌, ◌⊎◌, inl, inr, ℕ, zero, suc, ◌+◌, ◌-◌, ◌<◌, ◌≤◌, Bool, true, false, List, [], ◌∷◌, ◌++◌, map, refl, sym, ◌∙◌, ap, subst, arith, cond, append-nil}
 use Rattle.std.specs.Prelude.{nat_eq, nat_lt, slice_get, Option, Some, None}
 use Rattle.std.specs.Option.{option_and_then}
 use Rattle.il_ast.specs.declared.operand.Dest.{Dest}
@@ -66,10 +66,6 @@ EndsAt f t s Turns = s.turns ≡ t
 abbrev GoesSo : Paced → ℕ → Outcome → Type 0
 GoesSo f t (Returned s v m) = ReturnsAt f t s v m
 GoesSo f t (Ended s e) = EndsAt f t s e
-
-append_nil : (xs : List ℕ) → xs ++ [] ≡ xs
-append_nil [] = refl
-append_nil (x ∷ xs) = ap (λ ys. x ∷ ys) (append_nil xs)
 
 -- ---- before a turn
 
@@ -200,7 +196,7 @@ missing_result : (rest : Rest) (to : Dest) (a : Activation) (c : Paced) (t : ℕ
 missing_result rest to a c t s (inl p) = absurd p
 missing_result rest to a c t s (inr at) =
     let here = resumed_at rest (Some to) a c t s.output at in
-    inr (record { k = here.k; spent = here.spent; few = here.few; going = here.going; is = here.is ∙ sym (append_nil s.output) })
+    inr (record { k = here.k; spent = here.spent; few = here.few; going = here.going; is = here.is ∙ sym (append-nil s.output) })
 
 resume_goes_so : (rest : Rest) (t : ℕ) → RestGoesSo t rest → (to : Option Dest) (a : Activation) (c : Paced) (o : Outcome) → GoesSo c t o → GoesSo (λ u. resume rest u to a (c u)) t (resume rest t to a o)
 resume_goes_so rest t h None a c (Returned s v m) at =

@@ -1,5 +1,5 @@
 -- A code that takes each turn of a function's body keeps what the body means.
-use Rattle.std.proofs.Common.{◌≡◌, ℕ, zero, suc, ◌+◌, ◌-◌, ◌≤◌, List, [], ◌∷◌, ◌++◌, refl, sym, ◌∙◌, ap, subst, arith, Some, None}
+use Rattle.std.proofs.Common.{◌≡◌, ℕ, zero, suc, ◌+◌, ◌-◌, ◌≤◌, List, [], ◌∷◌, ◌++◌, refl, sym, ◌∙◌, ap, subst, arith, Some, None, append-nil, append_assoc}
 use Rattle.std.specs.Prelude.{Option}
 use Rattle.il_ast.specs.declared.operand.Dest.{Dest}
 use Rattle.il_ast.specs.declared.operation.Class.{Class}
@@ -16,14 +16,6 @@ use Rattle.il_ast.proofs.Simulated.{LoggedFrom, lead_back, call_back}
 
 -- ---- what was spent
 
-append_nil : (xs : List ℕ) → xs ++ [] ≡ xs
-append_nil [] = refl
-append_nil (x ∷ xs) = ap (λ ys. x ∷ ys) (append_nil xs)
-
-append_assoc : (xs ys zs : List ℕ) → (xs ++ ys) ++ zs ≡ xs ++ (ys ++ zs)
-append_assoc [] ys zs = refl
-append_assoc (x ∷ xs) ys zs = ap (λ ws. x ∷ ws) (append_assoc xs ys zs)
-
 spent_of : ℕ → ℕ → ℕ → List ℕ → Spent
 spent_of t w c o = record { turns = t; weight = w; calls = c; output = o }
 
@@ -35,7 +27,7 @@ same_spent t u w x c d o p h j k l =
 pub both_nothing : (s : Spent) → both s nothing ≡ s
 unfolding spent_of
 both_nothing s =
-    same_spent (s.turns + 0) s.turns (s.weight + 0) s.weight (s.calls + 0) s.calls (s.output ++ []) s.output (omega arith) (omega arith) (omega arith) (append_nil s.output)
+    same_spent (s.turns + 0) s.turns (s.weight + 0) s.weight (s.calls + 0) s.calls (s.output ++ []) s.output (omega arith) (omega arith) (omega arith) (append-nil s.output)
 
 pub nothing_both : (s : Spent) → both nothing s ≡ s
 unfolding spent_of

@@ -1,9 +1,8 @@
 -- Room that is measured up to the largest number of 64 bits.
-use Rattle.std.proofs.Common.{◌≡◌, ℕ, ◌-◌, ◌^◌, ◌<◌, ◌≤◌, false, nat_lt, arith}
+use Rattle.std.proofs.Common.{◌≡◌, ℕ, ◌-◌, ◌^◌, ◌<◌, ◌≤◌, arith}
 use Rattle.std.specs.Prelude.{Option, Some, None}
 use Rattle.std.specs.Option.{option_map}
-use Rattle.std.proofs.lemmas.Bool.Decides.{nat_tests}
-use Rattle.std.proofs.lemmas.Bool.{lt-ltb}
+use Rattle.std.proofs.lemmas.Bool.{lt-ltb, le-ltb}
 use Rattle.il_ast.specs.declared.function.Func.{Func}
 use Rattle.il_ast.specs.declared.program.InText.{InText}
 use Rattle.il_ast.specs.Cost.{need}
@@ -13,15 +12,12 @@ use Rattle.il_interp.specs.Room.{LeavesRoom}
 fits_below : (room n : ℕ) → room < 2 ^ 32 → capped n ≤ room → n ≤ room
 fits_below room n small le = omega (arith, le)
 
-less_false : (room n : ℕ) → n ≤ room → nat_lt room n ≡ false
-less_false room n le = grind (arith, nat_tests)
-
 pub enough : (o : Option (InText Func)) (room c left : ℕ) → room < 2 ^ 32 → Some c ≡ option_map (λ (f : InText Func). capped (need f.item)) o → c ≤ room → left ≡ room - c → LeavesRoom o room (Some left)
 enough None room c left small e le is = tt
 enough (Some f) room c left small e le is =
     let same : c ≡ capped (need f.item) = cc in
     let fits : need f.item ≤ room = fits_below room (need f.item) small (omega (arith, same)) in
-    (less_false room (need f.item) fits, omega (arith, same, fits))
+    (le-ltb room (need f.item) fits, omega (arith, same, fits))
 
 pub too_little : (o : Option (InText Func)) (room c : ℕ) → Some c ≡ option_map (λ (f : InText Func). capped (need f.item)) o → room < c → LeavesRoom o room None
 too_little None room c e lt = tt

@@ -1,8 +1,9 @@
 -- Lists: what is found one by one, and what stands in a mapped list.
-use Rattle.std.proofs.Common.{◌≡◌, ℕ, zero, suc, ◌+◌, ◌<◌, ◌≤◌, List, [], ◌∷◌, ◌++◌, length, map, drop, get_or, refl, ap, sym, ◌∙◌, arith, append_assoc}
+use Rattle.std.proofs.Common.{◌≡◌, ℕ, zero, suc, map, refl, ◌+◌, ◌<◌, ◌≤◌, List, [], ◌∷◌, ◌++◌, length, drop, get_or, ap, sym, ◌∙◌}
 use Rattle.std.specs.Prelude.{slice_get, Option, Some, None}
 use Rattle.std.specs.Option.{option_map, option_and_then}
-use Rattle.std.proofs.lemmas.List.{drop_more, append-nil}
+use Rattle.std.proofs.lemmas.List.{drop_more, drop_all}
+use Rattle.obj_link.proofs.TargetLemmas.{join, found_whole}
 
 pub mapped : {A B : Type 0} (f : A → B) (xs : List A) (i : ℕ) → slice_get (map f xs) i ≡ option_map f (slice_get xs i)
 mapped f [] i = refl
@@ -15,21 +16,10 @@ abbrev pub found_then : {A : Type 0} → List A → Option (List A) → Option (
 found_then found None = None
 found_then found (Some rest) = Some (found ++ rest)
 
-pub found_first : {A : Type 0} (o : Option (List A)) → o ≡ found_then [] o
-found_first None = refl
-found_first (Some rest) = refl
-
-pub found_whole : {A : Type 0} (found : List A) → found_then found (Some []) ≡ Some found
-found_whole found = ap Some (append-nil found)
-
 -- a function that finds a value for each element
 pub record FindsAll {X A : Type 0} (one : X → Option A) (all : List X → Option (List A)) : Type 0 where
   pub none : all [] ≡ Some []
   pub more : (x : X) (xs : List X) → all (x ∷ xs) ≡ option_and_then (λ v. option_map (λ vs. v ∷ vs) (all xs)) (one x)
-
-join : {A : Type 0} (found : List A) (x : A) (o : Option (List A)) → found_then found (option_map (λ rest. x ∷ rest) o) ≡ found_then (found ++ x ∷ []) o
-join found x None = refl
-join found x (Some rest) = ap Some (sym (append_assoc found (x ∷ []) rest))
 
 pub finds_next : {X A : Type 0} (one : X → Option A) (all : List X → Option (List A)) → FindsAll one all → (xs : List X) (i : ℕ) (x : X) (v : A) (found : List A) (whole : Option (List A)) → i < length xs → x ≡ get_or xs i x → one x ≡ Some v → whole ≡ found_then found (all (drop i xs)) → whole ≡ found_then (found ++ v ∷ []) (all (drop (i + 1) xs))
 finds_next one all h xs i x v found whole lt at hit inv =
@@ -44,12 +34,6 @@ finds_none one all h xs i x found whole lt at miss inv =
     ∙ (ap (λ ys. found_then found (all ys)) (drop_more xs i x lt ∙ ap (λ y. y ∷ drop (i + 1) xs) (sym at))
     ∙ ap (found_then found) (h.more x (drop (i + 1) xs) ∙ ap (option_and_then (λ y. option_map (λ ys. y ∷ ys) (all (drop (i + 1) xs)))) miss))
 
-all_dropped : {X : Type 0} (xs : List X) (i : ℕ) → length xs ≤ i → drop i xs ≡ []
-all_dropped [] zero le = refl
-all_dropped [] (suc i) le = refl
-all_dropped (x ∷ xs) zero le = absurd (omega arith)
-all_dropped (x ∷ xs) (suc i) le = all_dropped xs i (omega arith)
-
 pub finds_end : {X A : Type 0} (one : X → Option A) (all : List X → Option (List A)) → FindsAll one all → (xs : List X) (i : ℕ) (found : List A) (whole : Option (List A)) → length xs ≤ i → whole ≡ found_then found (all (drop i xs)) → whole ≡ Some found
 finds_end one all h xs i found whole le inv =
-    inv ∙ (ap (λ ys. found_then found (all ys)) (all_dropped xs i le) ∙ (ap (found_then found) h.none ∙ found_whole found))
+    inv ∙ (ap (λ ys. found_then found (all ys)) (drop_all i xs le) ∙ (ap (found_then found) h.none ∙ found_whole found))

@@ -8,9 +8,9 @@ use Rattle.il_ast.specs.declared.function.Func.{Func}
 use Rattle.il_ast.specs.declared.program.InText.{InText}
 use Rattle.il_ast.specs.Effect.{place_of}
 use Rattle.il_types.specs.LabelBlocks.{place_in}
-use Rattle.il_types.proofs.PlaceTable.{eq_zero_suc, eq_suc_zero, eq_suc_suc}
 use Rattle.obj_link.specs.Shown.{shown}
 use Rattle.il_interp.specs.Places.{placed, places_of}
+use Rattle.il_ast.proofs.Truth.{eq_zero_suc, eq_suc_zero, eq_suc_suc}
 
 get_push : {A : Type 0} (xs : List A) (x : A) (k : ℕ) → slice_get (xs ++ x ∷ []) k ≡ cond (nat_eq k (length xs)) (Some x) (slice_get xs k)
 get_push [] x zero = refl

@@ -1,5 +1,5 @@
 -- Instructions on integers, one further.
-use Rattle.std.proofs.Common.{◌≡◌, ℕ, zero, suc, ◌+◌, ◌-◌, ◌%◌, ◌^◌, ◌<◌, ◌≤◌, List, [], ◌∷◌, length, get_or, refl, ap, sym, ◌∙◌, arith}
+use Rattle.std.proofs.Common.{◌≡◌, ℕ, suc, ◌+◌, ◌-◌, ◌%◌, ◌^◌, ◌<◌, ◌≤◌, List, refl, ap, sym, ◌∙◌, arith}
 use Rattle.std.specs.Prelude.{slice_get, slice_set, Option, Some, None}
 use Rattle.std.specs.Option.{option_and_then}
 use Rattle.il_ast.specs.declared.operation.Class.{Class}
@@ -89,11 +89,6 @@ one_further insts old cur new next at x le hx d inv p f b st hf hb hi ht hn n =
 -- what changed nothing is left out
 pub the_same : (insts : List (Lined Inst)) (old cur new : List (Option Value)) (next at : ℕ) → new ≡ cur → GoesOn insts old next cur at → GoesOn insts old next new at
 the_same insts old cur new next at e inv p f b st hf hb hi ht hn n = inv p f b st hf hb hi ht hn n ∙ ap (λ ts. machine p n (further_on st at ts)) (sym e)
-
-pub read_at : {A : Type 0} (xs : List A) (i : ℕ) (d : A) → i < length xs → slice_get xs i ≡ Some (get_or xs i d)
-read_at [] i d lt = absurd (omega arith)
-read_at (y ∷ ys) zero d lt = refl
-read_at (y ∷ ys) (suc i) d lt = read_at ys i d (omega arith)
 
 -- ---- one turn
 

@@ -1,15 +1,10 @@
 -- The cells of a span, one after another.
-use Rattle.std.proofs.Common.{◌≡◌, ◌≢◌, ℕ, zero, suc, ◌+◌, ◌-◌, ◌<◌, ◌≤◌, List, [], ◌∷◌, ◌++◌, length, take, drop, refl, ap, ◌∙◌, arith}
+use Rattle.std.proofs.Common.{◌≡◌, ℕ, zero, suc, ◌+◌, ◌-◌, ◌<◌, ◌≤◌, List, [], ◌∷◌, ◌++◌, length, take, drop, refl, ap, ◌∙◌, arith}
 use Rattle.std.specs.Prelude.{slice_get, slice_set, Some}
 use Rattle.il_ast.specs.declared.value.Cell.{Cell}
 use Rattle.il_mem.specs.Written.{written}
-
--- what stands at k is the first of what is left from there
-pub drop_at : {A : Type 0} (s : List A) (k : ℕ) (x : A) → slice_get s k ≡ Some x → drop k s ≡ x ∷ drop (k + 1) s
-drop_at [] k x h = cc
-drop_at (y ∷ s) zero x h = cc
-drop_at (y ∷ s) (suc k) x h =
-    let e : suc k + 1 ≡ suc (k + 1) = omega arith in rw e (drop_at s k x h)
+use Rattle.il_ast.proofs.Listed.{length_take, drop_at}
+use Rattle.std.proofs.lemmas.List.{length-drop}
 
 pub get_take : {A : Type 0} (s : List A) (n k : ℕ) (x : A) → k < n → slice_get s k ≡ Some x → slice_get (take n s) k ≡ Some x
 get_take s zero k x lt h = absurd (omega arith)
@@ -30,19 +25,9 @@ get_span s from n k x lt h = get_take (drop from s) n k x lt (get_drop s from k 
 pub span_at : {A : Type 0} (s : List A) (from n k : ℕ) (x : A) → k < n → slice_get s (from + k) ≡ Some x → drop k (take n (drop from s)) ≡ x ∷ drop (k + 1) (take n (drop from s))
 span_at s from n k x lt h = drop_at (take n (drop from s)) k x (get_span s from n k x lt h)
 
-pub length_take : {A : Type 0} (n : ℕ) (s : List A) → n ≤ length s → length (take n s) ≡ n
-length_take zero s h = refl
-length_take (suc n) [] h = absurd (omega arith)
-length_take (suc n) (y ∷ s) h = ap suc (length_take n s (omega arith))
-
-pub length_drop : {A : Type 0} (n : ℕ) (s : List A) → length (drop n s) ≡ length s - n
-length_drop zero s = omega arith
-length_drop (suc n) [] = omega arith
-length_drop (suc n) (y ∷ s) = let h : length (drop n s) ≡ length s - n = length_drop n s in omega arith
-
 pub length_span : {A : Type 0} (s : List A) (from n : ℕ) → from + n ≤ length s → length (take n (drop from s)) ≡ n
 length_span s from n h =
-    let e : length (drop from s) ≡ length s - from = length_drop from s in
+    let e : length (drop from s) ≡ length s - from = length-drop from s in
     length_take n (drop from s) (omega arith)
 
 -- nothing is left past the end of a span
@@ -74,11 +59,3 @@ written_is (suc to) xs [] h = absurd (omega arith)
 written_is (suc to) xs (c ∷ cells) h =
     let e : suc to + length xs ≡ suc (to + length xs) = omega arith in
     rw e (written_later to xs c cells ∙ ap (λ ys. c ∷ ys) (written_is to xs cells (omega arith)))
-
--- another place stays
-pub get_other : {A : Type 0} (s : List A) (i j : ℕ) (x : A) → j ≢ i → slice_get (slice_set s i x) j ≡ slice_get s j
-get_other [] i j x ne = refl
-get_other (y ∷ s) zero zero x ne = absurd (ne refl)
-get_other (y ∷ s) zero (suc j) x ne = refl
-get_other (y ∷ s) (suc i) zero x ne = refl
-get_other (y ∷ s) (suc i) (suc j) x ne = get_other s i j x (omega arith)

@@ -7,7 +7,7 @@ use Rattle.il_ast.specs.declared.value.Cell.TheVariants.{Plain, Part}
 use Rattle.il_ast.specs.Values.{bytes_of}
 use Rattle.il_ast.specs.Memory.{parts}
 use Rattle.il_mem.specs.Written.{written}
-use Rattle.il_mem.proofs.Spans.{drop_at}
+use Rattle.il_ast.proofs.Listed.{drop_at}
 
 -- one cell more of s is written
 pub written_next : (to k : ℕ) (s cells new goal : List Cell) (x : Cell) → drop k s ≡ x ∷ drop (k + 1) s → new ≡ slice_set cells (to + k) x → written (to + k) (drop k s) cells ≡ goal → written (to + (k + 1)) (drop (k + 1) s) new ≡ goal

@@ -1,5 +1,5 @@
 -- One round of the loop that reads the lines of a block.
-use Rattle.std.proofs.Common.{◌≡◌, ℕ, suc, ◌+◌, ◌-◌, ◌<◌, Bool, true, false, cond, List, [], ◌∷◌, ◌++◌, Option, Some, None, refl, sym, ap, ◌∙◌, arith, append_assoc}
+use Rattle.std.proofs.Common.{◌≡◌, ℕ, ◌+◌, ◌-◌, ◌<◌, Bool, true, false, cond, List, [], ◌∷◌, ◌++◌, Option, Some, None, refl, sym, ap, ◌∙◌, append_assoc}
 use Rattle.std.specs.Prelude.{option_and_then}
 use Rattle.il_ast.specs.declared.block.Phi.{Phi}
 use Rattle.il_ast.specs.declared.instruction.Lined.{Lined}
@@ -11,6 +11,7 @@ use Rattle.il_reader.specs.Steps.{Step}
 use Rattle.il_reader.specs.Reading.{on_line}
 use Rattle.il_reader.specs.Blocks.{Lines, lines, statement, sees_statement, before_lines, with_phi, with_inst}
 use Rattle.il_reader.specs.Gives.{with_lines, with_line, one_line}
+use Rattle.il_reader.proofs.Rounds.{less_one}
 
 phi_before : (phis : List Phi) (insts : List (Lined Inst)) (p : Phi) (o : Option (Lines × State))
     → with_lines phis insts (option_and_then (with_phi p) o) ≡ with_lines (phis ++ p ∷ []) insts o
@@ -54,9 +55,6 @@ line_refused : (more : Bool → Step Lines) (begun : Bool) (phis : List Phi) (in
     → with_line begun phis insts o ≡ None → option_and_then (λ x. before_lines more begun x.0 x.1) o ≡ None
 line_refused more begun phis insts None e = refl
 line_refused more begun phis insts (Some x) e = refused more begun phis insts x.0 x.1 e
-
-less_one : (n i : ℕ) → i < n → n - i ≡ suc (n - (i + 1))
-less_one n i h = omega arith
 
 pub lines_more : (n i : ℕ) (begun : Bool) (phis : List Phi) (insts : List (Lined Inst)) (s : State) (new : (Lines × Bool) × State)
     → i < n → sees_statement s ≡ true → with_line begun phis insts (on_line statement s) ≡ Some new

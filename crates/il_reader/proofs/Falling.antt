@@ -1,5 +1,5 @@
 -- Blocks that are read one after another, where one without a jump goes to the next.
-use Rattle.std.proofs.Common.{◌≡◌, ℕ, suc, ◌+◌, ◌-◌, ◌<◌, length, true, cond, List, [], ◌∷◌, ◌++◌, Option, Some, None, refl, sym, ap, ◌∙◌, arith, append_assoc}
+use Rattle.std.proofs.Common.{◌≡◌, ℕ, suc, ◌+◌, ◌-◌, ◌<◌, length, true, cond, List, [], ◌∷◌, ◌++◌, Option, Some, None, refl, sym, ap, ◌∙◌, append_assoc}
 use Rattle.std.specs.Prelude.{option_and_then}
 use Rattle.std.proofs.lemmas.Option.{some_pair_parts}
 use Rattle.il_ast.specs.declared.block.Block.{Block}
@@ -10,9 +10,7 @@ use Rattle.il_reader.specs.Reading.{is_label}
 use Rattle.il_reader.specs.Blocks.{block}
 use Rattle.il_reader.specs.Definitions.{blocks}
 use Rattle.il_reader.specs.Gives.{fell, next_fallen, fallen, falling_blocks}
-
-less_one : (n i : ℕ) → i < n → n - i ≡ suc (n - (i + 1))
-less_one n i h = omega arith
+use Rattle.il_reader.proofs.Rounds.{less_one}
 
 abbrev put_before : Block → Option (List Block × State) → Option (List Block × State)
 put_before b o = option_and_then (λ (xs : List Block × State). Some (b ∷ xs.0, xs.1)) o

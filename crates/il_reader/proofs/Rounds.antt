@@ -7,7 +7,7 @@ use Rattle.il_reader.specs.State.{State}
 use Rattle.il_reader.specs.Steps.{Step, repeated, separated, commas}
 use Rattle.il_reader.specs.Gives.{appended, pushed, passed, some}
 
-less_one : (n i : ℕ) → i < n → n - i ≡ suc (n - (i + 1))
+pub less_one : (n i : ℕ) → i < n → n - i ≡ suc (n - (i + 1))
 less_one n i h = omega arith
 
 put_together : {A : Type 0} (xs : List A) (x : A) (o : Option (List A × State))

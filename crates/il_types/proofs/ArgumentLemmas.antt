@@ -1,5 +1,5 @@
 -- The arguments of phis: in a function that breaks no rule each label has one, and so any argument with the label is the one.
-use Rattle.std.proofs.Common.{◌≡◌, ℕ, zero, suc, ◌+◌, ◌<◌, ◌≤◌, Bool, true, false, not, cond, nat_eq, nat_lt, ◌&&◌, ◌||◌, List, [], ◌∷◌, length, get_or, refl, sym, ◌∙◌, ap, arith}
+use Rattle.std.proofs.Common.{◌≡◌, ℕ, zero, suc, ◌+◌, ◌≤◌, Bool, true, false, not, cond, nat_eq, nat_lt, ◌&&◌, ◌||◌, List, [], ◌∷◌, refl, sym, ◌∙◌, ap, arith}
 use Rattle.std.specs.Prelude.{slice_get, Option, Some, None}
 use Rattle.std.specs.List.{find, list_all}
 use Rattle.std.proofs.lemmas.List.Recursion.{is_count_by}
@@ -12,11 +12,7 @@ use Rattle.il_ast.specs.declared.function.Func.{Func}
 use Rattle.il_types.specs.First.{when, or_else, first}
 use Rattle.il_types.specs.Locals.{names_from, is_predecessor, jumps_to, covers, phi_sites, first_repeated, uncovered_in, uncovered_phi}
 use Rattle.il_types.specs.Arguments.{are_distinct, are_all_distinct}
-
-pub get_there : {A : Type 0} (xs : List A) (k : ℕ) (x : A) → k < length xs → x ≡ get_or xs k x → slice_get xs k ≡ Some x
-get_there [] k x lt at = absurd (omega arith)
-get_there (y ∷ xs) zero x lt at = ap Some (sym at)
-get_there (y ∷ xs) (suc k) x lt at = get_there xs k x (omega arith) at
+use Rattle.il_ast.proofs.Listed.{all_at}
 
 -- ---- one phi
 
@@ -59,11 +55,6 @@ found_there l (x ∷ args) (suc k) a one at here = by (λ h. found_there l args 
     by rest false e =
         let still : cond (nat_eq x.from l) (1 + names l args) (names l args) ≡ names l args = ap (λ b. cond b (1 + names l args) (names l args)) e in
         ap (λ b. cond b (Some x) (find (λ (y : PhiArg). nat_eq y.from l) args)) e ∙ rest (sym still ∙ one)
-
-pub all_at : {A : Type 0} (p : A → Bool) (xs : List A) (k : ℕ) (x : A) → list_all p xs ≡ true → slice_get xs k ≡ Some x → p x ≡ true
-all_at p [] k x h at = absurd (let no : ⊥ = cc in no)
-all_at p (y ∷ xs) zero x h at = let same : y ≡ x = cc in ap p (sym same) ∙ (and_parts (p y) (list_all p xs) h).0
-all_at p (y ∷ xs) (suc k) x h at = all_at p xs k x (and_parts (p y) (list_all p xs) h).1 at
 
 -- an argument with the label is the one that a search finds
 pub found_at : (args : List PhiArg) (k : ℕ) (a : PhiArg) (l : ℕ) → are_distinct args ≡ true → slice_get args k ≡ Some a → nat_eq a.from l ≡ true → find (λ (x : PhiArg). nat_eq x.from l) args ≡ Some a

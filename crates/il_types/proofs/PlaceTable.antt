@@ -9,6 +9,7 @@ use Rattle.std.proofs.lemmas.Bool.Decides.{nat_tests}
 use Rattle.il_ast.specs.declared.block.Block.{Block}
 use Rattle.il_ast.specs.Effect.{place_of}
 use Rattle.il_types.specs.LabelBlocks.{place_in}
+use Rattle.il_ast.proofs.Truth.{eq_zero_suc, eq_suc_zero, eq_suc_suc}
 
 -- ---- one table
 
@@ -17,21 +18,6 @@ place_past [] zero = refl
 place_past [] (suc l) = refl
 place_past (x ∷ table) zero = refl
 place_past (x ∷ table) (suc l) = place_past table l
-
-pub eq_zero_suc : (l : ℕ) → nat_eq 0 (suc l) ≡ false
-eq_zero_suc l = grind (arith, nat_tests)
-
-pub eq_suc_zero : (l : ℕ) → nat_eq (suc l) 0 ≡ false
-eq_suc_zero l = grind (arith, nat_tests)
-
-same_tests : (a b : Bool) → (a ≡ true → b ≡ true) → (b ≡ true → a ≡ true) → a ≡ b
-same_tests true true f g = refl
-same_tests true false f g = sym (f refl)
-same_tests false true f g = g refl
-same_tests false false f g = refl
-
-pub eq_suc_suc : (a b : ℕ) → nat_eq (suc a) (suc b) ≡ nat_eq a b
-eq_suc_suc a b = same_tests (nat_eq (suc a) (suc b)) (nat_eq a b) (λ h. grind (arith, nat_tests)) (λ h. grind (arith, nat_tests))
 
 place_set : (table : List (Option ℕ)) (at l n : ℕ) → at < length table → place_in (slice_set table at (Some n)) l ≡ cond (nat_eq at l) (Some n) (place_in table l)
 place_set [] at l n lt = absurd (omega arith)

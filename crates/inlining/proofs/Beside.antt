@@ -13,6 +13,7 @@ use Rattle.vcode.specs.Step.{State, step}
 use Rattle.vcode.specs.InPlace.{IsCheaper, GoesSo, HasRoom, RunsAs}
 use Rattle.inlining.specs.InPlace.{Site, IsSite, in_place}
 use Rattle.inlining.specs.Candidates.{IsCandidateOf}
+use Rattle.std.proofs.lemmas.List.{append_assoc, append-nil}
 
 -- ---- what is given
 
@@ -100,20 +101,12 @@ cheaper_both a b x y g h =
       output = ap (λ ks. ks ++ x.output) g.output ∙ ap (λ ks. b.output ++ ks) h.output;
     }
 
-appended : (xs ys zs : List ℕ) → (xs ++ ys) ++ zs ≡ xs ++ (ys ++ zs)
-appended [] ys zs = refl
-appended (x ∷ xs) ys zs = ap (λ ks. x ∷ ks) (appended xs ys zs)
-
 pub cheaper_turned : (a b x : Spent) → IsCheaper (both (both a b) x) (both a (both b x))
 cheaper_turned a b x =
-    record { turns = omega arith; weight = omega arith; calls = omega arith; output = appended a.output b.output x.output }
-
-nothing_more : (xs : List ℕ) → xs ≡ xs ++ []
-nothing_more [] = refl
-nothing_more (x ∷ xs) = ap (λ ks. x ∷ ks) (nothing_more xs)
+    record { turns = omega arith; weight = omega arith; calls = omega arith; output = append_assoc a.output b.output x.output }
 
 pub cheaper_alone : (a : Spent) → IsCheaper a (both a nothing)
-cheaper_alone a = record { turns = omega arith; weight = omega arith; calls = omega arith; output = nothing_more a.output }
+cheaper_alone a = record { turns = omega arith; weight = omega arith; calls = omega arith; output = sym (append-nil a.output) }
 
 -- a call that isn't entered
 pub cheaper_unentered : (a : Spent) → IsCheaper a (both one_call a)

@@ -22,12 +22,12 @@ use Rattle.vcode.specs.Step.{State, begin, weighs, goes_on, step}
 use Rattle.vcode.specs.Writes.{line_writes}
 use Rattle.vcode.specs.Acts.{Act, Fails, Spends, Gives, Leaves, Makes, Asks, given, left, act, written, Way, Lost, Enters, Answers, Halts, way}
 use Rattle.vcode.specs.InPlace.{HasRoom}
-use Rattle.vcode.proofs.Lists.{all_at}
 use Rattle.vcode.proofs.Acting.{perform, lead, received, resumed}
 use Rattle.vcode.proofs.Rewriting.{Left, at_start, behind_it, line_is, jump_is}
 use Rattle.vcode.proofs.Stepping.{step_nowhere}
 use Rattle.inlining.specs.Candidates.{begins_turn, is_calm, calm_behind, is_candidate, AllLater}
 use Rattle.inlining.proofs.Turns.{IsTurn, turn_act, Begun, begun_further, ended_room}
+use Rattle.il_ast.proofs.Listed.{all_at}
 
 -- ---- lines that may call
 

@@ -2,7 +2,7 @@
 use Rattle.std.proofs.Common.{◌≡◌, ℕ, ◌+◌, ◌<◌, ◌≤◌, Bool, true, false, ◌&&◌, nat_lt, List, [], ◌∷◌, map, Option, Some, None, refl, arith}
 use Rattle.std.specs.List.{list_all, sum_by}
 use Rattle.std.specs.Option.{option_map}
-use Rattle.std.proofs.lemmas.Bool.{and_parts, and_from}
+use Rattle.std.proofs.lemmas.Bool.{and_parts, and_from, ltb-true, lt-ltb}
 use Rattle.std.proofs.lemmas.Bool.Decides.{nat_tests}
 use Rattle.std.proofs.lemmas.List.Sums.{sum_by-cons}
 use Rattle.il_ast.specs.declared.operation.Class.{Class}
@@ -23,7 +23,8 @@ use Rattle.vcode.specs.Regular.{leads_inside, is_target, is_alloc, alloc_bytes, 
 use Rattle.vcode.specs.Replaced.{with_argument}
 use Rattle.inlining.specs.Moved.{moved, moved_destination, moved_line, moved_jump}
 use Rattle.inlining.specs.InPlace.{brought, arguments_brought, result_brought, candidate_block}
-use Rattle.inlining.proofs.Listing.{all_both, all_changed, all_weaker}
+use Rattle.inlining.proofs.Listing.{all_changed, all_weaker}
+use Rattle.il_ast.proofs.Listed.{all_append}
 
 -- ---- registers
 
@@ -217,7 +218,7 @@ candidate_named base n first behind k to b h known =
     let s = and_parts (list_all (line_keeps (is_below n)) b.lines) (jump_keeps (is_below n) b.jump) known in
     let d : Block ℕ = candidate_block first behind base k to b in
     and_from (list_all (line_keeps (is_below (base + n))) d.lines) (jump_keeps (is_below (base + n)) d.jump)
-    (all_both (line_keeps (is_below (base + n))) (map (moved_line base) b.lines) (result_brought base k to b.jump)
+    (all_append (line_keeps (is_below (base + n))) (map (moved_line base) b.lines) (result_brought base k to b.jump)
     (all_changed (line_keeps (is_below n)) (line_keeps (is_below (base + n))) (moved_line base) (line_moved n base) b.lines s.0) (result_named base n k to b.jump h s.1))
     (jump_moved n base first behind b.jump s.1)
 
@@ -235,19 +236,13 @@ inside_more n m le (Branch on met otherwise) h =
 inside_more n m le (Return a) h = refl
 inside_more n m le Halt h = refl
 
-is_less : (a b : ℕ) → a < b → nat_lt a b ≡ true
-is_less a b h = grind (arith, nat_tests)
-
-less_is : (a b : ℕ) → nat_lt a b ≡ true → a < b
-less_is a b h = grind (arith, nat_tests)
-
 pub target_at : (m k : ℕ) → 0 < k → k < m → is_target m k ≡ true
-target_at m k h g = and_from (nat_lt 0 k) (nat_lt k m) (is_less 0 k h) (is_less k m g)
+target_at m k h g = and_from (nat_lt 0 k) (nat_lt k m) (lt-ltb 0 k h) (lt-ltb k m g)
 
 target_moved : (n behind k : ℕ) → is_target n k ≡ true → is_target (behind + (1 + n)) (k + (behind + 1)) ≡ true
 target_moved n behind k h =
     let s = and_parts (nat_lt 0 k) (nat_lt k n) h in
-    let low = less_is k n s.1 in
+    let low = ltb-true k n s.1 in
     target_at (behind + (1 + n)) (k + (behind + 1)) (omega arith) (omega (arith, low))
 
 pub inside_moved : (n behind base : ℕ) (j : Jump ℕ) → 0 < behind → leads_inside n j ≡ true → leads_inside (behind + (1 + n)) (moved_jump (behind + 1) behind base j) ≡ true

@@ -3,7 +3,6 @@ use Rattle.std.proofs.Common.{◌≡◌, ℕ, zero, suc, ◌+◌, ◌<◌, ◌�
 use Rattle.std.specs.Prelude.{slice_set}
 use Rattle.std.specs.List.{list_all, list_any, sum_by}
 use Rattle.std.proofs.lemmas.Bool.{and_parts, and_from}
-use Rattle.std.proofs.lemmas.Bool.Decides.{nat_tests}
 use Rattle.std.proofs.lemmas.List.Sums.{sum_by-cons, sum_by-append}
 use Rattle.il_ast.specs.declared.operation.Class.{Class}
 use Rattle.il_ast.specs.declared.limits.TheConstants.{ARGUMENTS, FUNCTION_WEIGHT, ALLOC_BYTES}
@@ -30,8 +29,11 @@ use Rattle.inlining.specs.Placed.{Candidates, Grows, AsItWas, OneMore}
 use Rattle.inlining.specs.Growth.{Answers, StandsAt, IsCut, IsGrowth}
 use Rattle.vcode.proofs.Replacing.{args_count}
 use Rattle.inlining.proofs.Calm.{makes_none, candidate_makes_none}
-use Rattle.inlining.proofs.Listing.{all_at, all_both, all_taken, all_left, all_set, all_changed, all_weaker, sum_at, sum_set, sum_changed, length_both, length_set, length_changed, low_at, none_all, all_none, no_any}
+use Rattle.inlining.proofs.Listing.{all_taken, all_left, all_set, all_changed, all_weaker, sum_at, sum_set, sum_changed, length_both, length_changed, none_all, all_none, no_any}
 use Rattle.inlining.proofs.Fitting.{IsPlain, arguments_plain, result_plain, plain_sum, plain_all, arguments_named, candidate_named, block_weaker, below_more, inside_more, inside_moved, target_at}
+use Rattle.il_ast.proofs.Listed.{all_at, length_slice_set, all_append}
+use Rattle.std.proofs.lemmas.Option.{slice_get_within}
+use Rattle.vcode.proofs.Measuring.{still_within}
 
 -- ---- sums over lines
 
@@ -183,7 +185,7 @@ all_in_place p blocks candidate base k j s old up rest more =
     let cut : Block ℕ = up_to_call first base j candidate.params s in
     let left : Block ℕ = behind_call j s in
     let others : List (Block ℕ) = map (candidate_block first behind base candidate.result s.to) candidate.blocks in
-    all_both p (slice_set blocks k cut) (left ∷ others) (all_set p blocks k cut old up) (and_from (p left) (list_all p others) rest more)
+    all_append p (slice_set blocks k cut) (left ∷ others) (all_set p blocks k cut old up) (and_from (p left) (list_all p others) rest more)
 
 -- makes no block of memory
 abbrev is_plain : Block ℕ → Bool
@@ -198,14 +200,14 @@ lines_plain lines h = none_all is_alloc lines (no_any is_alloc lines h)
 up_to_plain : (first base j : ℕ) (params : List (Destination ℕ)) (s : Site) → is_plain s.block ≡ true → is_plain (up_to_call first base j params s) ≡ true
 up_to_plain first base j params s h =
     plain_lines (take j s.block.lines ++ arguments_brought base params s.args)
-    (all_both (λ (l : Line ℕ). not (is_alloc l)) (take j s.block.lines) (arguments_brought base params s.args)
+    (all_append (λ (l : Line ℕ). not (is_alloc l)) (take j s.block.lines) (arguments_brought base params s.args)
     (all_taken (λ (l : Line ℕ). not (is_alloc l)) j s.block.lines (lines_plain s.block.lines h))
     (plain_all (λ (l : Line ℕ). not (is_alloc l)) (λ l p. ap not p.makes) (arguments_brought base params s.args) (arguments_plain base params s.args)))
 
 candidate_plain : (first behind base : ℕ) (k : Option Class) (to : Option (Destination ℕ)) (b : Block ℕ) → list_all makes_none b.lines ≡ true → is_plain (candidate_block first behind base k to b) ≡ true
 candidate_plain first behind base k to b h =
     plain_lines (map (moved_line base) b.lines ++ result_brought base k to b.jump)
-    (all_both (λ (l : Line ℕ). not (is_alloc l)) (map (moved_line base) b.lines) (result_brought base k to b.jump)
+    (all_append (λ (l : Line ℕ). not (is_alloc l)) (map (moved_line base) b.lines) (result_brought base k to b.jump)
     (all_changed makes_none (λ (l : Line ℕ). not (is_alloc l)) (moved_line base) (none_moved base) b.lines h)
     (plain_all (λ (l : Line ℕ). not (is_alloc l)) (λ l p. ap not p.makes) (result_brought base k to b.jump) (result_plain base k to b.jump)))
 
@@ -213,23 +215,20 @@ candidate_plain first behind base k to b h =
 first_in_place : (old new more : List (Block ℕ)) (k : ℕ) (b up : Block ℕ) → slice_get old k ≡ Some b → new ≡ slice_set old k up ++ more → (is_plain b ≡ true → is_plain up ≡ true)
     → list_all is_plain more ≡ true → allocs_first old ≡ true → allocs_first new ≡ true
 first_in_place [] new more k b up at is stays rest h = absurd (let no : ⊥ = cc in no)
-first_in_place (c ∷ cs) new more zero b up at is stays rest h = ap (λ (bs : List (Block ℕ)). allocs_first bs) is ∙ all_both is_plain cs more h rest
+first_in_place (c ∷ cs) new more zero b up at is stays rest h = ap (λ (bs : List (Block ℕ)). allocs_first bs) is ∙ all_append is_plain cs more h rest
 first_in_place (c ∷ cs) new more (suc k) b up at is stays rest h =
-    ap (λ (bs : List (Block ℕ)). allocs_first bs) is ∙ all_both is_plain (slice_set cs k up) more (all_set is_plain cs k up h (stays (all_at is_plain cs k b h at))) rest
+    ap (λ (bs : List (Block ℕ)). allocs_first bs) is ∙ all_append is_plain (slice_set cs k up) more (all_set is_plain cs k up h (stays (all_at is_plain cs k b h at))) rest
 
 few_up_to : (first base j : ℕ) (params : List (Destination ℕ)) (s : Site) → list_all passes_few s.block.lines ≡ true → list_all passes_few (take j s.block.lines ++ arguments_brought base params s.args) ≡ true
 few_up_to first base j params s h =
-    all_both passes_few (take j s.block.lines) (arguments_brought base params s.args) (all_taken passes_few j s.block.lines h)
+    all_append passes_few (take j s.block.lines) (arguments_brought base params s.args) (all_taken passes_few j s.block.lines h)
     (plain_all passes_few (λ l p. p.few) (arguments_brought base params s.args) (arguments_plain base params s.args))
 
 few_candidate : (first behind base : ℕ) (k : Option Class) (to : Option (Destination ℕ)) (b : Block ℕ) → list_all passes_few b.lines ≡ true
     → list_all passes_few (candidate_block first behind base k to b).lines ≡ true
 few_candidate first behind base k to b h =
-    all_both passes_few (map (moved_line base) b.lines) (result_brought base k to b.jump) (all_changed passes_few passes_few (moved_line base) (few_moved base) b.lines h)
+    all_append passes_few (map (moved_line base) b.lines) (result_brought base k to b.jump) (all_changed passes_few passes_few (moved_line base) (few_moved base) b.lines h)
     (plain_all passes_few (λ l p. p.few) (result_brought base k to b.jump) (result_plain base k to b.jump))
-
-still_few : (less n most : ℕ) → less ≤ n → nat_le n most ≡ true → nat_le less most ≡ true
-still_few less n most le h = grind (arith, nat_tests)
 
 -- ---- the whole
 
@@ -240,7 +239,7 @@ count_in_place blocks candidate base k j s =
     let rest : Block ℕ = behind_call j s in
     let more : List (Block ℕ) = map (candidate_block (behind + 1) behind base candidate.result s.to) candidate.blocks in
     let both = length_both (slice_set blocks k up) (rest ∷ more) in
-    let own = length_set blocks k up in
+    let own = length_slice_set blocks k up in
     let others = length_changed (candidate_block (behind + 1) behind base candidate.result s.to) candidate.blocks in
     omega (arith, both, own, others)
 
@@ -251,7 +250,7 @@ inside_in_place blocks candidate base k j s at begins own other =
     let behind = length blocks in
     let n = length candidate.blocks in
     let m = behind + (1 + n) in
-    let low = low_at blocks k s.block at in
+    let low = slice_get_within blocks k s.block at in
     let old : list_all (λ (b : Block ℕ). leads_inside m b.jump) blocks ≡ true =
     all_weaker (λ (b : Block ℕ). leads_inside behind b.jump) (λ (b : Block ℕ). leads_inside m b.jump) (λ b h. inside_more behind m (omega arith) b.jump h) blocks own in
     ap (λ x. list_all (λ (b : Block ℕ). leads_inside x b.jump) (blocks_in_place blocks candidate base k j s)) (count_in_place blocks candidate base k j s)
@@ -271,11 +270,11 @@ paced_in_place blocks candidate base k j s at call own other =
     let parts = parts_take turns_of turns first base j candidate.params s call in
     let here = all_at (λ (b : Block ℕ). nat_le (sum_by turns_of b.lines) FUNCTION_WEIGHT) blocks k s.block own at in
     all_in_place (λ (b : Block ℕ). nat_le (sum_by turns_of b.lines) FUNCTION_WEIGHT) blocks candidate base k j s own
-    (still_few (in_block turns_of up) (in_block turns_of s.block) FUNCTION_WEIGHT (omega (arith, parts)) here)
-    (still_few (in_block turns_of rest) (in_block turns_of s.block) FUNCTION_WEIGHT (omega (arith, parts)) here)
+    (still_within (in_block turns_of up) (in_block turns_of s.block) FUNCTION_WEIGHT (omega (arith, parts)) here)
+    (still_within (in_block turns_of rest) (in_block turns_of s.block) FUNCTION_WEIGHT (omega (arith, parts)) here)
     (all_changed (λ (b : Block ℕ). nat_le (sum_by turns_of b.lines) FUNCTION_WEIGHT) (λ (b : Block ℕ). nat_le (sum_by turns_of b.lines) FUNCTION_WEIGHT)
     (candidate_block first behind base candidate.result s.to)
-    (λ b h. let same = candidate_takes turns_of turns first behind base candidate.result s.to b in still_few (in_block turns_of (candidate_block first behind base candidate.result s.to b)) (in_block turns_of b) FUNCTION_WEIGHT (omega (arith, same)) h)
+    (λ b h. let same = candidate_takes turns_of turns first behind base candidate.result s.to b in still_within (in_block turns_of (candidate_block first behind base candidate.result s.to b)) (in_block turns_of b) FUNCTION_WEIGHT (omega (arith, same)) h)
     candidate.blocks other)
 
 few_in_place : (blocks : List (Block ℕ)) (candidate : Code ℕ) (base k j : ℕ) (s : Site) → slice_get blocks k ≡ Some s.block → list_all (λ (b : Block ℕ). list_all passes_few b.lines) blocks ≡ true
@@ -312,7 +311,7 @@ known_in_place blocks candidate base n k j s at call own params other =
     let named = named_at p j s call here.0 in
     all_in_place (block_keeps p) blocks candidate base k j s old
     (and_from (list_all (line_keeps p) (take j s.block.lines ++ arguments_brought base candidate.params s.args)) true
-    (all_both (line_keeps p) (take j s.block.lines) (arguments_brought base candidate.params s.args) (all_taken (line_keeps p) j s.block.lines here.0)
+    (all_append (line_keeps p) (take j s.block.lines) (arguments_brought base candidate.params s.args) (all_taken (line_keeps p) j s.block.lines here.0)
     (arguments_named base n candidate.params s.args params named.args))
     refl)
     (and_from (list_all (line_keeps p) (drop (j + 1) s.block.lines)) (jump_keeps p s.block.jump) (all_left (line_keeps p) (j + 1) s.block.lines here.0) here.1)
@@ -347,7 +346,7 @@ regular_in_place w candidate base k j s at stands answers good paid =
       few_params = good.few_params;
       inside = inside_in_place w.blocks f base k j s at answers.begins good.inside other.inside;
       first = plain_in_place w.blocks f base k j s at stands answers.calm good.first;
-      small = still_few (area (with_these w (blocks_in_place w.blocks f base k j s))) (area w) ALLOC_BYTES (small_in_place w.blocks f base k j s at stands answers.calm) good.small;
+      small = still_within (area (with_these w (blocks_in_place w.blocks f base k j s))) (area w) ALLOC_BYTES (small_in_place w.blocks f base k j s at stands answers.calm) good.small;
       paid = paid;
       paced = paced_in_place w.blocks f base k j s at stands.call good.paced other.paced;
       few_args = few_in_place w.blocks f base k j s at good.few_args other.few_args;
@@ -377,7 +376,7 @@ grown candidates v g h k b c before there cut blocks room =
     let named = and_parts (list_all (λ (d : Destination ℕ). is_below base d.place) v.code.params) (list_all (block_keeps (is_below base)) bs) before.known in
     let other = and_parts (list_all (λ (d : Destination ℕ). is_below candidate.registers d.place) f.params) (list_all (block_keeps (is_below candidate.registers)) f.blocks) candidate.known in
     let paid : list_all is_paid new ≡ true =
-    all_both is_paid (slice_set bs k up) (rest ∷ more) (all_set is_paid bs k up before.regular.paid (ap is_paid (sym made.up_to) ∙ made.paid))
+    all_append is_paid (slice_set bs k up) (rest ∷ more) (all_set is_paid bs k up before.regular.paid (ap is_paid (sym made.up_to) ∙ made.paid))
     (ap (λ (ds : List (Block ℕ)). list_all is_paid ds) (sym made.behind) ∙ made.all_paid) in
     let site : IsSite w f base k j s =
     record { block = at; call = cut.stands.call; turn = cut.stands.turn; classes = cut.answers.classes; result = cut.answers.result; known = before.known; calm = cut.answers.calm } in

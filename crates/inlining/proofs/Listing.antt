@@ -1,26 +1,17 @@
 -- What parts of a list, and a list with another item, pass and sum up to.
-use Rattle.std.proofs.Common.{◌≡◌, ℕ, zero, suc, ◌+◌, ◌<◌, ◌≤◌, Bool, true, false, not, ◌||◌, List, [], ◌∷◌, ◌++◌, map, length, get_or, slice_get, take, drop, Some, refl, sym, ◌∙◌, ap, arith}
+use Rattle.std.proofs.Common.{◌≡◌, ℕ, zero, suc, ◌+◌, ◌<◌, ◌≤◌, Bool, true, false, not, ◌||◌, List, [], ◌∷◌, ◌++◌, map, length, get_or, slice_get, take, drop, Some, refl, ◌∙◌, ap, arith}
 use Rattle.std.specs.Prelude.{slice_set}
 use Rattle.std.specs.List.{list_all, list_any, sum_by}
-use Rattle.std.proofs.lemmas.Bool.{and_parts, and_from}
-use Rattle.std.proofs.lemmas.List.Folds.{list_all-append}
+use Rattle.std.proofs.lemmas.Bool.{and_parts, and_from, not-true}
 use Rattle.std.proofs.lemmas.List.Sums.{sum_by-cons}
 
 -- ---- that all pass
-
-pub all_at : {X : Type 0} (p : X → Bool) (xs : List X) (n : ℕ) (x : X) → list_all p xs ≡ true → slice_get xs n ≡ Some x → p x ≡ true
-all_at p [] n x all at = absurd (let no : ⊥ = cc in no)
-all_at p (y ∷ ys) zero x all at = let same : y ≡ x = cc in ap p (sym same) ∙ (and_parts (p y) (list_all p ys) all).0
-all_at p (y ∷ ys) (suc n) x all at = all_at p ys n x (and_parts (p y) (list_all p ys) all).1 at
 
 -- an item of a walk
 pub all_item : {X : Type 0} (p : X → Bool) (xs : List X) (i : ℕ) (x : X) → list_all p xs ≡ true → i < length xs → x ≡ get_or xs i x → p x ≡ true
 all_item p [] i x all low is = absurd (omega arith)
 all_item p (y ∷ ys) zero x all low is = ap p is ∙ (and_parts (p y) (list_all p ys) all).0
 all_item p (y ∷ ys) (suc i) x all low is = all_item p ys i x (and_parts (p y) (list_all p ys) all).1 (omega arith) is
-
-pub all_both : {X : Type 0} (p : X → Bool) (xs ys : List X) → list_all p xs ≡ true → list_all p ys ≡ true → list_all p (xs ++ ys) ≡ true
-all_both p xs ys a b = list_all-append p xs ys ∙ and_from (list_all p xs) (list_all p ys) a b
 
 pub all_taken : {X : Type 0} (p : X → Bool) (n : ℕ) (xs : List X) → list_all p xs ≡ true → list_all p (take n xs) ≡ true
 all_taken p zero [] all = refl
@@ -99,25 +90,11 @@ pub length_both : {X : Type 0} (xs ys : List X) → length (xs ++ ys) ≡ length
 length_both [] ys = let e : length ys ≡ 0 + length ys = omega arith in e
 length_both (x ∷ xs) ys = let on = length_both xs ys in omega (arith, on)
 
-pub length_set : {X : Type 0} (xs : List X) (n : ℕ) (x : X) → length (slice_set xs n x) ≡ length xs
-length_set [] n x = refl
-length_set (y ∷ ys) zero x = refl
-length_set (y ∷ ys) (suc n) x = ap suc (length_set ys n x)
-
 pub length_changed : {X Y : Type 0} (h : Y → X) (ys : List Y) → length (map h ys) ≡ length ys
 length_changed h [] = refl
 length_changed h (y ∷ ys) = ap suc (length_changed h ys)
 
-pub low_at : {X : Type 0} (xs : List X) (n : ℕ) (x : X) → slice_get xs n ≡ Some x → n < length xs
-low_at [] n x at = absurd (let no : ⊥ = cc in no)
-low_at (y ∷ ys) zero x at = omega arith
-low_at (y ∷ ys) (suc n) x at = let on = low_at ys n x at in omega (arith, on)
-
 -- ---- that none passes
-
-not_is : (b : Bool) → not b ≡ true → b ≡ false
-not_is true h = absurd (let no : ⊥ = cc in no)
-not_is false h = refl
 
 none_here : {X : Type 0} (p : X → Bool) (x : X) (xs : List X) → (b : Bool) → p x ≡ b → (b || list_any p xs) ≡ false → (p x ≡ false) × (list_any p xs ≡ false)
 none_here p x xs true is h = absurd (let no : ⊥ = cc in no)
@@ -131,11 +108,11 @@ none_all p (x ∷ xs) h = let s = none_here p x xs (p x) refl h in and_from (not
 pub all_none : {X : Type 0} (p : X → Bool) (xs : List X) → list_all (λ (x : X). not (p x)) xs ≡ true → list_any p xs ≡ false
 all_none p [] h = refl
 all_none p (x ∷ xs) h =
-    let s = and_parts (not (p x)) (list_all (λ y. not (p y)) xs) h in ap (λ b. b || list_any p xs) (not_is (p x) s.0) ∙ all_none p xs s.1
+    let s = and_parts (not (p x)) (list_all (λ y. not (p y)) xs) h in ap (λ b. b || list_any p xs) (not-true (p x) s.0) ∙ all_none p xs s.1
 
 -- lists of which none passes
 pub no_any : {X : Type 0} (p : X → Bool) (xs : List X) → not (list_any p xs) ≡ true → list_any p xs ≡ false
-no_any p xs h = not_is (list_any p xs) h
+no_any p xs h = not-true (list_any p xs) h
 
 no_rest : {X : Type 0} (m : ℕ) → drop m (let none : List X = [] in none) ≡ []
 no_rest zero = refl
@@ -150,13 +127,3 @@ none_later p (suc n) zero (x ∷ xs) le h = absurd (omega (arith, le))
 none_later p (suc n) (suc m) (x ∷ xs) le h = none_later p n m xs (omega (arith, le)) h
 
 -- ---- items
-
-pub found : {X : Type 0} (xs : List X) (n : ℕ) (x : X) → n < length xs → x ≡ get_or xs n x → slice_get xs n ≡ Some x
-found [] n x low is = absurd (omega arith)
-found (y ∷ ys) zero x low is = ap (λ z. Some z) (sym is)
-found (y ∷ ys) (suc n) x low is = found ys n x (omega arith) is
-
-pub found_or : {X : Type 0} (xs : List X) (n : ℕ) (x : X) → n < length xs → slice_get xs n ≡ Some (get_or xs n x)
-found_or [] n x low = absurd (omega arith)
-found_or (y ∷ ys) zero x low = refl
-found_or (y ∷ ys) (suc n) x low = found_or ys n x (omega (arith, low))

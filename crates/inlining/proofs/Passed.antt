@@ -2,15 +2,15 @@
 use Rattle.std.proofs.Common.{◌≡◌, ℕ, ◌+◌, ◌%◌, ◌^◌, Bool, true, false, if◌then◌else◌, List, [], ◌∷◌, map, Option, Some, None, refl, sym, ◌∙◌, ap, subst, arith}
 use Rattle.std.specs.Option.{option_map, option_and_then}
 use Rattle.std.specs.Int.{w32, w64, cast_signed, cast_unsigned}
-use Rattle.std.proofs.lemmas.Bool.{and_parts, eqb-true}
+use Rattle.std.proofs.lemmas.Bool.{eqb-true}
 use Rattle.il_ast.specs.declared.operation.Class.{Class}
 use Rattle.il_ast.specs.declared.operation.Class.TheVariants.{W, L}
 use Rattle.il_ast.specs.declared.value.Value.{Value}
 use Rattle.il_ast.specs.declared.value.Value.TheVariants.{Integer, Pointer, Function}
-use Rattle.il_ast.specs.Values.{in_place, same_class}
+use Rattle.il_ast.specs.Values.{in_place}
 use Rattle.il_ast.specs.Memory.{Memory}
 use Rattle.il_ast.specs.Keeps.{Passes, AreArgs}
-use Rattle.il_ast.specs.Meaning.{same_classes, result_fits}
+use Rattle.il_ast.specs.Meaning.{result_fits}
 use Rattle.rv_isa.specs.declared.instruction.RegWOp.TheVariants.{Addw}
 use Rattle.vcode.specs.declared.place.Operand.{Operand}
 use Rattle.vcode.specs.declared.place.Argument.{Argument}
@@ -23,18 +23,17 @@ use Rattle.vcode.specs.Step.{value_of, read_argument, read_all, operated}
 use Rattle.vcode.specs.Writes.{line_writes}
 use Rattle.vcode.specs.Acts.{Gives, act}
 use Rattle.inlining.specs.InPlace.{brought}
+use Rattle.il_ast.proofs.Alike.{same_class_is}
+use Rattle.il_ast.proofs.Wrapping.{low_twice}
 
 -- ---- numbers
-
-mod_twice : (n : ℕ) → n % 2 ^ 32 % 2 ^ 32 ≡ n % 2 ^ 32
-mod_twice n = omega arith
 
 -- ---- a value
 
 word_passes : (x v : Value) → in_place W x ≡ Some v → in_place W v ≡ Some v
 word_passes (Integer n) v h =
     let same : Integer (n % 2 ^ 32) ≡ v = cc in
-    subst (λ (u : Value). in_place W u ≡ Some u) same (ap (λ k. Some (Integer k)) (mod_twice n))
+    subst (λ (u : Value). in_place W u ≡ Some u) same (ap (λ k. Some (Integer k)) (low_twice n))
 word_passes (Pointer b o) v h = absurd (let no : ⊥ = cc in no)
 word_passes (Function f) v h = absurd (let no : ⊥ = cc in no)
 
@@ -75,20 +74,6 @@ args_are globals values (a ∷ args) vs h =
     one_passes e k None v h = absurd (let no : ⊥ = cc in no)
     one_passes e k (Some x) v h = passed_passes e k x v h
 
-same_class_is : (c d : Class) → same_class c d ≡ true → c ≡ d
-same_class_is W W h = refl
-same_class_is W L h = absurd (let no : ⊥ = cc in no)
-same_class_is L W h = absurd (let no : ⊥ = cc in no)
-same_class_is L L h = refl
-
-pub same_classes_are : (cs ds : List Class) → same_classes cs ds ≡ true → cs ≡ ds
-same_classes_are [] [] h = refl
-same_classes_are [] (d ∷ ds) h = absurd (let no : ⊥ = cc in no)
-same_classes_are (c ∷ cs) [] h = absurd (let no : ⊥ = cc in no)
-same_classes_are (c ∷ cs) (d ∷ ds) h =
-    let p = and_parts (same_class c d) (same_classes cs ds) h in
-    ap (λ k. k ∷ cs) (same_class_is c d p.0) ∙ ap (λ ks. d ∷ ks) (same_classes_are cs ds p.1)
-
 -- the class of a result that is wanted is the callee's
 pub result_is : (c d : Class) → result_fits (Some c) (Some d) ≡ true → c ≡ d
 result_is = same_class_is
@@ -109,7 +94,7 @@ extended_held : (n : ℕ) → is_extended n ≡ true → held W (Integer n) ≡ 
 extended_held n h = ap Integer (eqb-true _ _ h)
 
 held_low : (n : ℕ) → held W (Integer (n % 2 ^ 32)) ≡ held W (Integer n)
-held_low n = held_same (n % 2 ^ 32) n (mod_twice n)
+held_low n = held_same (n % 2 ^ 32) n (low_twice n)
   where
     held_same : (a b : ℕ) → a % 2 ^ 32 ≡ b % 2 ^ 32 → held W (Integer a) ≡ held W (Integer b)
     held_same a b e = ap (λ k. Integer (cast_unsigned w64 (cast_signed w32 k))) e

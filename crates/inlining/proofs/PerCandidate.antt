@@ -37,10 +37,11 @@ use Rattle.inlining.specs.Candidates.{AllGoFrom}
 use Rattle.inlining.specs.InPlace.{brought, result_brought, candidate_block}
 use Rattle.inlining.proofs.Calm.{makes_none, candidate_makes_none}
 use Rattle.inlining.proofs.Beside.{Setting, placed, placed_step, Goes, GoesNext, does_goes, calls_goes, cheaper_both, cheaper_turned, cheaper_alone, IsLow}
-use Rattle.inlining.proofs.PlacedBlocks.{all_at, behind_at, first_at, candidate_block_at}
+use Rattle.inlining.proofs.PlacedBlocks.{behind_at, first_at, candidate_block_at}
 use Rattle.inlining.proofs.Passed.{result_is}
 use Rattle.inlining.proofs.MovedActs.{from_base, moved_to, moved_follows, beyond_follows, value_moved, act_moved, writes_moved, IsCalm, act_calm, moved_way, branch_moved}
 use Rattle.inlining.proofs.Entering.{brought_goes}
+use Rattle.il_ast.proofs.Listed.{all_at}
 
 -- ---- what the candidate's end owes
 

@@ -1,14 +1,14 @@
 -- Where the blocks and the lines of the code stand, once a call is done in place.
-use Rattle.std.proofs.Common.{◌≡◌, ℕ, zero, suc, ◌+◌, Bool, true, false, nat_eq, List, [], ◌∷◌, ◌++◌, map, length, take, drop, slice_get, slice_set, Some, refl, sym, ◌∙◌, ap, arith}
+use Rattle.std.proofs.Common.{◌≡◌, ℕ, zero, suc, ◌+◌, true, false, nat_eq, List, [], ◌∷◌, ◌++◌, map, length, take, drop, slice_get, slice_set, Some, refl, ◌∙◌, ap, arith}
 use Rattle.std.specs.List.{list_all}
 use Rattle.std.specs.Option.{option_map}
 use Rattle.std.proofs.lemmas.Bool.{and_parts}
-use Rattle.std.proofs.lemmas.Bool.Decides.{nat_tests}
 use Rattle.std.proofs.lemmas.Option.{slice_get-map}
 use Rattle.vcode.specs.declared.code.Block.{Block}
 use Rattle.vcode.specs.Named.{line_keeps, block_keeps, is_below}
 use Rattle.inlining.specs.InPlace.{up_to_call, behind_call, candidate_block}
 use Rattle.inlining.proofs.Beside.{Setting, placed}
+use Rattle.il_ast.proofs.Listed.{all_at, get_before, get_set_other, length_slice_set}
 
 -- ---- lists
 
@@ -16,23 +16,6 @@ set_same : {X : Type 0} (xs : List X) (i : ℕ) (x y : X) → slice_get xs i ≡
 set_same [] i x y h = absurd (let no : ⊥ = cc in no)
 set_same (z ∷ zs) zero x y h = refl
 set_same (z ∷ zs) (suc i) x y h = set_same zs i x y h
-
-set_other : {X : Type 0} (xs : List X) (i j : ℕ) (x : X) → nat_eq j i ≡ false → slice_get (slice_set xs i x) j ≡ slice_get xs j
-set_other [] i j x h = refl
-set_other (y ∷ ys) zero zero x h = absurd (let no : ⊥ = cc in no)
-set_other (y ∷ ys) zero (suc j) x h = refl
-set_other (y ∷ ys) (suc i) zero x h = refl
-set_other (y ∷ ys) (suc i) (suc j) x h = set_other ys i j x (let e : nat_eq j i ≡ false = grind (arith, nat_tests) in e)
-
-set_length : {X : Type 0} (xs : List X) (i : ℕ) (x : X) → length (slice_set xs i x) ≡ length xs
-set_length [] i x = refl
-set_length (y ∷ ys) zero x = refl
-set_length (y ∷ ys) (suc i) x = ap suc (set_length ys i x)
-
-get_before : {X : Type 0} (xs ys : List X) (k : ℕ) (x : X) → slice_get xs k ≡ Some x → slice_get (xs ++ ys) k ≡ Some x
-get_before [] ys k x h = absurd (let no : ⊥ = cc in no)
-get_before (y ∷ xs) ys zero x h = h
-get_before (y ∷ xs) ys (suc k) x h = get_before xs ys k x h
 
 -- the item behind so many others
 get_behind : {X : Type 0} (xs ys : List X) (n m : ℕ) → n ≡ m + length xs → slice_get (xs ++ ys) n ≡ slice_get ys m
@@ -46,11 +29,6 @@ cut_at [] j x h = absurd (let no : ⊥ = cc in no)
 cut_at (y ∷ xs) zero x h = let same : y ≡ x = cc in ap (λ z. z ∷ xs) same
 cut_at (y ∷ xs) (suc j) x h =
     ap (λ zs. y ∷ zs) (cut_at xs j x h ∙ ap (λ n. take j xs ++ x ∷ drop n (y ∷ xs)) (let e : suc (j + 1) ≡ suc j + 1 = omega arith in e))
-
-pub all_at : {X : Type 0} (test : X → Bool) (xs : List X) (k : ℕ) (x : X) → list_all test xs ≡ true → slice_get xs k ≡ Some x → test x ≡ true
-all_at test [] k x h at = absurd (let no : ⊥ = cc in no)
-all_at test (y ∷ xs) zero x h at = let same : y ≡ x = cc in ap test (sym same) ∙ (and_parts (test y) (list_all test xs) h).0
-all_at test (y ∷ xs) (suc k) x h at = all_at test xs k x (and_parts (test y) (list_all test xs) h).1 at
 
 -- ---- blocks
 
@@ -69,7 +47,7 @@ moved_blocks c = map (candidate_block (first_at c) (behind_at c) c.base c.candid
 -- a block without the call
 pub other_block : (c : Setting) (n : ℕ) (b : Block ℕ) → nat_eq n c.k ≡ false → slice_get c.v.blocks n ≡ Some b → slice_get (placed c).blocks n ≡ Some b
 other_block c n b apart at =
-    get_before (slice_set c.v.blocks c.k (cut_block c)) (behind_call c.j c.site ∷ moved_blocks c) n b (set_other c.v.blocks c.k n (cut_block c) apart ∙ at)
+    get_before (slice_set c.v.blocks c.k (cut_block c)) (behind_call c.j c.site ∷ moved_blocks c) n b (get_set_other c.v.blocks c.k n (cut_block c) apart ∙ at)
 
 -- the block with the call, which is cut there
 pub call_block : (c : Setting) → slice_get (placed c).blocks c.k ≡ Some (cut_block c)
@@ -81,14 +59,14 @@ call_block c =
 pub rest_block : (c : Setting) → slice_get (placed c).blocks (behind_at c) ≡ Some (behind_call c.j c.site)
 rest_block c =
     get_behind (slice_set c.v.blocks c.k (cut_block c)) (behind_call c.j c.site ∷ moved_blocks c) (behind_at c) 0
-    (let e = set_length c.v.blocks c.k (cut_block c) in omega (arith, e))
+    (let e = length_slice_set c.v.blocks c.k (cut_block c) in omega (arith, e))
 
 -- a block of the candidate
 pub candidate_block_at : (c : Setting) (n : ℕ) (b : Block ℕ) → slice_get c.candidate.blocks n ≡ Some b
     → slice_get (placed c).blocks (n + first_at c) ≡ Some (candidate_block (first_at c) (behind_at c) c.base c.candidate.result c.site.to b)
 candidate_block_at c n b at =
     get_behind (slice_set c.v.blocks c.k (cut_block c)) (behind_call c.j c.site ∷ moved_blocks c) (n + first_at c) (suc n)
-    (let e = set_length c.v.blocks c.k (cut_block c) in omega (arith, e))
+    (let e = length_slice_set c.v.blocks c.k (cut_block c) in omega (arith, e))
     ∙ slice_get-map (candidate_block (first_at c) (behind_at c) c.base c.candidate.result c.site.to) c.candidate.blocks n
     ∙ ap (option_map (candidate_block (first_at c) (behind_at c) c.base c.candidate.result c.site.to)) at
 

@@ -15,8 +15,8 @@ use Rattle.inlining.specs.InPlace.{in_place}
 use Rattle.inlining.specs.Laws.{CallsInPlaceKeep}
 use Rattle.inlining.specs.Placed.{Candidates, Grows, AsItWas, OneMore, KeepsCalls}
 use Rattle.inlining.specs.Growth.{IsCut, IsGrowth}
-use Rattle.inlining.proofs.Listing.{found_or}
 use Rattle.inlining.proofs.Growing.{grown}
+use Rattle.std.proofs.lemmas.Option.{slice_get-get_or}
 
 -- ---- what it does
 
@@ -48,4 +48,4 @@ pub placed_on : {E : Type 0} (candidates : Candidates) (g : Growth) (k : ℕ) (b
     → IfOk r (λ h. h.blocks.items ≡ slice_set g.blocks.items k c.up_to ++ c.behind.items) → IfOk r (λ h. h.room ≡ c.room) → IfOk r (λ h. (v : VFunc) → IsGrowth candidates v g → IsGrowth candidates v h)
 placed_on candidates g k b c low cut (Err e) blocks room = tt
 placed_on candidates g k b c low cut (Ok h) blocks room = λ v before.
-    let bs : List (Block ℕ) = g.blocks.items in grown candidates v g h k (slice_index_or bs k b) c before (found_or bs k b low) cut blocks room
+    let bs : List (Block ℕ) = g.blocks.items in grown candidates v g h k (slice_index_or bs k b) c before (slice_get-get_or bs k b low) cut blocks room

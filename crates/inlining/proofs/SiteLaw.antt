@@ -41,9 +41,10 @@ use Rattle.inlining.specs.Laws.{CallsInPlaceKeep}
 use Rattle.inlining.proofs.Beside.{Setting, placed, placed_step, Goes, GoesNext, does_goes, calls_goes, cheaper_both, cheaper_unentered, IsLow}
 use Rattle.inlining.proofs.PlacedBlocks.{cut_at, behind_at, first_at, cut_block, other_block, call_block, rest_block, block_known}
 use Rattle.inlining.proofs.Turns.{IsTurn, turn_act, one_or_other, Begun, begun_further, ended_room}
-use Rattle.inlining.proofs.Passed.{args_are, same_classes_are}
+use Rattle.inlining.proofs.Passed.{args_are}
 use Rattle.inlining.proofs.Entering.{along, arguments_goes}
 use Rattle.inlining.proofs.PerCandidate.{answered, resumed_at, Behind, candidate_enters}
+use Rattle.il_ast.proofs.Alike.{same_classes_are}
 
 -- ---- registers
 

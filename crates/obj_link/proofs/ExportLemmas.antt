@@ -25,7 +25,7 @@ or_assoc : {A : Type 0} (a b c : Option A) → b ≡ None → option_or (option_
 or_assoc None b c e = ap (λ o. option_or o c) e
 or_assoc (Some x) b c e = refl
 
-map_or : (a b : Option GlobalName) → option_map (λ (g : GlobalName). g.target) (option_or a b) ≡ option_or (option_map (λ (g : GlobalName). g.target) a) (option_map (λ (g : GlobalName). g.target) b)
+pub map_or : (a b : Option GlobalName) → option_map (λ (g : GlobalName). g.target) (option_or a b) ≡ option_or (option_map (λ (g : GlobalName). g.target) a) (option_map (λ (g : GlobalName). g.target) b)
 map_or None b = refl
 map_or (Some x) b = refl
 

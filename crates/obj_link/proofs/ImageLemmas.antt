@@ -1,5 +1,5 @@
 -- What is placed is an image, and its data are those of the definitions.
-use Rattle.std.proofs.Common.{◌≡◌, ℕ, zero, suc, ◌+◌, ◌*◌, ◌/◌, ◌%◌, ◌-◌, ◌^◌, ◌<◌, ◌≤◌, Bool, true, false, List, [], ◌∷◌, ◌++◌, length, map, replicate, refl, sym, ◌∙◌, ap, subst, arith, lit<, length-append}
+use Rattle.std.proofs.Common.{◌≡◌, ℕ, zero, suc, ◌+◌, ◌*◌, ◌%◌, ◌-◌, ◌^◌, ◌<◌, ◌≤◌, Bool, true, false, List, [], ◌∷◌, ◌++◌, length, map, replicate, refl, sym, ◌∙◌, ap, subst, arith, lit<, length-append}
 use Rattle.std.specs.Prelude.{nat_eq, if◌then◌else◌, slice_get, slice_index, slice_set, Option, Some, None}
 use Rattle.std.specs.Option.{option_and_then, option_map}
 use Rattle.std.specs.Int.{w64, to_le_bytes}
@@ -42,6 +42,7 @@ use Rattle.obj_link.specs.Natives.{start_words, write_words, exit_words, functio
 use Rattle.obj_link.specs.Placed.{functions_end, objects_end, objects_start, callee_address, meaning, name_address, functions_words, code_of, value_number, cell_byte, in_slots, object_bytes, addresses_of, contents_of, FitsBelow, EveryCode}
 use Rattle.obj_link.specs.DataBytes.{address_bytes, item_bytes, field_bytes, slot_bytes}
 use Rattle.obj_link.proofs.AddressLemmas.{functions_rise, objects_rise}
+use Rattle.il_ast.proofs.Measured.{length_bytes}
 
 -- ---- the bytes of a datum are those of its cells
 
@@ -115,10 +116,6 @@ objects_are a p (d ∷ ds) =
 
 -- ---- sizes of data
 
-bytes_count : (k n : ℕ) → length (bytes_of k n) ≡ k
-bytes_count zero n = refl
-bytes_count (suc k) n = ap suc (bytes_count k (n / 256))
-
 address_count : (a : Addresses) (t : Option Target) (n : ℕ) → length (address_bytes a t n) ≡ 8
 address_count a None n = refl
 address_count a (Some (Object k)) n = refl
@@ -129,7 +126,7 @@ address_count a (Some (Code f)) n = by_test (nat_eq n 0)
     by_test false = refl
 
 item_count : (a : Addresses) (targets : List (List Target)) (t : ℕ) (size : Size) (i : Item) → length (item_bytes a targets t size i) ≡ item_size size i
-item_count a targets t size (Int n) = bytes_count (byte_count size) n
+item_count a targets t size (Int n) = length_bytes (byte_count size) n
 item_count a targets t size (Bytes bytes) = refl
 item_count a targets t size (Address g offset) = address_count a (meaning targets t g) offset
 
@@ -146,7 +143,7 @@ field_count : (a : Addresses) (targets : List (List Target)) (t : ℕ) (f : Fiel
 field_count a targets t (Items size is) = flat_count (item_bytes a targets t size) (item_size size) (item_count a targets t size) is
 field_count a targets t (Zeros n) = length-replicate n 0
 
-slots_count : (xs : List ℕ) → length (in_slots xs) ≡ round_16 (length xs)
+pub slots_count : (xs : List ℕ) → length (in_slots xs) ≡ round_16 (length xs)
 unfolding in_slots
 slots_count xs =
     let sum = length-append xs (replicate (round_16 (length xs) - length xs) 0) in

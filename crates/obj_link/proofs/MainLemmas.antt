@@ -20,15 +20,13 @@ use Rattle.obj_link.specs.declared.linking.names.GlobalName.{GlobalName}
 use Rattle.obj_link.specs.Names.{functions_of, objects_of, names_of, names_of_functions, names_of_objects, symbol_name, is_export, predefined, visible, times_exported}
 use Rattle.obj_link.specs.Main.{is_main, main_at, main_in, main_of, IsMain, ExportsMain}
 use Rattle.obj_link.specs.Program.{IsProgram}
+use Rattle.std.proofs.lemmas.Option.{same_Some}
 
 -- the name of function n
 abbrev named : ℕ → InText Func → GlobalName
 named n f = record { text = f.text; symbol = f.item.name; exported = f.item.exported; target = Code (Defined n) }
 
 -- ---- options. `cc` reads all that is in scope, so it is asked here
-
-same_some : {A : Type 0} (x y : A) → Some x ≡ Some y → x ≡ y
-same_some x y e = cc
 
 none_some : {A B : Type 0} (x : A) → None ≡ Some x → B
 none_some x e = absurd (never e)
@@ -40,7 +38,7 @@ none_some x e = absurd (never e)
 
 here_first : (n : ℕ) (x f : InText Func) → Some x ≡ Some f → named n x ≡ named (n + zero) f
 here_first n x f at =
-    let same = same_some x f at in
+    let same = same_Some x f at in
     let none : n ≡ n + zero = omega arith in
     ap (named n) same ∙ ap (λ m. named m f) none
 
@@ -119,7 +117,7 @@ is_there p n [] (d ∷ ds) m g k found is = by_test (p datum) refl (is_there p n
         → (j : ℕ) × (f : InText Func) × (k ≡ n + j) × (slice_get [] j ≡ Some f) × (p (named k f) ≡ true)
     by_test true e later =
         let this : Some datum ≡ Some g = sym (ap (λ b. cond b (Some datum) (find p (names_of_objects (m + 1) ds))) e) ∙ found in
-        let two : Object m ≡ Code (Defined k) = ap (λ (x : GlobalName). x.target) (same_some datum g this) ∙ is in
+        let two : Object m ≡ Code (Defined k) = ap (λ (x : GlobalName). x.target) (same_Some datum g this) ∙ is in
         absurd (no_code m (Defined k) two)
     by_test false e later = later (sym (ap (λ b. cond b (Some datum) (find p (names_of_objects (m + 1) ds))) e) ∙ found) is
 is_there p n (x ∷ fs) ds m g k found is = by_test (p (named n x)) refl (λ e. is_there p (n + 1) fs ds m g k e is)
@@ -131,7 +129,7 @@ is_there p n (x ∷ fs) ds m g k found is = by_test (p (named n x)) refl (λ e. 
         → (j : ℕ) × (f : InText Func) × (k ≡ n + j) × (slice_get (x ∷ fs) j ≡ Some f) × (p (named k f) ≡ true)
     by_test true e later =
         let this : Some (named n x) ≡ Some g = sym (ap (λ b. cond b (Some (named n x)) (find p tail)) e) ∙ found in
-        let one : Code (Defined n) ≡ Code (Defined k) = ap (λ (y : GlobalName). y.target) (same_some (named n x) g this) ∙ is in
+        let one : Code (Defined n) ≡ Code (Defined k) = ap (λ (y : GlobalName). y.target) (same_Some (named n x) g this) ∙ is in
         let number = same_function n k one in
         (zero, x, omega (arith, number), refl, ap (λ i. p (named i x)) (sym number) ∙ e)
     by_test false e later =
@@ -169,7 +167,7 @@ main_is texts k is = by_name (find p (names_of texts)) refl
         by_form : (b : Bool) → is_main there.1.item ≡ b → Answer
         by_form true form =
             let one : Some n ≡ Some k = sym (main ∙ ap (λ b. cond b (Some n) None) form) ∙ is in
-            let same = same_some n k one in
+            let same = same_Some n k one in
             let parts = and_parts there.1.item.exported (bytes_eq (symbol_name texts there.1.text there.1.item.name) (codes "main")) there.4 in (
               there.1,
               ap (slice_get fs) (sym same) ∙ here,

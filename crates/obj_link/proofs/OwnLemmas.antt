@@ -9,10 +9,7 @@ use Rattle.std.proofs.lemmas.Bool.Decides.{nat_tests}
 use Rattle.il_ast.specs.declared.program.Target.{Target}
 use Rattle.obj_link.specs.declared.linking.names.GlobalName.{GlobalName}
 use Rattle.obj_link.specs.Names.{is_own, own}
-
-map_or : (a b : Option GlobalName) → option_map (λ (g : GlobalName). g.target) (option_or a b) ≡ option_or (option_map (λ (g : GlobalName). g.target) a) (option_map (λ (g : GlobalName). g.target) b)
-map_or None b = refl
-map_or (Some x) b = refl
+use Rattle.obj_link.proofs.ExportLemmas.{map_or}
 
 own_push : (names : List GlobalName) (g : GlobalName) (t s : ℕ) → own (names ++ g ∷ []) t s ≡ option_or (own names t s) (cond (is_own t s g) (Some g.target) None)
 own_push names g t s =

@@ -21,6 +21,7 @@ use Rattle.obj_link.specs.Joined.{IsJoined}
 use Rattle.obj_link.specs.Linked.{program_with}
 use Rattle.obj_link.specs.Program.{IsProgram}
 use Rattle.obj_link.proofs.MainLemmas.{exported_main, main_is}
+use Rattle.std.proofs.lemmas.Option.{same_Some}
 
 -- ---- the same meanings
 
@@ -84,9 +85,6 @@ refuted Memory texts p h g = refl
 
 -- ---- at most one program
 
-some_same : {A : Type 0} (a b : A) → Some a ≡ Some b → a ≡ b
-some_same a b e = cc
-
 same_parts : (t u : List (List Target)) (f g : List (InText Func)) (o q : List (InText DataDef)) (m n : ℕ) → t ≡ u → f ≡ g → o ≡ q → m ≡ n → (let p : Program = record { targets = t; functions = f; objects = o; main = m } in p) ≡ record { targets = u; functions = g; objects = q; main = n }
 same_parts t u f g o q m n a b c d =
     ap (λ x. record { targets = x; functions = f; objects = o; main = m }) a
@@ -96,8 +94,8 @@ same_parts t u f g o q m n a b c d =
 pub one_program : (texts : List Checked) (p q : Program) → IsProgram texts p → IsProgram texts q → p ≡ q
 one_program texts p q g h =
     same_parts p.targets q.targets p.functions q.functions p.objects q.objects p.main q.main
-    (some_same p.targets q.targets (sym g.targets ∙ h.targets)) (g.functions ∙ sym h.functions) (g.objects ∙ sym h.objects)
-    (some_same p.main q.main (sym g.main ∙ h.main))
+    (same_Some p.targets q.targets (sym g.targets ∙ h.targets)) (g.functions ∙ sym h.functions) (g.objects ∙ sym h.objects)
+    (same_Some p.main q.main (sym g.main ∙ h.main))
 
 -- ---- the program that was made
 

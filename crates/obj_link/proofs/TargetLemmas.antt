@@ -1,5 +1,5 @@
 -- What symbols mean, one further.
-use Rattle.std.proofs.Common.{◌≡◌, ℕ, zero, suc, ◌+◌, ◌<◌, List, [], ◌∷◌, ◌++◌, length, drop, get_or, refl, ap, sym, ◌∙◌, arith, append_assoc}
+use Rattle.std.proofs.Common.{◌≡◌, ℕ, ◌+◌, ◌<◌, List, [], ◌∷◌, ◌++◌, length, drop, get_or, refl, ap, sym, ◌∙◌, append_assoc}
 use Rattle.std.specs.Prelude.{Option, Some, None, slice_get}
 use Rattle.std.specs.Option.{option_map, option_and_then}
 use Rattle.std.proofs.lemmas.List.{drop_more, append-nil}
@@ -9,13 +9,14 @@ use Rattle.obj_link.specs.declared.linking.error.LinkError.{LinkError}
 use Rattle.obj_link.specs.declared.linking.error.LinkError.TheVariants.{UnknownName, ExportedTwice, NoMain, Limit, Memory}
 use Rattle.obj_link.specs.Refusals.{RefusesSymbols, RefusesNames}
 use Rattle.obj_link.specs.Names.{symbols_by, targets_by}
+use Rattle.il_ast.proofs.Listed.{get_there}
 
 -- what is found so far stands before what is still to be found
 abbrev pub found_then : {A : Type 0} → List A → Option (List A) → Option (List A)
 found_then found None = None
 found_then found (Some rest) = Some (found ++ rest)
 
-join : {A : Type 0} (found : List A) (x : A) (o : Option (List A)) → found_then found (option_map (λ rest. x ∷ rest) o) ≡ found_then (found ++ x ∷ []) o
+pub join : {A : Type 0} (found : List A) (x : A) (o : Option (List A)) → found_then found (option_map (λ rest. x ∷ rest) o) ≡ found_then (found ++ x ∷ []) o
 join found x None = refl
 join found x (Some rest) = ap Some (sym (append_assoc found (x ∷ []) rest))
 
@@ -46,16 +47,11 @@ refused_at NoMain meaning xs i x at h = h
 refused_at Limit meaning xs i x at h = h
 refused_at Memory meaning xs i x at h = h
 
-slice_get_at : {A : Type 0} (xs : List A) (i : ℕ) (x : A) → i < length xs → x ≡ get_or xs i x → slice_get xs i ≡ Some x
-slice_get_at [] i x lt at = absurd (omega arith)
-slice_get_at (y ∷ ys) zero x lt at = ap Some (sym at)
-slice_get_at (y ∷ ys) (suc i) x lt at = slice_get_at ys i x (omega arith) at
-
 pub refused_in : (e : LinkError) (meaning : ℕ → ℕ → List ℕ → Option Target) (xs : List Checked) (i : ℕ) (x : Checked) → i < length xs → x ≡ get_or xs i x → RefusesSymbols e (meaning i) x.text.symbols → RefusesNames e meaning xs
-refused_in e meaning xs i x lt at h = refused_at e meaning xs i x (slice_get_at xs i x lt at) h
+refused_in e meaning xs i x lt at h = refused_at e meaning xs i x (get_there xs i x lt at) h
 
 -- a symbol that has no meaning
 pub unknown_at : (meaning : ℕ → List ℕ → Option Target) (xs : List (List ℕ)) (i : ℕ) (x seen name : List ℕ) (found : Option Target) → i < length xs → x ≡ get_or xs i x → seen ≡ x → name ≡ x → found ≡ meaning i seen → found ≡ None
     → (s : ℕ) × (slice_get xs s ≡ Some name) × (meaning s name ≡ None)
 unknown_at meaning xs i x seen name found lt at sees named means none =
-    (i, slice_get_at xs i x lt at ∙ ap Some (sym named), ap (meaning i) (named ∙ sym sees) ∙ (sym means ∙ none))
+    (i, get_there xs i x lt at ∙ ap Some (sym named), ap (meaning i) (named ∙ sym sees) ∙ (sym means ∙ none))

@@ -39,7 +39,7 @@ int_le_is (pos a) (negsuc b) = refl
 int_le_is (negsuc a) (pos b) = refl
 int_le_is (negsuc a) (negsuc b) = grind (arith, nat_tests)
 
-signed_le_is_not_lt : (a b : ℕ) → not (int_lt (cast_signed w64 b) (cast_signed w64 a)) ≡ int_le (cast_signed w64 a) (cast_signed w64 b)
+pub signed_le_is_not_lt : (a b : ℕ) → not (int_lt (cast_signed w64 b) (cast_signed w64 a)) ≡ int_le (cast_signed w64 a) (cast_signed w64 b)
 signed_le_is_not_lt a b = int_le_is (cast_signed w64 a) (cast_signed w64 b)
 
 pub zero_difference : (a b : ℕ) → a < 2 ^ 64 → b < 2 ^ 64 → nat_lt ((a + (2 ^ 64 - b)) % 2 ^ 64) 1 ≡ nat_eq a b

@@ -1,10 +1,9 @@
 -- What the code of a form does, and that it is what the operation does with the number.
 use Rattle.std.proofs.Common.{◌≡◌, ℕ, ◌+◌, ◌*◌, ◌/◌, ◌%◌, ◌^◌, ◌<◌, Bool, true, false, [], ◌∷◌, refl, sym, ◌∙◌, ap, subst, arith, lit<, mod-lt}
-use Rattle.std.specs.Prelude.{◌&&◌, not, nat_eq, nat_lt, if◌then◌else◌, int_lt, Some, None}
+use Rattle.std.specs.Prelude.{not, nat_eq, nat_lt, if◌then◌else◌, int_lt, Some, None}
 use Rattle.std.specs.Int.{cast_signed, cast_unsigned, w32, w64, int_shr, trailing_zeros}
 use Rattle.std.proofs.Math.Nat.{mul_comm}
 use Rattle.std.proofs.lemmas.Nat.{and_comm, or_comm, xor_comm}
-use Rattle.std.proofs.lemmas.Bool.Decides.{nat_tests}
 use Rattle.bits.specs.Words.{sign_extended}
 use Rattle.il_ast.specs.declared.operation.Class.TheVariants.{W, L}
 use Rattle.il_ast.specs.declared.operation.Condition.{Condition}
@@ -39,6 +38,7 @@ use Rattle.operation_code.proofs.Leading.{Site, Leads, leads_fixed, leads_again,
 use Rattle.operation_code.proofs.Instructions.{leads_imm, leads_add_low, leads_add_word, leads_shift, leads_shift_word}
 use Rattle.operation_code.proofs.Comparing.{bit_is, zero_difference, some_difference, le_is_not_lt, int_le_is, then_negate, sets_as}
 use Rattle.vcode.proofs.Comparing.{holds_extended}
+use Rattle.il_ast.proofs.Truth.{and_first, equal_turned, not_not}
 
 -- ---- comparisons with a number
 
@@ -101,14 +101,6 @@ leads_below c s d a m b is near e =
     (ap (λ y. bit_of (nat_lt (in_register s a) y)) (immediate_wide m near) ∙ ap bit_of e)
     (leads_imm c s Sltiu d a m is)
 
-not_not : (b : Bool) → not (not b) ≡ b
-not_not true = refl
-not_not false = refl
-
-both_true : (a b : Bool) → (a && b) ≡ true → a ≡ true
-both_true true b e = refl
-both_true false b e = absurd (let no : ⊥ = cc in no)
-
 leads_comparison : (c : Site) (s : State) (on : Condition) (d a n : ℕ) → IsReg d → compares_with on n ≡ true → in_register s a < 2 ^ 64
     → Leads c (compare_number on d a n) s (Sets s d (truth (holds on L (in_register s a) (n % 2 ^ 64))))
 leads_comparison c s Equal d a n is near small = leads_equal c s d a n is near
@@ -141,14 +133,14 @@ leads_comparison c s UnsignedGreaterEqual d a n is near small =
 leads_comparison c s UnsignedLessEqual d a n is near small =
     let t : Bool = holds UnsignedLessEqual L (in_register s a) (n % 2 ^ 64) in
     sets_as c (compare_number UnsignedLessEqual d a n) s d (bit_of t) (truth t) (bit_is t)
-    (leads_below c s d a (next n) t is (both_true (is_immediate (next n)) (not (nat_eq (next n) 0)) near) (unsigned_next (in_register s a) n small near))
+    (leads_below c s d a (next n) t is (and_first (is_immediate (next n)) (not (nat_eq (next n) 0)) near) (unsigned_next (in_register s a) n small near))
 leads_comparison c s UnsignedGreater d a n is near small =
     let x : ℕ = in_register s a in
     let t : Bool = holds UnsignedLessEqual L x (n % 2 ^ 64) in
     let g : Bool = holds UnsignedGreater L x (n % 2 ^ 64) in
     then_negate c s (Plain (Imm Sltiu (reg d) (reg a) (low (next n)))) d t g is
     (ap not (sym (le_is_not_lt x (n % 2 ^ 64))) ∙ not_not g)
-    (leads_below c s d a (next n) t is (both_true (is_immediate (next n)) (not (nat_eq (next n) 0)) near) (unsigned_next x n small near))
+    (leads_below c s d a (next n) t is (and_first (is_immediate (next n)) (not (nat_eq (next n) 0)) near) (unsigned_next x n small near))
 
 -- ---- forms
 
@@ -322,9 +314,6 @@ number_form_is (Compare on W) n f e =
     (by_comparison on (word n) f e)
 
 -- ---- with the number on the left
-
-equal_turned : (a b : ℕ) → nat_eq a b ≡ nat_eq b a
-equal_turned a b = grind (arith, nat_tests)
 
 holds_turned : (on : Condition) (a b : ℕ) → holds (turned on) L a b ≡ holds on L b a
 holds_turned Equal a b = equal_turned a b

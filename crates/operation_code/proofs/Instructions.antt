@@ -1,7 +1,7 @@
 -- What each instruction of a frame's code does, and a few together: sums, constants, eight bytes of the stack.
 use Rattle.std.proofs.Common.{◌≡◌, ℕ, zero, suc, ◌+◌, ◌-◌, ◌*◌, ◌/◌, ◌%◌, ◌^◌, ◌<◌, Bool, true, false, [], ◌∷◌, ◌++◌, refl, ◌∙◌, ap, subst, arith, lit<, mod-lt}
 use Rattle.std.specs.Prelude.{◌&&◌, ◌||◌, nat_eq, nat_lt, if◌then◌else◌}
-use Rattle.std.proofs.lemmas.Bool.{and_parts}
+use Rattle.std.proofs.lemmas.Bool.{and_parts, eqb-true}
 use Rattle.std.proofs.lemmas.Bool.Decides.{nat_tests}
 use Rattle.bits.specs.Words.{sign_extended}
 use Rattle.rv_isa.specs.State.{State, register}
@@ -142,9 +142,6 @@ leads_parted_constant c s d m is h =
     (shift_and_part c u4 d c4 v3 is (mod-lt _ (lit< tt)) e4.value)
     (λ t f e. record { value = e.value ∙ whole; others = e.others; bytes = e.bytes; output = e.output }))))))
 
-eq_is : (a b : ℕ) → nat_eq a b ≡ true → a ≡ b
-eq_is a b h = grind (arith, nat_tests)
-
 -- a number of 32 bits
 leads_word_constant : (c : Site) (s : State) (d m : ℕ) → IsReg d → m < 2 ^ 32 → Leads c (word_constant d m) s (Sets s d (sign_extended m))
 leads_word_constant c s d m is h =
@@ -156,7 +153,7 @@ leads_word_constant c s d m is h =
         → Leads c (if b then [] else Plain (Addiw (reg d) (reg d) (low m)) ∷ []) u (Sets u d (sign_extended m))
     by_test u held true e =
         leads_nowhere c u (Sets u d (sign_extended m))
-        (record { value = held ∙ upper_made m h (eq_is (m % 4096) 0 e); others = λ n other. refl; bytes = refl; output = refl })
+        (record { value = held ∙ upper_made m h (eqb-true (m % 4096) 0 e); others = λ n other. refl; bytes = refl; output = refl })
     by_test u held false e =
         leads_set c u (Addiw (reg d) (reg d) (low m)) d (addiw_value (in_register u d) (low m).value) (sign_extended m) is refl
         (ap (λ x. addiw_value x (low m).value) (register_reg u d is ∙ held) ∙ word_made m h)
@@ -169,7 +166,7 @@ leads_near_constant c s d m is near = by_test (is_immediate m) refl (is_word m) 
         → Leads c (if b then add_low d 0 m ∷ [] else word_constant d (m % 2 ^ 32)) s (Sets s d (m % 2 ^ 64))
     by_test true e t k h = leads_add_low c s d 0 m 0 (m % 2 ^ 64) is refl (immediate_is m e)
     by_test false e true k h =
-        subst (λ v. Leads c (word_constant d (m % 2 ^ 32)) s (Sets s d v)) (eq_is (word m) (m % 2 ^ 64) k)
+        subst (λ v. Leads c (word_constant d (m % 2 ^ 32)) s (Sets s d v)) (eqb-true (word m) (m % 2 ^ 64) k)
         (leads_word_constant c s d (m % 2 ^ 32) is (mod-lt m (lit< tt)))
     by_test false e false k h = absurd (let no : ⊥ = cc in no)
 
@@ -217,7 +214,7 @@ leads_shifted c s d m is h shifted held =
     made =
         shift_is (left_of m % 2 ^ 64) (left_of m) (zeros_of m % 64 % 64) (zeros_of m) (let e : left_of m % 2 ^ 64 ≡ left_of m = (let small = left_small m in omega (arith, small)) in e)
         (let e : zeros_of m % 64 % 64 ≡ zeros_of m = omega (arith, few) in e)
-        ∙ eq_is ((left_of m * 2 ^ zeros_of m) % 2 ^ 64) (without_low m) parts.1
+        ∙ eqb-true ((left_of m * 2 ^ zeros_of m) % 2 ^ 64) (without_low m) parts.1
 
     by_test : (u : State) → u.registers d ≡ without_low m → (b : Bool) → nat_eq (m % 4096) 0 ≡ b
         → Leads c (if b then [] else add_low d d m ∷ []) u (Sets u d (m % 2 ^ 64))
@@ -255,7 +252,7 @@ leads_constant c s d n is = by_test (is_immediate n) refl (is_word n) refl
         → Leads c (if b then add_low d 0 n ∷ [] else if t then word_constant d (n % 2 ^ 32) else long_constant d (n % 2 ^ 64)) s (Sets s d (n % 2 ^ 64))
     by_test true e t k = leads_add_low c s d 0 n 0 (n % 2 ^ 64) is refl (immediate_is n e)
     by_test false e true k =
-        subst (λ v. Leads c (word_constant d (n % 2 ^ 32)) s (Sets s d v)) (eq_is (word n) (n % 2 ^ 64) k)
+        subst (λ v. Leads c (word_constant d (n % 2 ^ 32)) s (Sets s d v)) (eqb-true (word n) (n % 2 ^ 64) k)
         (leads_word_constant c s d (n % 2 ^ 32) is (mod-lt n (lit< tt)))
     by_test false e false k = leads_long_constant c s d (n % 2 ^ 64) is (mod-lt n (lit< tt))
 

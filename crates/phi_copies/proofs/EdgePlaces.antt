@@ -11,8 +11,7 @@ use Rattle.il_ast.specs.Mentions.{come_after, temps_of, temps_in_block, temps_in
 use Rattle.phi_copies.specs.declared.ending.Ending.{Ending}
 use Rattle.phi_copies.specs.Copies.{phis_before}
 use Rattle.phi_copies.specs.Lowered.{Edge, block_edges, all_edges, IsBlockEnding, AreEndings, IsOnEdge, AreOnEdges}
-use Rattle.phi_copies.proofs.MoreKnown.{get_more}
-use Rattle.phi_copies.proofs.Lists.{get_past}
+use Rattle.il_ast.proofs.Listed.{get_before, get_behind}
 
 -- ---- temporaries
 
@@ -134,9 +133,9 @@ edge_at f (c ∷ blocks) zero j b w at here =
     let same : c ≡ b = cc in
     let none : 0 + j ≡ j = omega arith in
     ap (slice_get (block_edges f c ++ all_edges f blocks)) none
-    ∙ get_more (block_edges f c) (all_edges f blocks) j w (ap (λ x. slice_get (block_edges f x) j) same ∙ here)
+    ∙ get_before (block_edges f c) (all_edges f blocks) j w (ap (λ x. slice_get (block_edges f x) j) same ∙ here)
 edge_at f (c ∷ blocks) (suc k) j b w at here =
     let past : length (block_edges f c) + edges_before f blocks k + j ≡ length (block_edges f c) + (edges_before f blocks k + j) = omega arith in
     ap (slice_get (block_edges f c ++ all_edges f blocks)) past
-    ∙ get_past (block_edges f c) (all_edges f blocks) (edges_before f blocks k + j)
+    ∙ get_behind (block_edges f c) (all_edges f blocks) (edges_before f blocks k + j)
     ∙ edge_at f blocks k j b w at here

@@ -30,12 +30,14 @@ use Rattle.phi_copies.specs.Together.{wanted, move_of, move_in, in_front, moves_
 use Rattle.phi_copies.proofs.EdgePlaces.{phis_counted}
 use Rattle.phi_copies.specs.Map.{first_numbers}
 use Rattle.phi_copies.proofs.EntryNumbers.{entry_found}
-use Rattle.phi_copies.proofs.Lists.{some_same, get_set, get_set_other, same_places, parts_of, get_take, length_take}
+use Rattle.phi_copies.proofs.Lists.{some_same, get_set_other, same_places, parts_of, get_take}
 use Rattle.phi_copies.proofs.Members.{Among, among_all, all_among, one_of, among_get, Apart, all_pairs, came, goes_map}
 use Rattle.phi_copies.proofs.MoreKnown.{operand_less}
 use Rattle.phi_copies.proofs.PhiRules.{GoApart, phis_apart, goes_own, reads_own, reads_long}
-use Rattle.phi_copies.proofs.Placing.{cases_eq}
-use Rattle.phi_copies.proofs.Staged.{same_self, is_move, is_mover, came_from, rest_stays, CanBeOne, some_move, goes_where, going, goes, all_done}
+use Rattle.phi_copies.proofs.Staged.{is_move, is_mover, came_from, rest_stays, CanBeOne, some_move, goes_where, going, goes, all_done}
+use Rattle.il_ast.proofs.Listed.{get_set_same, length_take}
+use Rattle.il_ast.proofs.Alike.{same_class_is, class_itself}
+use Rattle.std.proofs.lemmas.Bool.{cases_eq}
 
 -- ---- lists
 
@@ -103,7 +105,7 @@ first_less k n (d ∷ cs) c a e = by (same_class d.to.class k) refl a (first_les
   where
     by : (b : Bool) → same_class d.to.class k ≡ b → Among c (d ∷ cs) → (Among c cs → c.to.class ≡ k → first_in k (n + 1) cs < n + 1 + length cs) → cond b n (first_in k (n + 1) cs) < n + length (d ∷ cs)
     by true g h rest = omega arith
-    by false g (inl same) rest = absurd (let none : true ≡ false = sym (ap (λ x. same_class x k) (sym (ap (λ (y : Assignment). y.to.class) same) ∙ e) ∙ same_self k) ∙ g in cc)
+    by false g (inl same) rest = absurd (let none : true ≡ false = sym (ap (λ x. same_class x k) (sym (ap (λ (y : Assignment). y.to.class) same) ∙ e) ∙ class_itself k) ∙ g in cc)
     by false g (inr h) rest = let lt = rest h e in omega (arith, lt)
 
 -- ---- how many there are
@@ -189,19 +191,13 @@ phi_fit classes from n [] p h a = absurd a
 phi_fit classes from n (q ∷ ps) p h (inl e) = subst (λ (x : Phi). Takes classes x.to × Fits classes x.to.class (source from x)) (sym e) (h.1, h.2)
 phi_fit classes from n (q ∷ ps) p h (inr a) = phi_fit classes from (n + 1) ps p h.3 a
 
-class_same : (a b : Class) → same_class a b ≡ true → a ≡ b
-class_same W W h = refl
-class_same W L h = absurd (let none : ⊥ = cc in none)
-class_same L W h = absurd (let none : ⊥ = cc in none)
-class_same L L h = refl
-
 first_fits : (classes : Classes) (from n : ℕ) (ps : List Phi) (k : Class) (c : Assignment) → PhisFit classes from n ps → Among c (map (wanted from) ps) → c.to.class ≡ k → classes (first_in k n (map (wanted from) ps)) ≡ k
 first_fits classes from n [] k c h a e = absurd a
 first_fits classes from n (p ∷ ps) k c h a e = by (same_class p.to.class k) refl a (first_fits classes from (n + 1) ps k c h.3)
   where
     by : (b : Bool) → same_class p.to.class k ≡ b → Among c (map (wanted from) (p ∷ ps)) → (Among c (map (wanted from) ps) → c.to.class ≡ k → classes (first_in k (n + 1) (map (wanted from) ps)) ≡ k) → classes (cond b n (first_in k (n + 1) (map (wanted from) ps))) ≡ k
-    by true g b rest = h.0 ∙ class_same p.to.class k g
-    by false g (inl same) rest = absurd (let none : true ≡ false = sym (ap (λ x. same_class x k) (sym (ap (λ (y : Assignment). y.to.class) same) ∙ e) ∙ same_self k) ∙ g in cc)
+    by true g b rest = h.0 ∙ same_class_is p.to.class k g
+    by false g (inl same) rest = absurd (let none : true ≡ false = sym (ap (λ x. same_class x k) (sym (ap (λ (y : Assignment). y.to.class) same) ∙ e) ∙ class_itself k) ∙ g in cc)
     by false g (inr b) rest = rest b e
 
 fits_same : (classes : Classes) (c : Class) (a b : Val) → a ≡ b → Fits classes c a → Fits classes c b
@@ -256,7 +252,7 @@ all_written globals ts us xs from (p ∷ ps) (v ∷ vs) long values held below o
     all_written globals ts us (slice_set xs t (Some v)) from ps vs (long ∙ sym more) values.1
     (λ q a. held q (inr a)) (λ q a. subst (λ n. q.to.temp < n) (sym more) (below q (inr a)))
     (λ q n. ⊎_elim
-    (λ e. ap (slice_get us) e ∙ held p (inl refl) ∙ ap Some values.0 ∙ sym (get_set xs t (Some v) (below p (inl refl))) ∙ ap (slice_get (slice_set xs t (Some v))) (sym e))
+    (λ e. ap (slice_get us) e ∙ held p (inl refl) ∙ ap Some values.0 ∙ sym (get_set_same xs t (Some v) (below p (inl refl))) ∙ ap (slice_get (slice_set xs t (Some v))) (sym e))
     (λ differ. others q (λ r a. ⊎_elim (λ same. λ e. differ (e ∙ ap (λ (x : Phi). x.to.temp) same)) (λ b. n r b) a) ∙ sym (get_set_other xs q t (Some v) differ))
     (cases_eq q t))
 

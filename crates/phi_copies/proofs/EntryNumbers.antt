@@ -15,6 +15,7 @@ use Rattle.phi_copies.specs.Lowered.{target, Edge, edge_with, edge, jump_edges, 
 use Rattle.phi_copies.specs.Map.{first_numbers}
 use Rattle.phi_copies.proofs.Counting.{is_small}
 use Rattle.phi_copies.proofs.EdgePlaces.{phis_counted}
+use Rattle.il_ast.proofs.Chosen.{same_chosen, none_chosen}
 
 number_at : (n : ℕ) (blocks : List Block) (k : ℕ) (b : Block) → slice_get blocks k ≡ Some b → slice_get (first_numbers n blocks) k ≡ Some (n + phis_before blocks k)
 number_at n [] k b e = absurd (let no : ⊥ = cc in no)
@@ -23,13 +24,10 @@ number_at n (c ∷ blocks) (suc k) b e =
     let sum : n + length c.phis + phis_before blocks k ≡ n + (length c.phis + phis_before blocks k) = omega arith in
     number_at (n + length c.phis) blocks k b e ∙ ap Some sum
 
-some_number : {m n : ℕ} → Some m ≡ Some n → m ≡ n
-some_number h = cc
-
 -- the number that was looked up
 pub number_is : (f : Func) (firsts : List ℕ) (k n : ℕ) (b : Block) → firsts ≡ first_numbers (length f.temps) f.blocks → slice_get firsts k ≡ Some n → slice_get f.blocks k ≡ Some b → n ≡ length f.temps + phis_before f.blocks k
 number_is f firsts k n b are at here =
-    some_number (sym at ∙ ap (λ ns. slice_get ns k) are ∙ number_at (length f.temps) f.blocks k b here)
+    same_chosen (sym at ∙ ap (λ ns. slice_get ns k) are ∙ number_at (length f.temps) f.blocks k b here)
 
 -- there is a number for each block, and no other
 nowhere : (n : ℕ) (blocks : List Block) (k : ℕ) → slice_get blocks k ≡ None → slice_get (first_numbers n blocks) k ≡ None
@@ -37,11 +35,8 @@ nowhere n [] k e = refl
 nowhere n (c ∷ blocks) zero e = absurd (let no : ⊥ = cc in no)
 nowhere n (c ∷ blocks) (suc k) e = nowhere (n + length c.phis) blocks k e
 
-none_some : {m : ℕ} → None ≡ Some m → ⊥
-none_some h = cc
-
 numbered : (f : Func) (firsts : List ℕ) (k n : ℕ) → firsts ≡ first_numbers (length f.temps) f.blocks → slice_get firsts k ≡ Some n → slice_get f.blocks k ≡ None → ⊥
-numbered f firsts k n are at none = none_some (sym (nowhere (length f.temps) f.blocks k none) ∙ ap (λ ns. slice_get ns k) (sym are) ∙ at)
+numbered f firsts k n are at none = none_chosen (sym (nowhere (length f.temps) f.blocks k none) ∙ ap (λ ns. slice_get ns k) (sym are) ∙ at)
 
 pub entry_small : (f : Func) (firsts : List ℕ) (k n : ℕ) → IsGoodFunction f → firsts ≡ first_numbers (length f.temps) f.blocks → slice_get firsts k ≡ Some n → n + length (phis_at f.blocks k) ≤ 44000
 entry_small f firsts k n good are at = by (slice_get f.blocks k) refl
@@ -73,7 +68,7 @@ entry_unnumbered f firsts k are none = by (slice_get f.blocks k) refl
   where
     by : (b : Option Block) → slice_get f.blocks k ≡ b → slice_get f.blocks k ≡ None
     by None e = e
-    by (Some b) e = absurd (none_some (sym none ∙ ap (λ ns. slice_get ns k) are ∙ number_at (length f.temps) f.blocks k b e))
+    by (Some b) e = absurd (none_chosen (sym none ∙ ap (λ ns. slice_get ns k) are ∙ number_at (length f.temps) f.blocks k b e))
 
 -- ---- a block has at most two edges
 

@@ -9,13 +9,10 @@ use Rattle.il_ast.specs.declared.text.Definition.TheVariants.{Function}
 use Rattle.il_ast.specs.declared.text.Text.{Text}
 use Rattle.il_types.specs.declared.rule.Rule.{Rule}
 use Rattle.il_types.specs.declared.rule.Rule.TheVariants.{DistinctGlobals, DistinctLocals, KnownLabels, EntryNotTarget, LastBlockEnds, OneType, OperandFits, PhiCoversPredecessors, AllocInEntry, ReturnFits, DefinedTemporaries, DataFields, Alignment, BlitSize}
-use Rattle.il_types.specs.First.{or_else, first}
+use Rattle.il_types.specs.First.{first}
 use Rattle.il_types.specs.Rules.{broken_in_function, broken_in, definition_within, IsGood}
 use Rattle.phi_copies.specs.Good.{IsGoodFunction}
-
-none_first : (a b : Option ℕ) → or_else a b ≡ None → (a ≡ None) × (b ≡ None)
-none_first None b h = (refl, h)
-none_first (Some n) b h = absurd (let no : ⊥ = cc in no)
+use Rattle.il_types.proofs.ArgumentLemmas.{none_first}
 
 -- what no definition breaks, none does
 none_at : (g : Definition → Option ℕ) (ds : List Definition) (k : ℕ) (d : Definition) → first g ds ≡ None → slice_get ds k ≡ Some d → g d ≡ None

@@ -1,5 +1,5 @@
 -- Lists of temporaries: what stands where after a write, and that copies leave their number.
-use Rattle.std.proofs.Common.{◌≡◌, ◌≢◌, ℕ, zero, suc, ◌+◌, ◌-◌, ◌<◌, ◌≤◌, List, [], ◌∷◌, ◌++◌, length, take, drop, map, get_or, refl, sym, ◌∙◌, ap, append_assoc, arith}
+use Rattle.std.proofs.Common.{◌≡◌, ◌≢◌, ℕ, zero, suc, ◌+◌, ◌-◌, ◌<◌, List, [], ◌∷◌, ◌++◌, length, take, drop, map, get_or, refl, sym, ◌∙◌, ap, append_assoc, arith}
 use Rattle.std.specs.Prelude.{slice_get, slice_set, Option, Some, None}
 use Rattle.std.specs.Option.{option_map, option_and_then}
 use Rattle.std.proofs.lemmas.List.{length-set, drop_more}
@@ -11,17 +11,6 @@ use Rattle.phi_copies.specs.Endings.{copied}
 
 pub some_same : {A : Type 0} {x y : A} → Some x ≡ Some y → x ≡ y
 some_same h = cc
-
-pub get_past : {A : Type 0} (xs ys : List A) (d : ℕ) → slice_get (xs ++ ys) (length xs + d) ≡ slice_get ys d
-get_past {A} [] ys d = let e : 0 + d ≡ d = omega arith in ap (slice_get ys) e
-get_past {A} (y ∷ xs) ys d =
-    let e : suc (length xs) + d ≡ suc (length xs + d) = omega arith in
-    ap (slice_get (y ∷ (xs ++ ys))) e ∙ get_past xs ys d
-
-pub get_set : {A : Type 0} (xs : List A) (k : ℕ) (x : A) → k < length xs → slice_get (slice_set xs k x) k ≡ Some x
-get_set [] k x lt = absurd (omega arith)
-get_set (y ∷ xs) zero x lt = refl
-get_set (y ∷ xs) (suc k) x lt = get_set xs k x (omega arith)
 
 pub get_set_other : {A : Type 0} (xs : List A) (j k : ℕ) (x : A) → j ≢ k → slice_get (slice_set xs k x) j ≡ slice_get xs j
 get_set_other [] j k x differ = refl
@@ -57,16 +46,6 @@ get_take zero xs k lt = absurd (omega arith)
 get_take (suc n) [] k lt = refl
 get_take (suc n) (x ∷ xs) zero lt = refl
 get_take (suc n) (x ∷ xs) (suc k) lt = get_take n xs k (omega arith)
-
-pub length_take : {A : Type 0} (n : ℕ) (xs : List A) → n ≤ length xs → length (take n xs) ≡ n
-length_take zero xs le = refl
-length_take (suc n) [] le = absurd (omega arith)
-length_take (suc n) (x ∷ xs) le = ap suc (length_take n xs (omega arith))
-
-pub length_drop : {A : Type 0} (n : ℕ) (xs : List A) → length (drop n xs) ≡ length xs - n
-length_drop zero xs = omega arith
-length_drop (suc n) [] = omega arith
-length_drop (suc n) (x ∷ xs) = let rest = length_drop n xs in omega (arith, rest)
 
 -- ---- copies and phis
 

@@ -1,6 +1,6 @@
 -- What each loop keeps, and one turn of it.
 use Rattle.std.proofs.Common.{◌≡◌, ◌≢◌, ◌⊎◌, inl, inr, ℕ, ◌+◌, ◌-◌, ◌<◌, Bool, true, false, not, cond, eqb, map, reverse, List, [], ◌∷◌, ◌++◌, length, set, Option, Some, None, All, refl, sym, ap, ◌∙◌, arith, ⊎_elim}
-use Rattle.std.proofs.lemmas.Bool.{false≢true, cases_lt}
+use Rattle.std.proofs.lemmas.Bool.{false≢true, cases_lt, cases_eq}
 use Rattle.std.proofs.lemmas.Option.{same_Some, none-some}
 use Rattle.std.proofs.lemmas.List.{same_lists, get_or_default, get_or-map, get_or-reverse, length-map, length-reverse}
 use Rattle.std.proofs.lemmas.List.Elements.{All-nil}
@@ -9,7 +9,7 @@ use Rattle.std.proofs.lemmas.Bool.Decides.{Decides-eqb}
 use Rattle.phi_copies.specs.Moves.{HasDistinctDestinations, IsUnnamed, IsBetween, proper_count}
 use Rattle.phi_copies.specs.Order.{no_move, to_of, from_of, is_placed, Given, State, IsFew, waiting_count, at, Way, Seen, IsWritten, Leads, Settled, Keeps, Open, Sequencing}
 use Rattle.phi_copies.specs.declared.moves.Move.{Move}
-use Rattle.phi_copies.proofs.Placing.{cases_eq, placed_same}
+use Rattle.phi_copies.proofs.Placing.{placed_same}
 use Rattle.phi_copies.proofs.Progress.{placed_kept, place_plain, place_open, place_save, few_placed, few_saved}
 use Rattle.phi_copies.proofs.Paths.{Distinct, at_last, longer, step, step_seen, end_range, end_waiting, end_settled, back, back_settled, back_seen, still_there}
 

@@ -3,7 +3,7 @@ use Rattle.std.proofs.Common.{◌≡◌, ℕ, zero, suc, ◌+◌, ◌-◌, ◌%�
 use Rattle.std.specs.Prelude.{slice_get, slice_set, Option, Some, None}
 use Rattle.std.specs.Option.{option_and_then}
 use Rattle.std.proofs.lemmas.Bool.Decides.{nat_tests}
-use Rattle.std.proofs.lemmas.List.{length-set, length-append, length-replicate, replicate-append-replicate}
+use Rattle.std.proofs.lemmas.List.{length-set, length-append, length-replicate, replicate-append-replicate, length-drop}
 use Rattle.std.proofs.lemmas.Option.{slice_get_past, slice_get_within}
 use Rattle.il_ast.specs.declared.operation.Class.{Class}
 use Rattle.il_ast.specs.declared.operation.Class.TheVariants.{W}
@@ -37,8 +37,9 @@ use Rattle.phi_copies.specs.Lowered.{or_zero, target, Edge, edge_with, edge, pas
 use Rattle.il_ast.specs.Passes.{classes_of}
 use Rattle.phi_copies.specs.Keeping.{KeepsFunction}
 use Rattle.phi_copies.proofs.MoreKnown.{operand_less, behind, set_both, length_behind, Follows, locals, inst_follows}
-use Rattle.phi_copies.proofs.Lists.{get_past, take_own, parts_of, length_drop, mapped, length_copied, length_with_phis}
+use Rattle.phi_copies.proofs.Lists.{take_own, parts_of, mapped, length_copied, length_with_phis}
 use Rattle.phi_copies.proofs.EdgePlaces.{edges_before, ending_at, on_edge_at, edge_at}
+use Rattle.il_ast.proofs.Listed.{get_behind}
 
 -- ---- related states
 
@@ -201,7 +202,7 @@ entry_done c a m s extra from l k b vs e long own enters copies leave =
     let r = mapped (take n) (copied c.globals (xs ++ extra) e.copies) _ (copies.at_once c.globals (xs ++ extra) vs all values) in
     let now : take n r.item ≡ with_phis xs b.phis vs = r.to ∙ ap (λ ts. with_phis ts (phis_at c.func.blocks k) vs) mine ∙ ap (λ ps. with_phis xs ps vs) phis in
     let many = length_copied c.globals (xs ++ extra) r.item e.copies r.is in
-    let rest = length_drop n r.item in
+    let rest = length-drop n r.item in
     let done : copied c.globals (xs ++ extra) e.copies ≡ Some (with_phis xs b.phis vs ++ drop n r.item) =
     r.is ∙ ap Some (parts_of n r.item) ∙ ap (λ ts. Some (ts ++ drop n r.item)) now in
     record {
@@ -370,7 +371,7 @@ first_edge c from number k rest (p ∷ ps) h = number_has c from number k (h _ r
 
 second_edge : (c : Setting) (from number k : ℕ) (before : List Edge) (phis : List Phi) → ((w : Edge) → slice_get (before ++ edge_with from k phis) (length before + 0) ≡ Some w → slice_get (all_edges c.func c.func.blocks) number ≡ Some w) → HasEdge c from number k phis
 second_edge c from number k before [] h = tt
-second_edge c from number k before (p ∷ ps) h = number_has c from number k (h _ (get_past before (edge_with from k (p ∷ ps)) 0))
+second_edge c from number k before (p ∷ ps) h = number_has c from number k (h _ (get_behind before (edge_with from k (p ∷ ps)) 0))
 
 branch_taken : (c : Setting) (n : ℕ) (a : Activation) (m : Memory) (s : Spent) (extra : List (Option Value)) (b : Block) (j : Lined Jump) (on : Val) (nonzero otherwise : ℕ) → slice_get c.func.blocks a.block ≡ Some b → b.jump ≡ Some j → j.item ≡ Branch on nonzero otherwise → nat_eq nonzero otherwise ≡ false → Due c n a m s extra → (e : Ending) → IsJumpEnding c.func b.label (edges_before c.func c.func.blocks a.block) (Branch on nonzero otherwise) e → EndsWith c a m s extra e → TakesTurn (Rel c) (go c) c.given.room n m s (at a m s extra) (branched (env c) b.label a.locals m nonzero otherwise (operand c.globals a.locals.temps W on))
 branch_taken c n a m s extra b j on nonzero otherwise here jump item differ due e is goes =

@@ -17,13 +17,9 @@ use Rattle.il_ast.specs.Values.{in_place, byte_count}
 use Rattle.il_ast.specs.Memory.{Memory, store, copy, fresh}
 use Rattle.il_ast.specs.Operations.{operand_class, left_class, right_class, operate_one, operate_two}
 use Rattle.il_ast.specs.Effect.{Locals, InstEffect, Done, Asks, Fails, value_at, operand, all_operands, assigned, changed, stored_class, blit_weight, call_effect, inst_effect}
+use Rattle.il_ast.proofs.Listed.{get_before}
 
 -- ---- lists with more behind them
-
-pub get_more : {A : Type 0} (xs ys : List A) (k : ℕ) (x : A) → slice_get xs k ≡ Some x → slice_get (xs ++ ys) k ≡ Some x
-get_more [] ys k x h = absurd (let no : ⊥ = cc in no)
-get_more (y ∷ xs) ys zero x h = h
-get_more (y ∷ xs) ys (suc k) x h = get_more xs ys k x h
 
 -- what stands behind a list after a write to the whole
 abbrev pub behind : {A : Type 0} → List A → List A → ℕ → A → List A
@@ -57,7 +53,7 @@ map_less (Some y) p f h x e = ap (option_map f) (h y refl) ∙ e
 
 flatten_less : {A : Type 0} (xs ys : List (Option A)) (k : ℕ) (o : Option (Option A)) → slice_get xs k ≡ o → Less (option_flatten o) (option_flatten (slice_get (xs ++ ys) k))
 flatten_less xs ys k None e x h = absurd (let no : ⊥ = cc in no)
-flatten_less xs ys k (Some y) e x h = ap option_flatten (get_more xs ys k y e) ∙ h
+flatten_less xs ys k (Some y) e x h = ap option_flatten (get_before xs ys k y e) ∙ h
 
 value_less : (globals : List Value) (xs ys : List (Option Value)) (a : Val) → Less (value_at globals xs a) (value_at globals (xs ++ ys) a)
 value_less globals xs ys (Int n) v h = h

@@ -1,10 +1,10 @@
 -- The way from a move along the moves that write what is read, as far as none of them is placed.
 use Rattle.std.proofs.Common.{◌≡◌, ◌≢◌, ◌⊎◌, inl, inr, ℕ, ◌+◌, ◌<◌, Bool, true, false, List, [], ◌∷◌, ◌++◌, length, set, Some, refl, sym, ap, ◌∙◌, arith, ⊎_elim, length-append}
-use Rattle.std.proofs.lemmas.Bool.{false≢true, false_from_ne_true}
+use Rattle.std.proofs.lemmas.Bool.{false≢true, false_from_ne_true, cases_eq}
 use Rattle.std.proofs.lemmas.List.{get_or_push, get_or_append_left}
 use Rattle.phi_copies.specs.declared.moves.Move.{Move}
 use Rattle.phi_copies.specs.Order.{to_of, from_of, is_placed, at, Way, Seen, Leads, Settled}
-use Rattle.phi_copies.proofs.Placing.{cases_eq, placed_same, placed_other}
+use Rattle.phi_copies.proofs.Placing.{placed_same, placed_other}
 
 -- no two moves have one destination, by places in the list
 abbrev pub Distinct : List Move → Type 0

@@ -28,19 +28,19 @@ use Rattle.phi_copies.proofs.Members.{Among, among_left, among_right, flat_among
 
 -- ---- rules that nothing breaks
 
-neither_first : (a b : Option ℕ) → or_else a b ≡ None → a ≡ None
+pub neither_first : (a b : Option ℕ) → or_else a b ≡ None → a ≡ None
 neither_first None b h = refl
 neither_first (Some n) b h = absurd (let none : ⊥ = cc in none)
 
-not_broken : (b : Bool) (line : ℕ) → when b line ≡ None → b ≡ false
+pub not_broken : (b : Bool) (line : ℕ) → when b line ≡ None → b ≡ false
 not_broken true line h = absurd (let none : ⊥ = cc in none)
 not_broken false line h = refl
 
-neither_second : (a b : Option ℕ) → or_else a b ≡ None → b ≡ None
+pub neither_second : (a b : Option ℕ) → or_else a b ≡ None → b ≡ None
 neither_second None b h = h
 neither_second (Some n) b h = absurd (let none : ⊥ = cc in none)
 
-none_among : {A : Type 0} (g : A → Option ℕ) (xs : List A) (x : A) → first g xs ≡ None → Among x xs → g x ≡ None
+pub none_among : {A : Type 0} (g : A → Option ℕ) (xs : List A) (x : A) → first g xs ≡ None → Among x xs → g x ≡ None
 none_among g [] x h a = absurd a
 none_among g (y ∷ xs) x h (inl e) = ap g e ∙ neither_first (g y) (first g xs) h
 none_among g (y ∷ xs) x h (inr a) = none_among g xs x (neither_second (g y) (first g xs) h) a
@@ -101,7 +101,7 @@ record Argument (p : Phi) (t : ℕ) : Type 0 where
   there : Among arg p.args
   value : arg.value ≡ Temp t
 
-find_among : (from : ℕ) (args : List PhiArg) (a : PhiArg) → find (λ (x : PhiArg). nat_eq x.from from) args ≡ Some a → Among a args
+pub find_among : (from : ℕ) (args : List PhiArg) (a : PhiArg) → find (λ (x : PhiArg). nat_eq x.from from) args ≡ Some a → Among a args
 find_among from [] a h = absurd (let none : ⊥ = cc in none)
 find_among from (x ∷ args) a h = by (nat_eq x.from from) h (find_among from args a)
   where
@@ -139,7 +139,7 @@ reads_own f b from p t a h s =
 
 -- ---- a long phi reads no word
 
-any_among : {A : Type 0} (g : A → Bool) (xs : List A) (x : A) → g x ≡ true → Among x xs → list_any g xs ≡ true
+pub any_among : {A : Type 0} (g : A → Bool) (xs : List A) (x : A) → g x ≡ true → Among x xs → list_any g xs ≡ true
 any_among g [] x h a = absurd a
 any_among g (y ∷ xs) x h (inl e) = ap (λ b. b || list_any g xs) (ap g (sym e) ∙ h)
 any_among g (y ∷ xs) x h (inr a) = by (g y) (any_among g xs x h a)

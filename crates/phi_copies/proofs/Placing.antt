@@ -1,7 +1,7 @@
 -- Putting one move before others that are done in a right order already.
 use Rattle.std.proofs.Common.{◌≡◌, ◌≢◌, ◌⊎◌, inl, inr, ℕ, ◌<◌, Bool, true, false, cond, eqb, List, ◌∷◌, length, set, Option, Some, None, refl, sym, ap, ◌∙◌, arith, ⊎_elim}
 use Rattle.std.proofs.lemmas.Bool.Decides.{Decides-eqb}
-use Rattle.std.proofs.lemmas.Bool.{false≢true}
+use Rattle.std.proofs.lemmas.Bool.{false≢true, cases_eq}
 use Rattle.std.proofs.lemmas.List.{get_or-set_same, get_or-set_other}
 use Rattle.std.proofs.lemmas.Option.{same_Some}
 use Rattle.phi_copies.specs.Moves.{after}
@@ -30,13 +30,6 @@ placed_same placed i h = get_or-set_same placed i true false h
 
 pub placed_other : (placed : List Bool) (i j : ℕ) → j ≢ i → is_placed (set placed i true) j ≡ is_placed placed j
 placed_other placed i j h = get_or-set_other placed i j true false h
-
-pub cases_eq : (a b : ℕ) → (a ≡ b) ⊎ (a ≢ b)
-cases_eq a b = at (eqb a b) (Decides-eqb a b)
-  where
-    at : (x : Bool) → (x ≡ true → a ≡ b) × (a ≡ b → x ≡ true) → (a ≡ b) ⊎ (a ≢ b)
-    at true d = inl (d.0 refl)
-    at false d = inr (λ e. false≢true (d.1 e))
 
 -- where a move finds its value
 pub source_cases : (ms : List Move) (scratch : ℕ) (o : Option ℕ) (j : ℕ)

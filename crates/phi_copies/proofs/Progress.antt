@@ -1,6 +1,6 @@
 -- How far the moves have been put in order: `out` has them from the last to the first.
 use Rattle.std.proofs.Common.{◌≡◌, ◌≢◌, ◌⊎◌, inl, inr, ℕ, ◌+◌, ◌<◌, Bool, true, false, not, cond, List, [], ◌∷◌, ◌++◌, length, get_or, set, reverse, Option, Some, None, Any, refl, sym, ap, ◌∙◌, arith, ⊎_elim, length-append}
-use Rattle.std.proofs.lemmas.Bool.{false≢true}
+use Rattle.std.proofs.lemmas.Bool.{false≢true, cases_eq}
 use Rattle.std.proofs.lemmas.List.{reverse-append, length-set, get_or_default}
 use Rattle.std.proofs.lemmas.List.Elements.{All-push}
 use Rattle.std.proofs.lemmas.List.Sums.{sum_by-set}
@@ -8,7 +8,7 @@ use Rattle.std.proofs.lemmas.Option.{same_Some, none-some}
 use Rattle.phi_copies.specs.Moves.{DoesAtOnce, IsBetween, IsRead, ReadsKnown}
 use Rattle.phi_copies.specs.Order.{no_move, to_of, from_of, is_placed, Given, Known, State, waiting_count, IsFew}
 use Rattle.phi_copies.specs.declared.moves.Move.{Move}
-use Rattle.phi_copies.proofs.Placing.{place, save, source_cases, cases_eq, placed_same, placed_other}
+use Rattle.phi_copies.proofs.Placing.{place, save, source_cases, placed_same, placed_other}
 
 pub placed_kept : (placed : List Bool) (i j : ℕ) → i < length placed → is_placed placed j ≡ true → is_placed (set placed i true) j ≡ true
 placed_kept placed i j l h = ⊎_elim (λ e. rw e (placed_same placed i l)) (λ n. placed_other placed i j n ∙ h) (cases_eq j i)

@@ -15,9 +15,11 @@ use Rattle.phi_copies.specs.Endings.{copied}
 use Rattle.phi_copies.specs.Moves.{after, ReadsKnown}
 use Rattle.phi_copies.specs.Together.{copy_of}
 use Rattle.phi_copies.proofs.Carrying.{after_agree}
-use Rattle.phi_copies.proofs.Lists.{some_same, get_set, get_set_other}
+use Rattle.phi_copies.proofs.Lists.{some_same, get_set_other}
 use Rattle.phi_copies.proofs.Members.{Among}
-use Rattle.phi_copies.proofs.Placing.{cases_eq, after_same, after_other}
+use Rattle.phi_copies.proofs.Placing.{after_same, after_other}
+use Rattle.il_ast.proofs.Listed.{get_set_same}
+use Rattle.std.proofs.lemmas.Bool.{cases_eq}
 
 -- ---- a value that a place has given passes it again
 
@@ -44,7 +46,7 @@ reading_set : (globals : List Value) (ts : List (Option Value)) (c : Class) (m :
 reading_set globals ts c m v inside known q =
     ⊎_elim
     (λ e.
-    let here : slice_get (slice_set ts m.to (Some v)) q ≡ Some (Some v) = ap (slice_get (slice_set ts m.to (Some v))) e ∙ get_set ts m.to (Some v) inside in
+    let here : slice_get (slice_set ts m.to (Some v)) q ≡ Some (Some v) = ap (slice_get (slice_set ts m.to (Some v))) e ∙ get_set_same ts m.to (Some v) inside in
     ap (λ (o : Option (Option Value)). option_and_then (in_place c) (option_flatten o)) here
     ∙ value_passes c _ v known
     ∙ sym (after_same (reading globals ts c) m q e ∙ known))
@@ -119,7 +121,7 @@ run globals ts c (m ∷ ms) known defined reads inside =
           (λ e.
           rest.kept q n
           ∙ ap (slice_get ts') e
-          ∙ get_set ts m.to (Some v) here
+          ∙ get_set_same ts m.to (Some v) here
           ∙ ap Some (sym (after_unless (λ p. cond (eqb p m.to) (env m.from) (env p)) ms q n ∙ after_same env m q e ∙ d.1)))
           (λ later. absurd (n later)) g)
           (goes_or_not q ms);

@@ -18,22 +18,14 @@ use Rattle.phi_copies.specs.Endings.{copied}
 use Rattle.phi_copies.specs.Moves.{after, IsBetween, IsRead, proper_count}
 use Rattle.phi_copies.specs.Together.{move_to, move_of, move_in, in_front, moves_in, copy_of, unless_moved, rest_of, first_in, IsSequence, IsInOrder}
 use Rattle.phi_copies.proofs.Carrying.{does_at_once}
-use Rattle.phi_copies.proofs.Lists.{some_same, get_set, get_set_other, copied_then}
+use Rattle.phi_copies.proofs.Lists.{some_same, get_set_other, copied_then}
 use Rattle.phi_copies.proofs.Members.{Among, among_all, one_of}
-use Rattle.phi_copies.proofs.Placing.{cases_eq}
 use Rattle.phi_copies.proofs.Running.{value_passes, reading, Goes, goes_or_not, after_unless, AllRead, Ran, run}
+use Rattle.il_ast.proofs.Listed.{get_set_same}
+use Rattle.il_ast.proofs.Alike.{same_class_is, class_itself}
+use Rattle.std.proofs.lemmas.Bool.{cases_eq}
 
 -- ---- which copies are moves
-
-class_same : (a b : Class) → same_class a b ≡ true → a ≡ b
-class_same W W h = refl
-class_same W L h = absurd (let no : ⊥ = cc in no)
-class_same L W h = absurd (let no : ⊥ = cc in no)
-class_same L L h = refl
-
-pub same_self : (a : Class) → same_class a a ≡ true
-same_self W = refl
-same_self L = refl
 
 -- a move between two temporaries
 pub record IsMoveOf (c : Assignment) (m : Move) : Type 0 where
@@ -63,11 +55,11 @@ pub is_mover : (k : Class) (c : Assignment) (m : Move) → move_in k c ≡ Some 
 is_mover k c m h = by (same_class c.to.class k) refl h
   where
     by : (b : Bool) → same_class c.to.class k ≡ b → cond b (move_of c) None ≡ Some m → IsMover k c m
-    by true e g = record { class = class_same c.to.class k e; move = g }
+    by true e g = record { class = same_class_is c.to.class k e; move = g }
     by false e g = absurd (let no : ⊥ = cc in no)
 
 pub mover_in : (k : Class) (c : Assignment) (m : Move) → c.to.class ≡ k → move_of c ≡ Some m → move_in k c ≡ Some m
-mover_in k c m class move = ap (λ b. cond b (move_of c) None) (ap (λ x. same_class x k) class ∙ same_self k) ∙ move
+mover_in k c m class move = ap (λ b. cond b (move_of c) None) (ap (λ x. same_class x k) class ∙ class_itself k) ∙ move
 
 -- where a move came from
 pub record CameFrom (k : Class) (cs : List Assignment) (m : Move) : Type 0 where
@@ -268,7 +260,7 @@ again globals ts c v h inside known = by c.value h known
         at false e i = absurd (let none : ⊥ = cc in none)
         at true e i =
             let here : u ≡ c.to.temp = grind (arith, nat_tests) in
-            let written : slice_get (slice_set ts c.to.temp (Some v)) u ≡ Some (Some v) = ap (slice_get (slice_set ts c.to.temp (Some v))) here ∙ get_set ts c.to.temp (Some v) inside in
+            let written : slice_get (slice_set ts c.to.temp (Some v)) u ≡ Some (Some v) = ap (slice_get (slice_set ts c.to.temp (Some v))) here ∙ get_set_same ts c.to.temp (Some v) inside in
             ap (λ (o : Option (Option Value)). option_and_then (in_place c.to.class) (option_flatten o)) written ∙ value_passes c.to.class _ v j ∙ sym j
 
 -- what the rest leaves
@@ -319,7 +311,7 @@ rest globals ts (c ∷ cs) once stays inside defined =
           (λ e. ⊎_elim
           (λ w. let one : x ≡ w.0 = once x w.0 a (inr w.1) w.2 in
           ap (λ (y : Assignment). slice_get more.now y.to.temp) one ∙ more.held w.0 w.1 ∙ ap Some (same w.0 w.1) ∙ ap (λ (y : Assignment). Some (operand globals ts y.to.class y.value)) (sym one))
-          (λ n. more.kept x.to.temp n ∙ ap (λ (y : Assignment). slice_get ts' y.to.temp) e ∙ get_set ts c.to.temp (Some v) here ∙ ap Some (sym d.1) ∙ ap (λ (y : Assignment). Some (operand globals ts y.to.class y.value)) (sym e))
+          (λ n. more.kept x.to.temp n ∙ ap (λ (y : Assignment). slice_get ts' y.to.temp) e ∙ get_set_same ts c.to.temp (Some v) here ∙ ap Some (sym d.1) ∙ ap (λ (y : Assignment). Some (operand globals ts y.to.class y.value)) (sym e))
           (goes_to x.to.temp cs))
           (λ b. more.held x b ∙ ap Some (same x b)) a;
       kept = λ q n. more.kept q (λ x a. n x (inr a)) ∙ get_set_other ts q c.to.temp (Some v) (n c (inl refl));

@@ -5,7 +5,6 @@ use Rattle.std.specs.Option.{option_map, option_and_then}
 use Rattle.std.specs.Int.{w8, w16, w32, w64, cast_signed, cast_unsigned}
 use Rattle.std.proofs.Math.Nat.{pow-suc}
 use Rattle.std.proofs.lemmas.Int.{ints, of_z-to_z}
-use Rattle.std.proofs.lemmas.Bool.Decides.{nat_tests}
 use lib.Arith.{mod-mul}
 use Rattle.il_ast.specs.declared.operation.Class.{Class}
 use Rattle.il_ast.specs.declared.operation.Class.TheVariants.{W, L}
@@ -17,17 +16,17 @@ use Rattle.il_ast.specs.declared.operation.UnaryOp.{UnaryOp}
 use Rattle.il_ast.specs.declared.operation.UnaryOp.TheVariants.{LoadLong, Load}
 use Rattle.il_ast.specs.declared.value.Value.{Value}
 use Rattle.il_ast.specs.declared.value.Value.TheVariants.{Integer, Pointer, Function}
-use Rattle.il_ast.specs.declared.value.Callee.{Callee}
-use Rattle.il_ast.specs.declared.value.Callee.TheVariants.{Defined, SystemWrite, SystemExit}
 use Rattle.il_ast.specs.declared.value.Cell.{Cell}
 use Rattle.il_ast.specs.declared.value.Cell.TheVariants.{Plain}
-use Rattle.il_ast.specs.Values.{bytes_of, number_of, byte_count, in_place, same_value, same_callee}
+use Rattle.il_ast.specs.Values.{bytes_of, number_of, byte_count, in_place, same_value}
 use Rattle.il_ast.specs.Memory.{Memory, parts, cells_for, plain_bytes, are_parts_from, value_of}
 use Rattle.il_ast.specs.Operations.{operand_class, extended, extension_bytes, widened, operate_one}
 use Rattle.promote.specs.Uses.{extension_size}
 use Rattle.promote.specs.Promoted.{storing, extending, loading}
 use Rattle.promote.proofs.Hiding.{Marks, moved, moved_if, Clean, IfClean}
 use Rattle.promote.proofs.Ranges.{extended_fits}
+use Rattle.il_ast.proofs.Truth.{equals_itself}
+use Rattle.il_ast.proofs.Alike.{callee_itself}
 
 -- ---- bytes
 
@@ -75,18 +74,10 @@ integer_back k n = value_back (bytes_of k n) ∙ ap (λ x. Some (Integer x)) (nu
 
 -- ---- pointers and functions
 
-same_number : (n : ℕ) → nat_eq n n ≡ true
-same_number n = grind (arith, nat_tests)
-
-callee_same : (f : Callee) → same_callee f f ≡ true
-callee_same (Defined f) = same_number f
-callee_same SystemWrite = refl
-callee_same SystemExit = refl
-
 value_same : (v : Value) → same_value v v ≡ true
-value_same (Integer n) = same_number n
-value_same (Pointer b o) = ap (λ x. x && nat_eq o o) (same_number b) ∙ same_number o
-value_same (Function f) = callee_same f
+value_same (Integer n) = equals_itself n
+value_same (Pointer b o) = ap (λ x. x && nat_eq o o) (equals_itself b) ∙ equals_itself o
+value_same (Function f) = callee_itself f
 
 parts_right : (v : Value) → are_parts_from 0 v (parts v) ≡ true
 parts_right v =

@@ -13,6 +13,7 @@ use Rattle.promote.specs.declared.standing.Standing.{Standing}
 use Rattle.promote.specs.declared.standing.Standing.TheVariants.{Unseen, Unused, Kept, Refused}
 use Rattle.promote.specs.Uses.{same_size, suits, begins_made, is_promotable, roles, width_in}
 use Rattle.promote.specs.Tables.{seen_all, width, standing_at, widths_by}
+use Rattle.il_ast.proofs.Truth.{and_false, and_true}
 
 -- ---- sizes
 
@@ -64,19 +65,11 @@ accessed s q r rs true e h =
     ap (λ x. same_size q s && (same_size x s && list_all (suits s) rs)) (same_true r q e) ∙ (twice (same_size q s) (list_all (suits s) rs) ∙ h)
 accessed s q r rs false e h = differ s q r (list_all (suits s) rs) e ∙ sym (refused s rs)
 
-never : (b : Bool) → (b && false) ≡ false
-never true = refl
-never false = refl
-
-always : (b : Bool) → (b && true) ≡ b
-always true = refl
-always false = refl
-
 after_kept : (s q : Size) (rs : List Role) → (same_size q s && list_all (suits s) rs) ≡ stands s (seen_all (Kept q) rs)
-after_kept s q [] = always (same_size q s)
+after_kept s q [] = and_true (same_size q s)
 after_kept s q (Made ∷ rs) = after_kept s q rs
 after_kept s q (Accessed r ∷ rs) = accessed s q r rs (same_size r q) refl (after_kept s q rs)
-after_kept s q (Used ∷ rs) = never (same_size q s) ∙ sym (refused s rs)
+after_kept s q (Used ∷ rs) = and_false (same_size q s) ∙ sym (refused s rs)
 
 after_made : (s : Size) (rs : List Role) → list_all (suits s) rs ≡ stands s (seen_all Unused rs)
 after_made s [] = refl

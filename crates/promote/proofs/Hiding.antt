@@ -2,7 +2,6 @@
 use Rattle.std.proofs.Common.{◌≡◌, ℕ, zero, suc, ◌+◌, ◌*◌, ◌/◌, ◌^◌, ◌<◌, ◌≤◌, Bool, true, false, not, ◌&&◌, ◌||◌, nat_eq, nat_le, cond, List, [], ◌∷◌, ◌++◌, map, length, take, drop, replicate, refl, sym, ◌∙◌, ap, subst, arith, lit<, mod-lt}
 use Rattle.std.specs.Prelude.{slice_get, slice_set, Option, Some, None}
 use Rattle.std.specs.Option.{option_map, option_and_then, option_flatten}
-use Rattle.std.proofs.lemmas.Bool.Decides.{nat_tests}
 use Rattle.std.proofs.lemmas.List.{length-set, length-map, take-map, drop-map, map-append}
 use Rattle.std.proofs.Math.Dec.{eqb-zero-suc, eqb-suc-zero, eqb-suc-suc}
 use Rattle.std.proofs.Math.Nat.{pow-succ'}
@@ -14,6 +13,7 @@ use Rattle.il_ast.specs.declared.value.Cell.{Cell}
 use Rattle.il_ast.specs.declared.value.Cell.TheVariants.{Plain, Part, Blank}
 use Rattle.il_ast.specs.Values.{bytes_of, number_of, same_value}
 use Rattle.il_ast.specs.Memory.{Memory, block_at, parts, cells_for, plain_bytes, are_parts_from, value_of, span, put, cells_at, write_at, load, store, apart_or_same, copy, fresh, free, free_all}
+use Rattle.il_ast.proofs.Listed.{get_before, get_set_other}
 
 -- for each block ever made whether it is hidden
 abbrev pub Marks : Type 0
@@ -61,18 +61,6 @@ abbrev pub shown : Marks → Memory → Memory
 shown hs m = shown_by hs hs m
 
 -- ---- lists
-
-pub get_set_other : {X : Type 0} (xs : List X) (i j : ℕ) (x : X) → nat_eq j i ≡ false → slice_get (slice_set xs i x) j ≡ slice_get xs j
-get_set_other [] i j x h = refl
-get_set_other (y ∷ ys) zero zero x h = absurd (let no : ⊥ = cc in no)
-get_set_other (y ∷ ys) zero (suc j) x h = refl
-get_set_other (y ∷ ys) (suc i) zero x h = refl
-get_set_other (y ∷ ys) (suc i) (suc j) x h = get_set_other ys i j x (let e : nat_eq j i ≡ false = grind (arith, nat_tests) in e)
-
-pub get_set_same : {X : Type 0} (xs : List X) (i : ℕ) (x : X) → i < length xs → slice_get (slice_set xs i x) i ≡ Some x
-get_set_same [] i x h = absurd (omega arith)
-get_set_same (y ∷ ys) zero x h = refl
-get_set_same (y ∷ ys) (suc i) x h = get_set_same ys i x (omega arith)
 
 -- what is found after a change is new, or was there
 pub get_set : {X : Type 0} (P : X → Type 0) (xs : List X) (i j : ℕ) (x y : X) → P x → ((z : X) → slice_get xs j ≡ Some z → P z) → slice_get (slice_set xs i x) j ≡ Some y → P y
@@ -599,13 +587,8 @@ get_end P [] x y (suc b) new old e = absurd (let no : ⊥ = cc in no)
 get_end P (z ∷ zs) x y zero new old e = old y e
 get_end P (z ∷ zs) x y (suc b) new old e = get_end P zs x y b new old e
 
-get_old : {X : Type 0} (xs ys : List X) (b : ℕ) (x : X) → slice_get xs b ≡ Some x → slice_get (xs ++ ys) b ≡ Some x
-get_old [] ys b x e = absurd (let no : ⊥ = cc in no)
-get_old (z ∷ zs) ys zero x e = e
-get_old (z ∷ zs) ys (suc b) x e = get_old zs ys b x e
-
 pub marks_grow : (hs : Marks) (h : Bool) → Extends hs (hs ++ h ∷ [])
-marks_grow hs h b x e = get_old hs (h ∷ []) b x e
+marks_grow hs h b x e = get_before hs (h ∷ []) b x e
 
 hidden_last : (ks hs : Marks) (m : Memory) (n : ℕ) → length hs ≡ length m → shown_by ks (hs ++ true ∷ []) (fresh m n) ≡ shown_by ks hs m
 hidden_last ks [] [] n e = refl
@@ -662,10 +645,6 @@ free_clean hs m b h d x e g = get_set (IfCleanCells hs) m b d None x tt (λ z s.
 pub free_all_clean : (hs : Marks) (m : Memory) (bs : List ℕ) → CleanMemory hs m → CleanMemory hs (free_all m bs)
 free_all_clean hs m [] h = h
 free_all_clean hs m (b ∷ bs) h = free_all_clean hs (free m b) bs (free_clean hs m b h)
-
-pub length_free : (m : Memory) (bs : List ℕ) → length (free_all m bs) ≡ length m
-length_free m [] = refl
-length_free m (b ∷ bs) = length_free (free m b) bs ∙ length-set m b None
 
 -- ---- the blocks of an activation
 

@@ -1,10 +1,10 @@
 -- Allocs, and loads and stores of promoted temporaries, on both sides.
-use Rattle.std.proofs.Common.{◌≡◌, ◌⊎◌, inl, inr, ℕ, zero, suc, ◌+◌, ◌-◌, ◌/◌, ◌%◌, ◌^◌, ◌<◌, ◌≤◌, Bool, true, false, nat_eq, nat_le, cond, List, [], ◌∷◌, ◌++◌, map, length, take, drop, replicate, length-append, refl, sym, ◌∙◌, ap, subst, arith}
+use Rattle.std.proofs.Common.{◌≡◌, ◌⊎◌, inl, inr, ℕ, suc, ◌+◌, ◌-◌, ◌%◌, ◌^◌, ◌<◌, ◌≤◌, Bool, true, false, nat_eq, nat_le, cond, List, [], ◌∷◌, ◌++◌, map, length, take, drop, replicate, length-append, refl, sym, ◌∙◌, ap, subst, arith}
 use Rattle.std.specs.Prelude.{slice_get, slice_set, Option, Some, None}
 use Rattle.std.specs.Option.{option_map, option_and_then, option_flatten}
 use Rattle.std.proofs.lemmas.Bool.Decides.{nat_tests}
 use Rattle.std.specs.List.{flat_map}
-use Rattle.std.proofs.lemmas.List.{length-set, length-map, length-drop}
+use Rattle.std.proofs.lemmas.List.{length-set, length-map, length-drop, append-nil}
 use Rattle.std.proofs.Math.Seq.{take-append_seam}
 use Rattle.std.proofs.lemmas.Option.{slice_get_within}
 use Rattle.std.proofs.lemmas.Bool.{eqb-true}
@@ -36,10 +36,12 @@ use Rattle.promote.specs.Promoted.{Widths, storing, loading, extending, promoted
 use Rattle.promote.proofs.Choosing.{same_true}
 use Rattle.promote.proofs.Respect.{Respected, respected_first, respected_then}
 use Rattle.promote.proofs.Rules.{store_class}
-use Rattle.promote.proofs.Hiding.{Marks, moved, moved_if, shown, get_set_other, set_hidden, Clean, IfClean, CleanMemory, Extends, marks_grow, fresh_hidden, fresh_shown, place, place_fresh, fresh_clean, Made, AllMade, made_later, places, places_later, places_both, places_hidden, places_shown}
+use Rattle.promote.proofs.Hiding.{Marks, moved, moved_if, shown, set_hidden, Clean, IfClean, CleanMemory, Extends, marks_grow, fresh_hidden, fresh_shown, place, place_fresh, fresh_clean, Made, AllMade, made_later, places, places_later, places_both, places_hidden, places_shown}
 use Rattle.promote.proofs.Carrying.{Put, put_there, take_long, take_short, extension_count}
 use Rattle.promote.proofs.Sides.{Shows, Held, Sides, KeptHidden, sides_later, sides_assign, sides_alloc, sides_store, fresh_kept, get_last}
 use Rattle.promote.proofs.Instructions.{Setting, State, held_as, across, DestPlain, GoesSo, PlainValue, suited_plain, plain_value, plain_args, operand_alike, operand_clean, assigned_so, kept_hidden, unary_so, binary_so, store_so, blit_so, calls_so}
+use Rattle.il_ast.proofs.Listed.{get_set_other}
+use Rattle.il_ast.proofs.Measured.{length_bytes}
 
 -- ---- allocs
 
@@ -60,10 +62,6 @@ one_longer (a ∷ xs) (b ∷ ys) x y e = ap suc (one_longer xs ys x y (omega (ar
 places_more : (hs : Marks) (m : Memory) (first : ℕ) (owned : List ℕ) (h : Bool) → AllMade hs first owned → places (hs ++ h ∷ []) (owned ++ length m ∷ []) ≡ places hs owned ++ places (hs ++ h ∷ []) (length m ∷ [])
 places_more hs m first owned h made =
     places_both (hs ++ h ∷ []) owned (length m ∷ []) ∙ ap (λ ns. ns ++ places (hs ++ h ∷ []) (length m ∷ [])) (places_later hs (hs ++ h ∷ []) first owned (marks_grow hs h) made)
-
-append_none : (ns : List ℕ) → ns ++ [] ≡ ns
-append_none [] = refl
-append_none (n ∷ ns) = ap (λ r. n ∷ r) (append_none ns)
 
 alloc_state : (c : Setting) (hs : Marks) (m : Memory) (ts us vs ws : List (Option Value)) (owned : List ℕ) (h : Bool) (n : ℕ) → State c hs m ts us owned → Sides c.widths (hs ++ h ∷ []) (length c.memory) (fresh m n) vs ws → State c (hs ++ h ∷ []) (fresh m n) vs ws (owned ++ length m ∷ [])
 alloc_state c hs m ts us vs ws owned h n st sides =
@@ -105,7 +103,7 @@ gone_is c hs m ts us owned to n st =
     let ks = hs ++ true ∷ [] in
     let mine : places ks (owned ++ length m ∷ []) ≡ places hs owned =
     places_more hs m (length c.memory) owned true st.mine
-    ∙ (ap (λ ns. places hs owned ++ ns) (places_hidden ks (length m) (get_last hs true (length m) (sym st.alike))) ∙ append_none (places hs owned)) in
+    ∙ (ap (λ ns. places hs owned ++ ns) (places_hidden ks (length m) (get_last hs true (length m) (sym st.alike))) ∙ append-nil (places hs owned)) in
     ap (λ o. assigned (across hs us owned) (shown hs m) to.temp (option_and_then (operate_one (shown hs m) Copy to.class) o)) (zero_is to.class)
     ∙ (ap (λ ns. Done 1 (held_as (slice_set us to.temp (Some (Integer 0))) ns) (shown hs m)) (sym mine)
     ∙ ap (Done 1 (across ks (slice_set us to.temp (Some (Integer 0))) (owned ++ length m ∷ []))) (sym (fresh_hidden hs m n st.alike st.clean)))
@@ -251,10 +249,6 @@ load_so c hs m ts us owned st to op p s k q r = by_slot (slice_get ts p) refl
         (by_load v (loads_any hs (length c.memory) m op to.class s v (slice_get us p) r (st.sides.held p s (Some v) q e))))
 
 -- ---- stores
-
-length_bytes : (k n : ℕ) → length (bytes_of k n) ≡ k
-length_bytes zero n = refl
-length_bytes (suc k) n = ap suc (length_bytes k (n / 256))
 
 part_count : (n : ℕ) (b : Bool) (v : Value) (new : List Cell) → nat_eq n 8 ≡ b → cond b (Some (parts v)) None ≡ Some new → length new ≡ n
 part_count n true v new t e =

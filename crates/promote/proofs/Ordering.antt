@@ -31,6 +31,7 @@ use Rattle.promote.specs.declared.mention.Mention.{Mention}
 use Rattle.promote.specs.Uses.{mention, value_mentions, operand_role, destination_mentions, arg_mentions, item_mentions, inst_mentions, jump_mentions, end_mentions, phi_arg_mentions, phi_mentions, block_mentions, param_mentions, mentions_of, roles, begins_made, width_in}
 use Rattle.promote.specs.Promoted.{Widths, promoted, promoted_line, promoted_block, taken_from, made_in, stored_in}
 use Rattle.promote.proofs.Choosing.{width_promotable}
+use Rattle.il_ast.proofs.Truth.{equals_itself, less_differs}
 
 -- ---- the temporaries of mentions
 
@@ -126,14 +127,11 @@ record Come (n k : ℕ) (ms : List Mention) : Type 0 where
   more : n ≤ k
   none : (t : ℕ) → k ≤ t → roles t ms ≡ []
 
-other : (x t : ℕ) → x < t → nat_eq x t ≡ false
-other x t lt = grind (arith, nat_tests)
-
 come_more : (n k : ℕ) (m : Mention) (ms : List Mention) → m.temp < k → Come n k ms → Come n k (m ∷ ms)
 come_more n k m ms lt h =
     record {
       more = h.more;
-      none = λ t le. ap (λ b. cond b (m.role ∷ roles t ms) (roles t ms)) (other m.temp t (omega arith)) ∙ h.none t le;
+      none = λ t le. ap (λ b. cond b (m.role ∷ roles t ms) (roles t ms)) (less_differs m.temp t (omega arith)) ∙ h.none t le;
     }
 
 come_one : (n k : ℕ) (m : Mention) (ms : List Mention) (b c : Bool) → nat_lt m.temp n ≡ b → nat_eq m.temp n ≡ c → ((i : ℕ) → come_after i (temps ms) ≡ Some k → Come i k ms) → cond b (come_after n (temps ms)) (cond c (come_after (n + 1) (temps ms)) None) ≡ Some k → Come n k (m ∷ ms)
@@ -202,16 +200,13 @@ alike_all w f g h (x ∷ xs) = alike_both w (f x) (flat_map f xs) (g x) (flat_ma
 
 -- ---- stores
 
-self : (p : ℕ) → nat_eq p p ≡ true
-self p = grind (arith, nat_tests)
-
 -- an access of a temporary that hasn't come would be its first role
 not_first : (p t : ℕ) (size : Size) (b : Bool) → starts (cond b (Used ∷ (Accessed size ∷ [])) (Accessed size ∷ [])) ≡ false
 not_first p t size true = refl
 not_first p t size false = refl
 
 alone : (p : ℕ) (size : Size) → roles p (mention (Accessed size) p ∷ []) ≡ Accessed size ∷ []
-alone p size = ap (λ b. cond b (Accessed size ∷ []) []) (self p)
+alone p size = ap (λ b. cond b (Accessed size ∷ []) []) (equals_itself p)
 
 come_or : (w : Widths) (n p : ℕ) (s size : Size) (a : Val) → w p ≡ Some s → starts (roles p (value_mentions Used a ++ mention (Accessed size) p ∷ [])) ≡ false
 come_or w n p s size (Int k) e = ap starts (alone p size)
@@ -258,7 +253,7 @@ item_alike w (Call to callee args) = alike_same w (item_mentions (Call to callee
 
 -- ---- blocks
 
-map_flat : {X Y : Type 0} (f : X → X) (g : X → List Y) (xs : List X) → flat_map g (map f xs) ≡ flat_map (λ x. g (f x)) xs
+pub map_flat : {X Y : Type 0} (f : X → X) (g : X → List Y) (xs : List X) → flat_map g (map f xs) ≡ flat_map (λ x. g (f x)) xs
 map_flat f g [] = refl
 map_flat f g (x ∷ xs) = ap (λ ys. g (f x) ++ ys) (map_flat f g xs)
 

@@ -10,6 +10,7 @@ use Rattle.promote.specs.declared.mention.Mention.{Mention}
 use Rattle.promote.specs.Uses.{suits, roles, width_in}
 use Rattle.promote.specs.Promoted.{Widths}
 use Rattle.promote.proofs.Choosing.{width_promotable}
+use Rattle.il_ast.proofs.Truth.{equals_itself}
 
 -- what the mention is suits the width of the temporary, if it has one
 abbrev pub Suited : Widths → Mention → Type 0
@@ -18,9 +19,6 @@ Suited w m = (s : Size) → w m.temp ≡ Some s → suits s m.role ≡ true
 abbrev pub Respected : Widths → List Mention → Type 0
 Respected w [] = Unit {0}
 Respected w (m ∷ ms) = Suited w m × Respected w ms
-
-pub self : (p : ℕ) → nat_eq p p ≡ true
-self p = grind (arith, nat_tests)
 
 pub other_number : (a b : ℕ) → nat_eq a b ≡ false → a ≡ b → ⊥
 other_number a b h e = let yes : nat_eq a b ≡ true = grind (arith, nat_tests) in let no : ⊥ = cc in no
@@ -37,7 +35,7 @@ respected_by w [] h = tt
 respected_by w (m ∷ ms) h = (
   λ s e.
       (and_parts (suits s m.role) (list_all (suits s) (roles m.temp ms))
-      (subst (λ b. Suits s (cond b (m.role ∷ roles m.temp ms) (roles m.temp ms))) (self m.temp) (h m.temp s e))).0,
+      (subst (λ b. Suits s (cond b (m.role ∷ roles m.temp ms) (roles m.temp ms))) (equals_itself m.temp) (h m.temp s e))).0,
   respected_by w ms (λ t s e. suits_rest s m.role (roles t ms) (nat_eq m.temp t) (h t s e)),
 )
 

@@ -45,6 +45,9 @@ use Rattle.promote.specs.declared.mention.Role.TheVariants.{Used}
 use Rattle.promote.specs.Uses.{item_mentions, inst_mentions, end_mentions, phi_mentions, block_mentions, param_mentions, mentions_of}
 use Rattle.promote.specs.Promoted.{Widths, Rewrites, promoted, promoted_line, promoted_block, taken_from, made_in, stored_in, storing, loading}
 use Rattle.promote.proofs.Respect.{Suited, Respected, respected_first, respected_then}
+use Rattle.il_ast.proofs.Truth.{and_false}
+use Rattle.il_types.proofs.ArgumentLemmas.{none_first}
+use Rattle.promote.proofs.Ordering.{map_flat}
 
 -- ---- lists of changed items
 
@@ -74,10 +77,6 @@ sum_map p q f h xs = fold_map p q f h xs 0
 
 -- ---- nothing is first
 
-none_parts : (a b : Option ℕ) → or_else a b ≡ None → (a ≡ None) × (b ≡ None)
-none_parts None b h = (refl, h)
-none_parts (Some n) b h = absurd (let no : ⊥ = cc in no)
-
 none_both : (a b : Option ℕ) → a ≡ None → b ≡ None → or_else a b ≡ None
 none_both None b e h = h
 none_both (Some n) b e h = absurd (let no : ⊥ = cc in no)
@@ -94,19 +93,19 @@ first_both f (x ∷ xs) ys = ap (or_else (f x)) (first_both f xs ys) ∙ first_l
 none_all : {X Y : Type 0} (f g : Y → Option ℕ) (p q : X → List Y) → ((x : X) → first f (p x) ≡ None → first g (q x) ≡ None) → (xs : List X) → first f (flat_map p xs) ≡ None → first g (flat_map q xs) ≡ None
 none_all f g p q h [] e = refl
 none_all f g p q h (x ∷ xs) e =
-    let parts = none_parts (first f (p x)) (first f (flat_map p xs)) (sym (first_both f (p x) (flat_map p xs)) ∙ e) in
+    let parts = none_first (first f (p x)) (first f (flat_map p xs)) (sym (first_both f (p x) (flat_map p xs)) ∙ e) in
     first_both g (q x) (flat_map q xs)
     ∙ none_both (first g (q x)) (first g (flat_map q xs)) (h x parts.0) (none_all f g p q h xs parts.1)
 
 none_two : {Y : Type 0} (f g : Y → Option ℕ) (xs ys us vs : List Y) → (first f xs ≡ None → first g us ≡ None) → (first f ys ≡ None → first g vs ≡ None) → first f (xs ++ ys) ≡ None → first g (us ++ vs) ≡ None
 none_two f g xs ys us vs h k e =
-    let parts = none_parts (first f xs) (first f ys) (sym (first_both f xs ys) ∙ e) in
+    let parts = none_first (first f xs) (first f ys) (sym (first_both f xs ys) ∙ e) in
     first_both g us vs ∙ none_both (first g us) (first g vs) (h parts.0) (k parts.1)
 
 none_each : {X : Type 0} (f g : X → Option ℕ) → ((x : X) → f x ≡ None → g x ≡ None) → (xs : List X) → first f xs ≡ None → first g xs ≡ None
 none_each f g h [] e = refl
 none_each f g h (x ∷ xs) e =
-    let parts = none_parts (f x) (first f xs) e in none_both (g x) (first g xs) (h x parts.0) (none_each f g h xs parts.1)
+    let parts = none_first (f x) (first f xs) e in none_both (g x) (first g xs) (h x parts.0) (none_each f g h xs parts.1)
 
 first_never : {X : Type 0} (f : X → Option ℕ) → ((x : X) → f x ≡ None) → (xs : List X) → first f xs ≡ None
 first_never f h [] = refl
@@ -301,15 +300,11 @@ item_any w p h line (Call to callee args) = refl
 abbrev definers_in : List Param → List Block → List Definer
 definers_in params blocks = flat_map param_definers params ++ flat_map block_definers blocks
 
-flat_after : {X Y : Type 0} (f : X → X) (g : X → List Y) (xs : List X) → flat_map g (map f xs) ≡ flat_map (λ x. g (f x)) xs
-flat_after f g [] = refl
-flat_after f g (x ∷ xs) = ap (λ ys. g (f x) ++ ys) (flat_after f g xs)
-
 block_any : (w : Widths) (p : Definer → Bool) → Misses w p → (b : Block) → list_any p (block_definers (promoted_block w b)) ≡ list_any p (block_definers b)
 block_any w p h b =
     list_any-append p (flat_map phi_definers b.phis) (flat_map inst_definers (map (promoted_line w) b.insts))
     ∙ (ap (λ x. list_any p (flat_map phi_definers b.phis) || x)
-    (ap (list_any p) (flat_after (promoted_line w) inst_definers b.insts)
+    (ap (list_any p) (map_flat (promoted_line w) inst_definers b.insts)
     ∙ any_all p (λ i. inst_definers (promoted_line w i)) inst_definers (λ i. item_any w p h i.line i.item) b.insts)
     ∙ sym (list_any-append p (flat_map phi_definers b.phis) (flat_map inst_definers b.insts)))
 
@@ -317,7 +312,7 @@ any_stays : (w : Widths) (p : Definer → Bool) → Misses w p → (params : Lis
 any_stays w p h params blocks =
     list_any-append p (flat_map param_definers params) (flat_map block_definers (map (promoted_block w) blocks))
     ∙ (ap (λ x. list_any p (flat_map param_definers params) || x)
-    (ap (list_any p) (flat_after (promoted_block w) block_definers blocks)
+    (ap (list_any p) (map_flat (promoted_block w) block_definers blocks)
     ∙ any_all p (λ b. block_definers (promoted_block w b)) block_definers (block_any w p h) blocks)
     ∙ sym (list_any-append p (flat_map param_definers params) (flat_map block_definers blocks)))
 
@@ -325,10 +320,6 @@ any_stays w p h params blocks =
 
 abbrev given : Class → ℕ → Definer → Bool
 given c t d = nat_eq d.temp t && same_class d.class c
-
-and_false : (b : Bool) → (b && false) ≡ false
-and_false true = refl
-and_false false = refl
 
 word_stays : (w : Widths) (params : List Param) (blocks : List Block) (t : ℕ) → is_given W t (definers_in params (map (promoted_block w) blocks)) ≡ is_given W t (definers_in params blocks)
 word_stays w params blocks t = any_stays w (given W t) (λ line p s e. and_false (nat_eq p t)) params blocks
@@ -376,7 +367,7 @@ block_implies w p b e =
     list_any-append p (flat_map phi_definers b.phis) (flat_map inst_definers (map (promoted_line w) b.insts))
     ∙ or_implies (list_any p (flat_map phi_definers b.phis)) (list_any p (flat_map inst_definers b.insts)) (list_any p (flat_map phi_definers b.phis))
     (list_any p (flat_map inst_definers (map (promoted_line w) b.insts))) (λ h. h)
-    (λ h. ap (list_any p) (flat_after (promoted_line w) inst_definers b.insts)
+    (λ h. ap (list_any p) (map_flat (promoted_line w) inst_definers b.insts)
     ∙ any_implies p inst_definers (λ i. inst_definers (promoted_line w i)) (λ i. item_implies w p i.line i.item) b.insts h)
     (sym (list_any-append p (flat_map phi_definers b.phis) (flat_map inst_definers b.insts)) ∙ e)
 
@@ -385,7 +376,7 @@ given_still w p params blocks e =
     list_any-append p (flat_map param_definers params) (flat_map block_definers (map (promoted_block w) blocks))
     ∙ or_implies (list_any p (flat_map param_definers params)) (list_any p (flat_map block_definers blocks)) (list_any p (flat_map param_definers params))
     (list_any p (flat_map block_definers (map (promoted_block w) blocks))) (λ h. h)
-    (λ h. ap (list_any p) (flat_after (promoted_block w) block_definers blocks)
+    (λ h. ap (list_any p) (map_flat (promoted_block w) block_definers blocks)
     ∙ any_implies p block_definers (λ b. block_definers (promoted_block w b)) (block_implies w p) blocks h)
     (sym (list_any-append p (flat_map param_definers params) (flat_map block_definers blocks)) ∙ e)
 
@@ -415,11 +406,11 @@ load_none : (f : Operand → Option ℕ) → Passes f → (line : ℕ) (op : Una
 load_none f h line Neg c t e = e
 load_none f h line Copy c t e = e
 load_none f h line (Extend x) c t e = e
-load_none f h line LoadLong W t e = both_none (f (operand_at line W (Temp t))) ((h line t W).0 (none_parts (f (operand_at line L (Temp t))) None e).0)
+load_none f h line LoadLong W t e = both_none (f (operand_at line W (Temp t))) ((h line t W).0 (none_first (f (operand_at line L (Temp t))) None e).0)
 load_none f h line LoadLong L t e = e
-load_none f h line (Load SignedWord) W t e = both_none (f (operand_at line W (Temp t))) ((h line t W).0 (none_parts (f (operand_at line L (Temp t))) None e).0)
-load_none f h line (Load UnsignedWord) W t e = both_none (f (operand_at line W (Temp t))) ((h line t W).0 (none_parts (f (operand_at line L (Temp t))) None e).0)
-load_none f h line (Load x) c t e = both_none (f (operand_at line W (Temp t))) ((h line t W).0 (none_parts (f (operand_at line L (Temp t))) None e).0)
+load_none f h line (Load SignedWord) W t e = both_none (f (operand_at line W (Temp t))) ((h line t W).0 (none_first (f (operand_at line L (Temp t))) None e).0)
+load_none f h line (Load UnsignedWord) W t e = both_none (f (operand_at line W (Temp t))) ((h line t W).0 (none_first (f (operand_at line L (Temp t))) None e).0)
+load_none f h line (Load x) c t e = both_none (f (operand_at line W (Temp t))) ((h line t W).0 (none_first (f (operand_at line L (Temp t))) None e).0)
 
 -- the tests f and g agree on operands that f lets pass
 abbrev Follows : (f g : Operand → Option ℕ) → Type 0
@@ -433,7 +424,7 @@ unary_none f g h k line to op t (Some s) e =
 store_none : (f g : Operand → Option ℕ) → Follows f g → (line : ℕ) (size : Size) (a : Val) (t : ℕ) (o : Option Size) → first f (item_operands line (Store size a (Temp t))) ≡ None → first g (item_operands line (stored_in o size a t)) ≡ None
 store_none f g h line size a t None e = none_each f g h (item_operands line (Store size a (Temp t))) e
 store_none f g h line size a t (Some s) e =
-    let parts = none_parts (f (operand_at line (stored_class size) a)) (first f (operand_at line L (Temp t) ∷ [])) e in
+    let parts = none_first (f (operand_at line (stored_class size) a)) (first f (operand_at line L (Temp t) ∷ [])) e in
     both_none (g (operand_at line (operand_class (storing size) L) a))
     (ap (λ c. g (operand_at line c a)) (store_class size) ∙ h (operand_at line (stored_class size) a) parts.0)
 
@@ -458,13 +449,13 @@ block_none w f g h k b =
     none_two f g (flat_map phi_operands b.phis) (flat_map inst_operands b.insts ++ end_operands b.jump) (flat_map phi_operands b.phis)
     (flat_map inst_operands (map (promoted_line w) b.insts) ++ end_operands b.jump) (none_each f g h (flat_map phi_operands b.phis))
     (none_two f g (flat_map inst_operands b.insts) (end_operands b.jump) (flat_map inst_operands (map (promoted_line w) b.insts)) (end_operands b.jump)
-    (λ e. ap (first g) (flat_after (promoted_line w) inst_operands b.insts)
+    (λ e. ap (first g) (map_flat (promoted_line w) inst_operands b.insts)
     ∙ none_all f g inst_operands (λ i. inst_operands (promoted_line w i)) (λ i. item_none w f g h k i.line i.item) b.insts e)
     (none_each f g h (end_operands b.jump)))
 
 operands_none : (w : Widths) (f g : Operand → Option ℕ) → Follows f g → Passes g → (bs : List Block) → first f (flat_map block_operands bs) ≡ None → first g (flat_map block_operands (map (promoted_block w) bs)) ≡ None
 operands_none w f g h k bs e =
-    ap (first g) (flat_after (promoted_block w) block_operands bs)
+    ap (first g) (map_flat (promoted_block w) block_operands bs)
     ∙ none_all f g block_operands (λ b. block_operands (promoted_block w b)) (block_none w f g h k) bs e
 
 -- ---- promoted temporaries are never words
@@ -503,7 +494,7 @@ never_both p xs ys h k = list_any-append p xs ys ∙ (ap (λ b. b || list_any p 
 insts_never : (w : Widths) (p : ℕ) (s : Size) (is : List (Lined Inst)) → w p ≡ Some s → Respected w (flat_map inst_mentions is) → first (λ (i : Lined Inst). when (has_wrong_result i.item) i.line) is ≡ None → list_any (given W p) (flat_map inst_definers is) ≡ false
 insts_never w p s [] e h r = refl
 insts_never w p s (i ∷ is) e h r =
-    let parts = none_parts (when (has_wrong_result i.item) i.line) (first (λ (i : Lined Inst). when (has_wrong_result i.item) i.line) is) r in
+    let parts = none_first (when (has_wrong_result i.item) i.line) (first (λ (i : Lined Inst). when (has_wrong_result i.item) i.line) is) r in
     never_both (given W p) (inst_definers i) (flat_map inst_definers is)
     (item_never w p s i.line i.item e (respected_first w (inst_mentions i) (flat_map inst_mentions is) h) parts.0)
     (insts_never w p s is e (respected_then w (inst_mentions i) (flat_map inst_mentions is) h) parts.1)
@@ -524,7 +515,7 @@ params_never w p s (q ∷ ps) e h =
 blocks_never : (w : Widths) (p : ℕ) (s : Size) (bs : List Block) → w p ≡ Some s → Respected w (flat_map block_mentions bs) → in_insts has_wrong_result bs ≡ None → list_any (given W p) (flat_map block_definers bs) ≡ false
 blocks_never w p s [] e h r = refl
 blocks_never w p s (b ∷ bs) e h r =
-    let parts = none_parts (first (λ (i : Lined Inst). when (has_wrong_result i.item) i.line) b.insts) (in_insts has_wrong_result bs) r in
+    let parts = none_first (first (λ (i : Lined Inst). when (has_wrong_result i.item) i.line) b.insts) (in_insts has_wrong_result bs) r in
     let here = respected_first w (block_mentions b) (flat_map block_mentions bs) h in
     let later = respected_then w (flat_map phi_mentions b.phis) (flat_map inst_mentions b.insts ++ end_mentions b.jump) here in
     never_both (given W p) (block_definers b) (flat_map block_definers bs)
@@ -551,7 +542,7 @@ at_given_one bad c t d ds false k e f none h is = h is
 at_given : (bad : ℕ → Bool) (c : Class) (t : ℕ) (ds : List Definer) → first (λ (d : Definer). when (bad d.temp) d.line) ds ≡ None → is_given c t ds ≡ true → bad t ≡ false
 at_given bad c t [] none e = absurd (let no : ⊥ = cc in no)
 at_given bad c t (d ∷ ds) none e =
-    let parts = none_parts (when (bad d.temp) d.line) (first (λ (d : Definer). when (bad d.temp) d.line) ds) none in
+    let parts = none_first (when (bad d.temp) d.line) (first (λ (d : Definer). when (bad d.temp) d.line) ds) none in
     at_given_one bad c t d ds (nat_eq d.temp t) (same_class d.class c) refl refl parts.0 (at_given bad c t ds parts.1) e
 
 class_of : (w : Widths) (f : Func) (t : ℕ) → Respected w (mentions_of f) → two_types f ≡ None → misplaced f ≡ None → (o : Option Size) → w t ≡ o → (b : Bool) → is_given W t (definers_of f) ≡ b → (b && is_given L t (definers_in f.params (map (promoted_block w) f.blocks))) ≡ false
@@ -560,7 +551,7 @@ class_of w f t h two mis None e true k =
     let bad = at_given (λ n. is_given W n (definers_of f) && is_given L n (definers_of f)) W t (definers_of f) two k in
     long_stays w f.params f.blocks t e ∙ (ap (λ b. b && is_given L t (definers_of f)) (sym k) ∙ bad)
 class_of w f t h two mis (Some s) e true k =
-    let wrong = (none_parts _ (in_insts has_wrong_result f.blocks) mis).1 in
+    let wrong = (none_first _ (in_insts has_wrong_result f.blocks) mis).1 in
     let no = never_word w f t s h wrong e in absurd (let never : ⊥ = cc in never)
 
 one_class : (w : Widths) (f : Func) (bs : List Block) → Respected w (mentions_of f) → two_types f ≡ None → misplaced f ≡ None → bs ≡ map (promoted_block w) f.blocks → (t : ℕ) → (is_given W t (definers_in f.params bs) && is_given L t (definers_in f.params bs)) ≡ false
@@ -676,14 +667,14 @@ wrong_result_stays (Call to callee args) line w e = e
 insts_right : (w : Widths) (is : List (Lined Inst)) → first (λ (i : Lined Inst). when (has_wrong_result i.item) i.line) is ≡ None → first (λ (i : Lined Inst). when (has_wrong_result i.item) i.line) (map (promoted_line w) is) ≡ None
 insts_right w [] e = refl
 insts_right w (i ∷ is) e =
-    let parts = none_parts (when (has_wrong_result i.item) i.line) (first (λ (i : Lined Inst). when (has_wrong_result i.item) i.line) is) e in
+    let parts = none_first (when (has_wrong_result i.item) i.line) (first (λ (i : Lined Inst). when (has_wrong_result i.item) i.line) is) e in
     none_both (when (has_wrong_result (promoted w i.item)) i.line) (first (λ (i : Lined Inst). when (has_wrong_result i.item) i.line) (map (promoted_line w) is))
     (wrong_result_stays i.item i.line w parts.0) (insts_right w is parts.1)
 
 results_right : (w : Widths) (bs : List Block) → in_insts has_wrong_result bs ≡ None → in_insts has_wrong_result (map (promoted_block w) bs) ≡ None
 results_right w [] e = refl
 results_right w (b ∷ bs) e =
-    let parts = none_parts (first (λ (i : Lined Inst). when (has_wrong_result i.item) i.line) b.insts) (in_insts has_wrong_result bs) e in
+    let parts = none_first (first (λ (i : Lined Inst). when (has_wrong_result i.item) i.line) b.insts) (in_insts has_wrong_result bs) e in
     none_both (first (λ (i : Lined Inst). when (has_wrong_result i.item) i.line) (map (promoted_line w) b.insts)) (in_insts has_wrong_result (map (promoted_block w) bs))
     (insts_right w b.insts parts.0) (results_right w bs parts.1)
 
@@ -718,21 +709,21 @@ item_alone w f h (Call to callee args) e = e
 insts_alone : (w : Widths) (f : Inst → Bool) → AllocsAlone f → (is : List (Lined Inst)) → first (λ (i : Lined Inst). when (f i.item) i.line) is ≡ None → first (λ (i : Lined Inst). when (f i.item) i.line) (map (promoted_line w) is) ≡ None
 insts_alone w f h [] e = refl
 insts_alone w f h (i ∷ is) e =
-    let parts = none_parts (when (f i.item) i.line) (first (λ (i : Lined Inst). when (f i.item) i.line) is) e in
+    let parts = none_first (when (f i.item) i.line) (first (λ (i : Lined Inst). when (f i.item) i.line) is) e in
     none_both (when (f (promoted w i.item)) i.line) (first (λ (i : Lined Inst). when (f i.item) i.line) (map (promoted_line w) is))
     (when_none (f (promoted w i.item)) i.line (item_alone w f h i.item (when_false (f i.item) i.line parts.0))) (insts_alone w f h is parts.1)
 
 blocks_alone : (w : Widths) (f : Inst → Bool) → AllocsAlone f → (bs : List Block) → in_insts f bs ≡ None → in_insts f (map (promoted_block w) bs) ≡ None
 blocks_alone w f h [] e = refl
 blocks_alone w f h (b ∷ bs) e =
-    let parts = none_parts (first (λ (i : Lined Inst). when (f i.item) i.line) b.insts) (in_insts f bs) e in
+    let parts = none_first (first (λ (i : Lined Inst). when (f i.item) i.line) b.insts) (in_insts f bs) e in
     none_both (first (λ (i : Lined Inst). when (f i.item) i.line) (map (promoted_line w) b.insts)) (in_insts f (map (promoted_block w) bs))
     (insts_alone w f h b.insts parts.0) (blocks_alone w f h bs parts.1)
 
 alloc_stays : (w : Widths) (bs : List Block) → wrong_alloc_in bs ≡ None → wrong_alloc_in (map (promoted_block w) bs) ≡ None
 alloc_stays w [] e = refl
 alloc_stays w (b ∷ bs) e =
-    let parts = none_parts (in_insts has_wrong_size (b ∷ [])) (in_insts is_alloc bs) e in
+    let parts = none_first (in_insts has_wrong_size (b ∷ [])) (in_insts is_alloc bs) e in
     none_both (in_insts has_wrong_size (promoted_block w b ∷ [])) (in_insts is_alloc (map (promoted_block w) bs))
     (blocks_alone w has_wrong_size (λ to op a. refl) (b ∷ []) parts.0) (blocks_alone w is_alloc (λ to op a. refl) bs parts.1)
 
@@ -748,7 +739,7 @@ returned_none p q h (Some j) e = value_none p q h j.line (value_returned j.item)
 returns_none : (w : Widths) (p q : Val → Bool) → ((a : Val) → p a ≡ false → q a ≡ false) → (bs : List Block) → in_returns p bs ≡ None → in_returns q (map (promoted_block w) bs) ≡ None
 returns_none w p q h [] e = refl
 returns_none w p q h (b ∷ bs) e =
-    let parts = none_parts (returned_breaks p b.jump) (in_returns p bs) e in
+    let parts = none_first (returned_breaks p b.jump) (in_returns p bs) e in
     none_both (returned_breaks q b.jump) (in_returns q (map (promoted_block w) bs)) (returned_none p q h b.jump parts.0) (returns_none w p q h bs parts.1)
 
 -- ---- each rule
@@ -802,7 +793,7 @@ in_blocks w f g p q r h k e = ap (λ bs. first q (flat_map block_operands bs)) r
 
 misplaced_stays : (w : Widths) (f g : Func) → Rewrites w f g → misplaced f ≡ None → misplaced g ≡ None
 misplaced_stays w f g r e =
-    let parts = none_parts (first (misfit (definers_of f)) (operands_of f)) (in_insts has_wrong_result f.blocks) e in
+    let parts = none_first (first (misfit (definers_of f)) (operands_of f)) (in_insts has_wrong_result f.blocks) e in
     none_both (first (misfit (definers_of g)) (operands_of g)) (in_insts has_wrong_result g.blocks)
     (in_blocks w f g (misfit (definers_of f)) (misfit (definers_of g)) r (misfit_follows w f g r) (misfit_narrow (definers_of g)) parts.0)
     (ap (in_insts has_wrong_result) r.blocks ∙ results_right w f.blocks parts.1)
@@ -815,7 +806,7 @@ wrong_return_stays w f g r e =
 
 undefined_stays : (w : Widths) (f g : Func) → Rewrites w f g → undefined_temp f ≡ None → undefined_temp g ≡ None
 undefined_stays w f g r e =
-    let parts = none_parts (first (undefined_at (definers_of f)) (operands_of f)) (in_returns (λ a. not (is_defined (definers_of f) a)) f.blocks) e in
+    let parts = none_first (first (undefined_at (definers_of f)) (operands_of f)) (in_returns (λ a. not (is_defined (definers_of f) a)) f.blocks) e in
     none_both (first (undefined_at (definers_of g)) (operands_of g)) (in_returns (λ a. not (is_defined (definers_of g) a)) g.blocks)
     (in_blocks w f g (undefined_at (definers_of f)) (undefined_at (definers_of g)) r (undefined_follows w f g r) (undefined_narrow (definers_of g)) parts.0)
     (ap (in_returns (λ a. not (is_defined (definers_of g) a))) r.blocks

@@ -15,8 +15,10 @@ use Rattle.il_ast.specs.declared.value.Cell.TheVariants.{Blank}
 use Rattle.il_ast.specs.Values.{byte_count}
 use Rattle.il_ast.specs.Memory.{Memory, cells_for, value_of, span, fresh}
 use Rattle.promote.specs.Promoted.{Widths}
-use Rattle.promote.proofs.Respect.{other_number, self}
-use Rattle.promote.proofs.Hiding.{Marks, moved, moved_if, Clean, IfClean, Extends, clean_later, moved_later, marks_grow, get_set_other, get_set_same, get_set}
+use Rattle.promote.proofs.Respect.{other_number}
+use Rattle.promote.proofs.Hiding.{Marks, moved, moved_if, Clean, IfClean, Extends, clean_later, moved_later, marks_grow, get_set}
+use Rattle.il_ast.proofs.Truth.{equals_itself}
+use Rattle.il_ast.proofs.Listed.{get_set_same, get_set_other}
 
 -- the value was put there, and the block begins with its cells
 pub record Stored (hs : Marks) (s : Size) (cells : List Cell) (u : Option (Option Value)) : Type 0 where
@@ -257,7 +259,7 @@ held_store w hs first m ts us p b s cells x f at shows sides r q (Some v) g e (i
       hidden = h.hidden;
       shows = λ cs found.
           let there : slice_get (slice_set m b (Some cells)) b ≡ Some (Some cs) = ap (slice_get (slice_set m b (Some cells))) (sym to) ∙ found in
-          let those : cells ≡ cs = let r = get_set_new m b b (Some cells) (Some cs) (self b) there in let z = r.0 in cc in
+          let those : cells ≡ cs = let r = get_set_new m b b (Some cells) (Some cs) (equals_itself b) there in let z = r.0 in cc in
           subst (λ u. Shows hs q cs u) (sym got) (subst (λ k. Shows hs k cs (Some (Some x))) width (subst (λ c. Shows hs s c (Some (Some x))) those shows));
     }
 held_store w hs first m ts us p b s cells x f at shows sides r q (Some v) g e (inr other) h =

@@ -27,10 +27,12 @@ use Rattle.il_ast.specs.Effect.{Activation, Env, Call, operand, InstEffect, Done
 use Rattle.promote.specs.Uses.{phi_arg_mentions, phi_mentions, inst_mentions, jump_mentions, end_mentions, block_mentions, param_mentions, mentions_of}
 use Rattle.promote.specs.Promoted.{Widths, Rewrites, promoted, promoted_line, promoted_block}
 use Rattle.promote.proofs.Respect.{Respected, respected_first, respected_then, respected_at}
-use Rattle.promote.proofs.Hiding.{Marks, moved, moved_if, shown, IfClean, CleanAll, CleanMemory, Extends, AllMade, free_all_shows, free_all_clean, length_free, get_set_other}
+use Rattle.promote.proofs.Hiding.{Marks, moved, moved_if, shown, IfClean, CleanAll, CleanMemory, Extends, AllMade, free_all_shows, free_all_clean}
 use Rattle.promote.proofs.Sides.{KeptHidden}
 use Rattle.promote.proofs.Instructions.{Setting, State, held_as, across, moved_call, moved_all, cons_moved, DestPlain, GoesSo, PlainValue, plain_value, suited_plain, operand_alike, operand_clean, state_assign}
 use Rattle.promote.proofs.Locals.{inst_so}
+use Rattle.il_ast.proofs.Listed.{get_set_other}
+use Rattle.il_ast.proofs.Measured.{length_freed}
 
 -- the same place, with what the activation holds on the other side
 abbrev pub beside : Marks → Activation → List (Option Value) → Activation
@@ -240,9 +242,9 @@ free_kept c hs m (b ∷ bs) h k =
 freed : (c : Setting) (hs : Marks) (m : Memory) (ts us : List (Option Value)) (owned : List ℕ) → State c hs m ts us owned → Left c hs (free_all m owned)
 freed c hs m ts us owned st =
     let low = st.low in
-    let long = length_free m owned in
+    let long = length_freed m owned in
     record {
-      alike = st.alike ∙ sym (length_free m owned);
+      alike = st.alike ∙ sym (length_freed m owned);
       grown = st.grown;
       clean = free_all_clean hs m owned st.clean;
       kept = free_kept c hs m owned st.mine st.kept;

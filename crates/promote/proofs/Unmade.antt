@@ -1,6 +1,6 @@
 -- A function that makes no block of memory is promoted as it is.
 use Rattle.std.proofs.Common.{◌≡◌, ℕ, Bool, true, false, ◌&&◌, cond, List, [], ◌∷◌, ◌++◌, map, nat_eq, refl, sym, ◌∙◌, ap}
-use Rattle.std.specs.Prelude.{Option, Some, None, ◌||◌}
+use Rattle.std.specs.Prelude.{Option, Some, None}
 use Rattle.std.specs.List.{flat_map, list_all, find}
 use Rattle.std.proofs.Math.Path.{fun_ext}
 use Rattle.il_ast.specs.declared.operation.Class.{Class}
@@ -29,6 +29,7 @@ use Rattle.promote.specs.declared.mention.Mention.{Mention}
 use Rattle.promote.specs.Uses.{value_mentions, operand_role, destination_mentions, arg_mentions, item_mentions, inst_mentions, jump_mentions, end_mentions, phi_arg_mentions, phi_mentions, block_mentions, param_mentions, mentions_of, roles, suits, begins_made, is_promotable, width_in}
 use Rattle.promote.specs.Made.{makes, makes_any}
 use Rattle.promote.specs.Promoted.{Widths, promoted, promoted_line, promoted_block, IsPromoted}
+use Rattle.std.proofs.lemmas.Bool.{or_parts}
 
 -- ---- mentions of which none makes its temporary
 
@@ -48,10 +49,6 @@ quiet_both (m ∷ ms) ns g h = (g.0, quiet_both ms ns g.1 h)
 quiet_flat : {X : Type 0} (f : X → List Mention) → ((x : X) → AllQuiet (f x)) → (xs : List X) → AllQuiet (flat_map f xs)
 quiet_flat f h [] = tt
 quiet_flat f h (x ∷ xs) = quiet_both (f x) (flat_map f xs) (h x) (quiet_flat f h xs)
-
-neither : (a b : Bool) → (a || b) ≡ false → (a ≡ false) × (b ≡ false)
-neither false b h = (refl, h)
-neither true b h = cc
 
 quiet_value : (r : Role) (a : Val) → quiet r ≡ true → AllQuiet (value_mentions r a)
 quiet_value r (Int n) h = tt
@@ -86,7 +83,7 @@ quiet_item (Call to callee args) h =
 quiet_insts : (is : List (Lined Inst)) → makes is ≡ false → AllQuiet (flat_map inst_mentions is)
 quiet_insts [] h = tt
 quiet_insts (i ∷ is) h =
-    let both = neither (is_alloc i.item) (makes is) h in
+    let both = or_parts (is_alloc i.item) (makes is) h in
     quiet_both (item_mentions i.item) (flat_map inst_mentions is) (quiet_item i.item both.0) (quiet_insts is both.1)
 
 quiet_jump : (j : Jump) → AllQuiet (jump_mentions j)
@@ -111,7 +108,7 @@ quiet_block b h =
 quiet_blocks : (bs : List Block) → makes_any bs ≡ false → AllQuiet (flat_map block_mentions bs)
 quiet_blocks [] h = tt
 quiet_blocks (b ∷ bs) h =
-    let both = neither (makes b.insts) (makes_any bs) h in
+    let both = or_parts (makes b.insts) (makes_any bs) h in
     quiet_both (block_mentions b) (flat_map block_mentions bs) (quiet_block b both.0) (quiet_blocks bs both.1)
 
 quiet_function : (f : Func) → makes_any f.blocks ≡ false → AllQuiet (mentions_of f)

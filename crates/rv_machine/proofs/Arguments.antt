@@ -16,7 +16,7 @@ use Rattle.obj_link.specs.Arguments.{are_arguments}
 
 -- ---- lengths
 
-pointers_length : (at : ℕ) (ws : List (List ℕ)) → length (pointer_bytes at ws) ≡ 8 * length ws
+pub pointers_length : (at : ℕ) (ws : List (List ℕ)) → length (pointer_bytes at ws) ≡ 8 * length ws
 pointers_length at [] = refl
 pointers_length at (w ∷ ws) =
     let rest : length (pointer_bytes (at + length w + 1) ws) ≡ 8 * length ws = pointers_length (at + length w + 1) ws in

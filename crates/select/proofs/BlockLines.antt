@@ -10,13 +10,9 @@ use Rattle.vcode.specs.declared.line.Line.{Line}
 use Rattle.vcode.specs.declared.code.Block.{Block as VirtualBlock}
 use Rattle.select.specs.Selected.{turn_lines, all_lines, block_of, edge_of, blocks_of}
 use Rattle.select.specs.Typed.{Classes}
+use Rattle.il_ast.proofs.Listed.{get_mapped}
 
 -- ---- blocks
-
-get_mapped : {A B : Type 0} (f : A → B) (xs : List A) (k : ℕ) (x : A) → slice_get xs k ≡ Some x → slice_get (map f xs) k ≡ Some (f x)
-get_mapped f [] k x e = absurd (let no : ⊥ = cc in no)
-get_mapped f (y ∷ xs) zero x e = let same : y ≡ x = cc in ap (λ z. Some (f z)) same
-get_mapped f (y ∷ xs) (suc k) x e = get_mapped f xs k x e
 
 pub block_at : (classes : Classes) (bs : List Block) (es : List Ending) (more : List (VirtualBlock ℕ)) (k : ℕ) (b : Block) (e : Ending) → slice_get bs k ≡ Some b → slice_get es k ≡ Some e → slice_get (blocks_of classes bs es ++ more) k ≡ Some (block_of classes b e)
 block_at classes [] es more k b e h j = absurd (let no : ⊥ = cc in no)

@@ -25,7 +25,8 @@ use Rattle.phi_copies.specs.Lowered.{target, Edge, edge_with, edge, jump_edges, 
 use Rattle.vcode.specs.declared.code.Block.{Block as VirtualBlock}
 use Rattle.select.specs.Selected.{block_of, edge_of, blocks_of}
 use Rattle.select.specs.Typed.{Classes}
-use Rattle.select.proofs.Typing.{Among, among_left, among_right, neither_first, not_broken, none_among}
+use Rattle.phi_copies.proofs.PhiRules.{not_broken, neither_first, none_among}
+use Rattle.phi_copies.proofs.Members.{Among, among_left, among_right}
 
 -- ---- blocks, and the edges behind them
 
@@ -68,14 +69,6 @@ pub record Leaves (f : Func) (bs : List Block) (w : Edge) : Type 0 where
 
 abbrev pub EachEdge : Classes → Func → (VirtualBlock ℕ → Bool) → List Block → Type 0
 EachEdge classes f test bs = (w : Edge) (e : Ending) → Leaves f bs w → IsOnEdge f w e → test (edge_of classes e) ≡ true
-
-pub all_both : {A : Type 0} (test : A → Bool) (xs ys : List A) → list_all test xs ≡ true → list_all test ys ≡ true → list_all test (xs ++ ys) ≡ true
-all_both test [] ys h k = k
-all_both test (x ∷ xs) ys h k = by (test x) h (all_both test xs ys)
-  where
-    by : (b : Bool) → (b && list_all test xs) ≡ true → (list_all test xs ≡ true → list_all test ys ≡ true → list_all test (xs ++ ys) ≡ true) → (b && list_all test (xs ++ ys)) ≡ true
-    by true e rest = rest e k
-    by false e rest = e
 
 split_among : {A : Type 0} (x : A) (xs ys : List A) → Among x (xs ++ ys) → Among x xs ⊎ Among x ys
 split_among x [] ys h = inr h

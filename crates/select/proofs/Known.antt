@@ -42,10 +42,13 @@ use Rattle.vcode.specs.declared.line.Comparison.{Comparison}
 use Rattle.vcode.specs.Named.{operand_keeps, line_keeps, jump_keeps, block_keeps, keeps_places, is_below}
 use Rattle.select.specs.Selected.{are_whole, word, words_compared, comparison_of, operand_of, argument_of, inst_lines, turn_lines, all_lines, copy_lines, assignment_lines, ending_lines, jump_of, block_of, edge_of, blocks_of, parameter_of, selected, binary_lines}
 use Rattle.select.specs.Typed.{Classes}
-use Rattle.select.proofs.Typing.{Among, among_left, among_right, neither_first, neither_second, not_broken, none_among, assigned_own}
+use Rattle.select.proofs.Typing.{assigned_own}
 use Rattle.select.proofs.LoweredTyping.{own_temps, param_among}
-use Rattle.select.proofs.EachBlock.{blocks_all, edges_all, all_both}
+use Rattle.select.proofs.EachBlock.{blocks_all, edges_all}
 use Rattle.select.proofs.UsedPlaces.{AllKeep, copy_sets, unary_sets, binary_sets, sets_keep}
+use Rattle.il_ast.proofs.Listed.{all_append}
+use Rattle.phi_copies.proofs.PhiRules.{not_broken, neither_first, neither_second, none_among}
+use Rattle.phi_copies.proofs.Members.{Among, among_left, among_right}
 
 -- how many registers there are: one for each temporary, and one for each phi
 abbrev pub registers : Func → ℕ
@@ -143,7 +146,7 @@ within f good b i here at =
 insts_keep : (classes : Classes) (f : Func) → IsGoodFunction f → (b : Block) → Among b f.blocks → (insts : List (Lined Inst)) → ((i : Lined Inst) → Among i insts → Among i b.insts) → list_all (line_keeps (Below f)) (all_lines classes insts) ≡ true
 insts_keep classes f good b here [] sub = refl
 insts_keep classes f good b here (i ∷ insts) sub =
-    all_both (line_keeps (Below f)) (turn_lines classes i) (all_lines classes insts) (inst_keeps classes f i.line i.item (within f good b i here (sub i (inl refl))))
+    all_append (line_keeps (Below f)) (turn_lines classes i) (all_lines classes insts) (inst_keeps classes f i.line i.item (within f good b i here (sub i (inl refl))))
     (insts_keep classes f good b here insts (λ j a. sub j (inr a)))
 
 -- ---- copies
@@ -159,7 +162,7 @@ AllCopies f (c ∷ cs) = CopyKeeps f c × AllCopies f cs
 assignments_keep : (classes : Classes) (f : Func) (cs : List Assignment) → AllCopies f cs → list_all (line_keeps (Below f)) (assignment_lines classes cs) ≡ true
 assignments_keep classes f [] h = refl
 assignments_keep classes f (c ∷ cs) h =
-    all_both (line_keeps (Below f)) (copy_lines classes c.to.temp c.to.class (operand_of c.value)) (assignment_lines classes cs)
+    all_append (line_keeps (Below f)) (copy_lines classes c.to.temp c.to.class (operand_of c.value)) (assignment_lines classes cs)
     (sets_keep (Below f) c.to.temp (operand_of c.value ∷ []) _ (below f c.to.temp h.0.to) (only (Below f) (operand_of c.value) h.0.value) (copy_sets classes c.to.temp c.to.class (operand_of c.value)))
     (assignments_keep classes f cs h.1)
 
@@ -244,7 +247,7 @@ block_of_keeps : (classes : Classes) (f : Func) → IsGoodFunction f → (b : Bl
 block_of_keeps classes f good b e m a is =
     let k = end_ending_keeps classes f good b b.jump m e a refl is in
     and_from (list_all (line_keeps (Below f)) (all_lines classes b.insts ++ ending_lines classes e)) _
-    (all_both (line_keeps (Below f)) (all_lines classes b.insts) (ending_lines classes e) (insts_keep classes f good b a b.insts (λ i h. h)) (assignments_keep classes f e.copies k.copies))
+    (all_append (line_keeps (Below f)) (all_lines classes b.insts) (ending_lines classes e) (insts_keep classes f good b a b.insts (λ i h. h)) (assignments_keep classes f e.copies k.copies))
     k.leaves
 
 edge_of_keeps : (classes : Classes) (f : Func) (w : Edge) (e : Ending) → IsOnEdge f w e → block_keeps (Below f) (edge_of classes e) ≡ true

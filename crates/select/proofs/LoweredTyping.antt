@@ -40,11 +40,12 @@ use Rattle.phi_copies.specs.Endings.{Endings}
 use Rattle.phi_copies.specs.Lowered.{Edge, block_edges, all_edges, target, straight, straight_if, IsGoto, IsJumpEnding, IsEndEnding, IsBlockEnding, AreEndings, AreOnEdges, IsLowered}
 use Rattle.phi_copies.specs.Source.{value_or_zero, source}
 use Rattle.phi_copies.proofs.EdgePlaces.{AllLess, come_up}
-use Rattle.phi_copies.proofs.MoreKnown.{get_more}
-use Rattle.phi_copies.proofs.Lists.{get_past}
 use Rattle.select.specs.Typed.{Classes, Fits, ArgsFit, HasResult, InstFits, CopiesFit, ReturnFits, EndingFits, ParamsFit, IsTyped}
 use Rattle.select.specs.Classes.{class_given, or_long, all_phis, classes_in}
-use Rattle.select.proofs.Typing.{Among, among_left, among_right, among_at, neither_second, not_broken, none_among, class_is, OwnTemps, own_class, value_fits, operand_fits}
+use Rattle.select.proofs.Typing.{among_at, class_is, OwnTemps, own_class, value_fits, operand_fits}
+use Rattle.il_ast.proofs.Listed.{get_before, get_behind}
+use Rattle.phi_copies.proofs.PhiRules.{not_broken, neither_second, none_among, find_among}
+use Rattle.phi_copies.proofs.Members.{among_get, Among, among_left, among_right}
 
 -- ---- where a thing among others comes from
 
@@ -65,11 +66,6 @@ map_among f g m each (y ∷ ys) x h = by (split_among x (f y) (flat_map f ys) h)
     by : Among x (f y) ⊎ Among x (flat_map f ys) → (Among x (flat_map f ys) → Among (m x) (flat_map g ys)) → Among (m x) (flat_map g (y ∷ ys))
     by (inl a) rest = among_left (m x) (g y) (flat_map g ys) (each y x a)
     by (inr a) rest = among_right (m x) (g y) (flat_map g ys) (rest a)
-
-pub there : {A : Type 0} (xs : List A) (n : ℕ) (x : A) → slice_get xs n ≡ Some x → Among x xs
-there [] n x e = absurd (let no : ⊥ = cc in no)
-there (y ∷ xs) zero x e = inl (let same : x ≡ y = cc in same)
-there (y ∷ xs) (suc n) x e = inr (there xs n x e)
 
 -- ---- the temporaries that are assigned are the function's own
 
@@ -150,8 +146,8 @@ inst_at f good k j b i here at =
           (among_right o (flat_map phi_operands b.phis) (flat_map inst_operands b.insts ++ end_operands b.jump) (among_left o (flat_map inst_operands b.insts) (end_operands b.jump) (among_at inst_operands b.insts j i o at a)));
       right =
           let results = neither_second (first (λ (x : Operand). when (not (fits (definers_of f) x.class x.value)) x.line) (operands_of f)) (in_insts has_wrong_result f.blocks) (good.rules OperandFits) in
-          let within = none_among (λ (c : Block). first (λ (x : Lined Inst). when (has_wrong_result x.item) x.line) c.insts) f.blocks b results (there f.blocks k b here) in
-          not_broken (has_wrong_result i.item) i.line (none_among (λ (x : Lined Inst). when (has_wrong_result x.item) x.line) b.insts i within (there b.insts j i at));
+          let within = none_among (λ (c : Block). first (λ (x : Lined Inst). when (has_wrong_result x.item) x.line) c.insts) f.blocks b results (among_get f.blocks k b here) in
+          not_broken (has_wrong_result i.item) i.line (none_among (λ (x : Lined Inst). when (has_wrong_result x.item) x.line) b.insts i within (among_get b.insts j i at));
     }
 
 not_word : (c : Class) → is_word c ≡ false → c ≡ L
@@ -203,10 +199,10 @@ phi_place [] k j b p here at = absurd (let no : ⊥ = cc in no)
 phi_place (c ∷ blocks) zero j b p here at =
     let same : c ≡ b = cc in
     let none : 0 + j ≡ j = omega arith in
-    ap (slice_get (c.phis ++ all_phis blocks)) none ∙ get_more c.phis (all_phis blocks) j p (ap (λ (x : Block). slice_get x.phis j) same ∙ at)
+    ap (slice_get (c.phis ++ all_phis blocks)) none ∙ get_before c.phis (all_phis blocks) j p (ap (λ (x : Block). slice_get x.phis j) same ∙ at)
 phi_place (c ∷ blocks) (suc k) j b p here at =
     let past : length c.phis + phis_before blocks k + j ≡ length c.phis + (phis_before blocks k + j) = omega arith in
-    ap (slice_get (c.phis ++ all_phis blocks)) past ∙ get_past c.phis (all_phis blocks) (phis_before blocks k + j) ∙ phi_place blocks k j b p here at
+    ap (slice_get (c.phis ++ all_phis blocks)) past ∙ get_behind c.phis (all_phis blocks) (phis_before blocks k + j) ∙ phi_place blocks k j b p here at
 
 -- a phi whose own temporary has number n
 record PhiFits (f : Func) (n : ℕ) (p : Phi) : Type 0 where
@@ -236,14 +232,6 @@ phi_fits f good k j b p here at =
           (among_at block_operands f.blocks k b _ here
           (among_left _ (flat_map phi_operands b.phis) (flat_map inst_operands b.insts ++ end_operands b.jump) (among_at phi_operands b.phis j p _ at (phi_argument_at p p.args a h))));
     }
-
-pub find_among : (from : ℕ) (args : List PhiArg) (a : PhiArg) → find (λ (x : PhiArg). nat_eq x.from from) args ≡ Some a → Among a args
-find_among from [] a h = absurd (let no : ⊥ = cc in no)
-find_among from (x ∷ args) a h = by (nat_eq x.from from) h (find_among from args a)
-  where
-    by : (b : Bool) → cond b (Some x) (find (λ (y : PhiArg). nat_eq y.from from) args) ≡ Some a → (find (λ (y : PhiArg). nat_eq y.from from) args ≡ Some a → Among a args) → Among a (x ∷ args)
-    by true e rest = inl (let same : a ≡ x = cc in same)
-    by false e rest = inr (rest e)
 
 source_fits : (f : Func) (n from : ℕ) (p : Phi) → PhiFits f n p → Fits (classes_in f) p.to.class (source from p)
 source_fits f n from p fit = by p.to.class (find (λ (x : PhiArg). nat_eq x.from from) p.args) refl refl

@@ -49,10 +49,11 @@ use Rattle.select.specs.Typed.{Classes}
 use Rattle.select.specs.Classes.{classes_in}
 use Rattle.select.specs.Tables.{listed}
 use Rattle.select.specs.Narrow.{narrow, narrow_val, narrow_dest, narrow_arg, narrow_parameter, narrow_inst, narrow_turns, narrow_copies, narrow_ending, narrow_leave, narrow_block, narrow_edge, narrow_blocks, narrow_code}
-use Rattle.select.proofs.Typing.{Among, among_left}
 use Rattle.select.proofs.LoweredTyping.{own_temps, param_among}
 use Rattle.select.proofs.TableOf.{same_classes}
 use Rattle.select.proofs.Known.{registers, Below, Within, within, AllCopies, EndingKeeps, end_ending_keeps, on_edge_keeps}
+use Rattle.il_ast.proofs.Truth.{and_first}
+use Rattle.phi_copies.proofs.Members.{Among, among_left}
 
 -- ---- operands
 
@@ -112,10 +113,6 @@ among_sum : {A : Type 0} (g : A → ℕ) (xs : List A) (x : A) → Among x xs �
 among_sum g [] x a = absurd a
 among_sum g (y ∷ xs) x (inl e) = let all = sum_by-cons g y xs in let same = ap g e in omega (arith, all, same)
 among_sum g (y ∷ xs) x (inr a) = let all = sum_by-cons g y xs in let le = among_sum g xs x a in omega (arith, all, le)
-
-and_first : (a b : Bool) → (a && b) ≡ true → a ≡ true
-and_first true b h = refl
-and_first false b h = h
 
 pub light : (f : Func) → IsGoodFunction f → weight f ≤ FUNCTION_WEIGHT
 light f good =

@@ -11,23 +11,18 @@ use Rattle.rv_isa.specs.declared.instruction.RegOp.TheVariants.{Add as AddReg, S
 use Rattle.rv_isa.specs.declared.instruction.RegWOp.{RegWOp}
 use Rattle.rv_isa.specs.declared.instruction.RegWOp.TheVariants.{Addw, Subw, Sllw, Srlw, Sraw, Mulw, Divw, Divuw, Remw, Remuw}
 use Rattle.rv_isa.specs.Arithmetic.{reg_value, word_value}
-
-some_number : {m n : ℕ} → Some m ≡ Some n → m ≡ n
-some_number h = cc
-
-none_number : {n : ℕ} → None ≡ Some n → ⊥
-none_number h = cc
+use Rattle.il_ast.proofs.Chosen.{same_chosen, none_chosen}
 
 -- ---- division, which the source leaves undefined by 0
 
 divided : (by_zero least : Bool) (z n x : ℕ) → cond (not by_zero && not least) (Some n) None ≡ Some x → cond by_zero z n ≡ x
-divided true least z n x h = absurd (none_number h)
-divided false true z n x h = absurd (none_number h)
-divided false false z n x h = some_number h
+divided true least z n x h = absurd (none_chosen h)
+divided false true z n x h = absurd (none_chosen h)
+divided false false z n x h = same_chosen h
 
 divided_unsigned : (by_zero : Bool) (z n x : ℕ) → cond by_zero None (Some n) ≡ Some x → cond by_zero z n ≡ x
-divided_unsigned true z n x h = absurd (none_number h)
-divided_unsigned false z n x h = some_number h
+divided_unsigned true z n x h = absurd (none_chosen h)
+divided_unsigned false z n x h = same_chosen h
 
 -- ---- words
 
@@ -36,22 +31,22 @@ abbrev pub WordRight : RegWOp → BinaryOp → Type 0
 WordRight rop bop = (a b x : ℕ) → on_integers bop W a b ≡ Some x → word_value rop a b ≡ x
 
 pub add_word : WordRight Addw Add
-add_word a b x h = some_number h
+add_word a b x h = same_chosen h
 
 pub sub_word : WordRight Subw Sub
-sub_word a b x h = some_number h
+sub_word a b x h = same_chosen h
 
 pub mul_word : WordRight Mulw Mul
-mul_word a b x h = some_number h
+mul_word a b x h = same_chosen h
 
 pub shl_word : WordRight Sllw Shl
-shl_word a b x h = some_number h
+shl_word a b x h = same_chosen h
 
 pub shr_word : WordRight Srlw Shr
-shr_word a b x h = some_number h
+shr_word a b x h = same_chosen h
 
 pub sar_word : WordRight Sraw Sar
-sar_word a b x h = some_number h
+sar_word a b x h = same_chosen h
 
 pub div_word : WordRight Divw Div
 div_word a b x h =
@@ -73,22 +68,22 @@ abbrev pub LongRight : RegOp → BinaryOp → Type 0
 LongRight rop bop = (a b x : ℕ) → on_integers bop L a b ≡ Some x → reg_value rop a b ≡ x
 
 pub add_long : LongRight AddReg Add
-add_long a b x h = some_number h
+add_long a b x h = same_chosen h
 
 pub sub_long : LongRight SubReg Sub
-sub_long a b x h = some_number h
+sub_long a b x h = same_chosen h
 
 pub mul_long : LongRight MulReg Mul
-mul_long a b x h = some_number h
+mul_long a b x h = same_chosen h
 
 pub and_long : LongRight AndReg And
-and_long a b x h = some_number h
+and_long a b x h = same_chosen h
 
 pub or_long : LongRight OrReg Or
-or_long a b x h = some_number h
+or_long a b x h = same_chosen h
 
 pub xor_long : LongRight XorReg Xor
-xor_long a b x h = some_number h
+xor_long a b x h = same_chosen h
 
 pub div_long : LongRight DivReg Div
 div_long a b x h =
@@ -112,10 +107,10 @@ amount : (b : ℕ) → b % 64 ≡ b % 2 ^ 32 % 64
 amount b = omega arith
 
 pub shl_long : ShiftRight SllReg Shl
-shl_long a b x h = ap (λ k. (a * 2 ^ k) % 2 ^ 64) (amount b) ∙ some_number h
+shl_long a b x h = ap (λ k. (a * 2 ^ k) % 2 ^ 64) (amount b) ∙ same_chosen h
 
 pub shr_long : ShiftRight SrlReg Shr
-shr_long a b x h = ap (λ k. a / 2 ^ k) (amount b) ∙ some_number h
+shr_long a b x h = ap (λ k. a / 2 ^ k) (amount b) ∙ same_chosen h
 
 pub sar_long : ShiftRight SraReg Sar
-sar_long a b x h = ap (λ k. cast_unsigned w64 (int_shr (cast_signed w64 a) k)) (amount b) ∙ some_number h
+sar_long a b x h = ap (λ k. cast_unsigned w64 (int_shr (cast_signed w64 a) k)) (amount b) ∙ same_chosen h

@@ -1,5 +1,5 @@
 -- The lines of an operation set its register to what the operation gives.
-use Rattle.std.proofs.Common.{◌≡◌, ℕ, ◌+◌, ◌-◌, ◌%◌, ◌^◌, ◌<◌, Bool, true, false, ◌&&◌, List, [], ◌∷◌, refl, sym, ◌∙◌, ap, subst, arith}
+use Rattle.std.proofs.Common.{◌≡◌, ℕ, ◌+◌, ◌-◌, ◌%◌, ◌^◌, ◌<◌, Bool, true, false, List, [], ◌∷◌, refl, sym, ◌∙◌, ap, subst, arith}
 use Rattle.std.specs.Prelude.{Option, Some, None, bit_and}
 use Rattle.std.specs.Int.{w8, w16, w64, cast_signed, cast_unsigned}
 use Rattle.std.specs.Option.{option_map, option_and_then}
@@ -43,13 +43,13 @@ use Rattle.select.proofs.Going.{Setting}
 use Rattle.select.proofs.Numbers.{WordRight, LongRight, ShiftRight, add_word, sub_word, mul_word, shl_word, shr_word, sar_word, div_word, rem_word, udiv_word, urem_word, add_long, sub_long, mul_long, and_long, or_long, xor_long, div_long, rem_long, udiv_long, urem_long, shl_long, shr_long, sar_long}
 use Rattle.select.proofs.Registers.{Reads, long_same, Stands}
 use Rattle.select.proofs.WholeWords.{extended_low, BitsStay, and_stays, or_stays, xor_stays}
-use Rattle.select.proofs.Widening.{word_plus_zero, word_again, negated_word, negated_long, back_32, back_48, half_back, byte_back, half_in_word, byte_in_word, word_in_word, small_in_word, low_byte}
+use Rattle.select.proofs.Widening.{word_plus_zero, negated_word, negated_long, back_32, back_48, half_back, byte_back, half_in_word, byte_in_word, word_in_word, small_in_word, low_byte}
 use Rattle.select.proofs.Yielding.{Yields, yields_one, yields_two, set_line, operate_line, load_line}
+use Rattle.il_ast.proofs.Truth.{and_first, and_second}
+use Rattle.il_ast.proofs.Chosen.{same_chosen}
+use Rattle.il_ast.proofs.Wrapping.{low_twice}
 
 -- ---- values
-
-some_value : {v w : Value} → Some v ≡ Some w → v ≡ w
-some_value h = cc
 
 none_value : {v : Value} → None ≡ Some v → ⊥
 none_value h = cc
@@ -61,7 +61,7 @@ record IsWord (v u : Value) : Type 0 where
   read : u ≡ Integer (number % 2 ^ 32)
 
 is_word : (v u : Value) → in_place W v ≡ Some u → IsWord v u
-is_word (Integer n) u h = record { number = n; is = refl; read = sym (some_value h) }
+is_word (Integer n) u h = record { number = n; is = refl; read = sym (same_chosen h) }
 is_word (Pointer b o) u h = absurd (none_value h)
 is_word (Function f) u h = absurd (none_value h)
 
@@ -76,7 +76,7 @@ as_word_yields c t p a u r =
     let w = is_word r.value u r.read_as in
     let n = w.number in
     yields_same c t (as_word p a ∷ []) p (Integer (sign_extended ((n % 2 ^ 32 + 0 % 2 ^ 32) % 2 ^ 32))) (held W u)
-    (ap (λ k. Integer (sign_extended k)) (word_plus_zero n ∙ sym (word_again n)) ∙ ap (held W) (sym w.read))
+    (ap (λ k. Integer (sign_extended k)) (word_plus_zero n ∙ sym (low_twice n)) ∙ ap (held W) (sym w.read))
     (yields_one c t (as_word p a) p (Integer (sign_extended ((n % 2 ^ 32 + 0 % 2 ^ 32) % 2 ^ 32)))
     (operate_line c t p (RegW Addw) a (Number 0) (Integer n) (Integer 0) _ (r.is ∙ ap Some w.is) refl refl))
 
@@ -108,7 +108,7 @@ regw_line m rop bop right a b x h = by (on_integers bop W (a % 2 ^ 32) (b % 2 ^ 
         let is : word_value rop (a % 2 ^ 32) (b % 2 ^ 32) ≡ y = right (a % 2 ^ 32) (b % 2 ^ 32) y e in
         let fits : word_value rop (a % 2 ^ 32) (b % 2 ^ 32) < 2 ^ 32 = word_value_fits rop (a % 2 ^ 32) (b % 2 ^ 32) (omega arith) (omega arith) in
         let whole : word_value rop (a % 2 ^ 32) (b % 2 ^ 32) ≡ y % 2 ^ 32 = omega (arith, is, fits) in
-        ap (λ k. Integer (sign_extended k)) whole ∙ ap (held W) (some_value f)
+        ap (λ k. Integer (sign_extended k)) whole ∙ ap (held W) (same_chosen f)
 
 two_words : (m : Memory) (bop : BinaryOp) (u v x : Value) (a b : ℕ) → u ≡ Integer a → v ≡ Integer b → operate_two m bop W u v ≡ Some x → option_map Integer (on_integers bop W a b) ≡ Some x
 unfolding operate_two
@@ -177,17 +177,14 @@ shift_yields c t p rop bop right nowhere a b u v x r q h =
 abbrev BitsRight : RegOp → BinaryOp → Type 0
 BitsRight rop bop = (a b x : ℕ) → on_integers bop W (a % 2 ^ 32) (b % 2 ^ 32) ≡ Some x → reg_value rop a b % 2 ^ 32 ≡ x
 
-some_number : {m n : ℕ} → Some m ≡ Some n → m ≡ n
-some_number h = cc
-
 and_bits : BitsRight AndReg And
-and_bits a b x h = and_mod a b 32 ∙ some_number h
+and_bits a b x h = and_mod a b 32 ∙ same_chosen h
 
 or_bits : BitsRight OrReg Or
-or_bits a b x h = or_mod a b 32 ∙ some_number h
+or_bits a b x h = or_mod a b 32 ∙ same_chosen h
 
 xor_bits : BitsRight XorReg Xor
-xor_bits a b x h = xor_mod a b 32 ∙ some_number h
+xor_bits a b x h = xor_mod a b 32 ∙ same_chosen h
 
 low_bits_are : (rop : RegOp) (bop : BinaryOp) → BitsRight rop bop → (a b : ℕ) (x : Value) → option_map Integer (on_integers bop W (a % 2 ^ 32) (b % 2 ^ 32)) ≡ Some x → Integer (sign_extended ((reg_value rop a b % 2 ^ 32 + 0 % 2 ^ 32) % 2 ^ 32)) ≡ held W x
 low_bits_are rop bop right a b x h = by (on_integers bop W (a % 2 ^ 32) (b % 2 ^ 32)) refl h
@@ -195,8 +192,8 @@ low_bits_are rop bop right a b x h = by (on_integers bop W (a % 2 ^ 32) (b % 2 ^
     by : (o : Option ℕ) → on_integers bop W (a % 2 ^ 32) (b % 2 ^ 32) ≡ o → option_map Integer o ≡ Some x → Integer (sign_extended ((reg_value rop a b % 2 ^ 32 + 0 % 2 ^ 32) % 2 ^ 32)) ≡ held W x
     by None e f = absurd (none_value f)
     by (Some y) e f =
-        ap (λ k. Integer (sign_extended k)) (word_plus_zero (reg_value rop a b) ∙ sym (word_again (reg_value rop a b)) ∙ ap (λ k. k % 2 ^ 32) (right a b y e))
-        ∙ ap (held W) (some_value f)
+        ap (λ k. Integer (sign_extended k)) (word_plus_zero (reg_value rop a b) ∙ sym (low_twice (reg_value rop a b)) ∙ ap (λ k. k % 2 ^ 32) (right a b y e))
+        ∙ ap (held W) (same_chosen f)
 
 bits_yield : (c : Setting) (t : State ℕ) (p : ℕ) (rop : RegOp) (bop : BinaryOp) → BitsRight rop bop → (a b : Operand ℕ) (u v x : Value) → Reads c.globals t.values a W u → Reads c.globals t.values b W v → operate_two t.memory bop W u v ≡ Some x → Yields c t (low_reg p rop a b) p (held W x)
 unfolding operate
@@ -212,14 +209,6 @@ bits_yield c t p rop bop right a b u v x r q h =
 
 -- of two words that stand sign-extended
 
-and_first : (a b : Bool) → (a && b) ≡ true → a ≡ true
-and_first true b h = refl
-and_first false b h = h
-
-and_second : (a b : Bool) → (a && b) ≡ true → b ≡ true
-and_second true b h = h
-and_second false b h = absurd (let no : ⊥ = cc in no)
-
 -- the word that the bits give stands sign-extended
 words_give : (rop : RegOp) (bop : BinaryOp) → BitsRight rop bop → BitsStay rop → (a b : ℕ) (x : Value) → option_map Integer (on_integers bop W (a % 2 ^ 32) (b % 2 ^ 32)) ≡ Some x → Integer (reg_value rop (sign_extended (a % 2 ^ 32 % 2 ^ 32)) (sign_extended (b % 2 ^ 32 % 2 ^ 32))) ≡ held W x
 words_give rop bop right stay a b x h = by (on_integers bop W (a % 2 ^ 32) (b % 2 ^ 32)) refl h
@@ -227,15 +216,15 @@ words_give rop bop right stay a b x h = by (on_integers bop W (a % 2 ^ 32) (b % 
     by : (o : Option ℕ) → on_integers bop W (a % 2 ^ 32) (b % 2 ^ 32) ≡ o → option_map Integer o ≡ Some x → Integer (reg_value rop (sign_extended (a % 2 ^ 32 % 2 ^ 32)) (sign_extended (b % 2 ^ 32 % 2 ^ 32))) ≡ held W x
     by None e f = absurd (none_value f)
     by (Some y) e f =
-        let first : sign_extended (a % 2 ^ 32 % 2 ^ 32) % 2 ^ 32 ≡ a % 2 ^ 32 = extended_low (a % 2 ^ 32 % 2 ^ 32) (omega arith) ∙ word_again a in
-        let second : sign_extended (b % 2 ^ 32 % 2 ^ 32) % 2 ^ 32 ≡ b % 2 ^ 32 = extended_low (b % 2 ^ 32 % 2 ^ 32) (omega arith) ∙ word_again b in
+        let first : sign_extended (a % 2 ^ 32 % 2 ^ 32) % 2 ^ 32 ≡ a % 2 ^ 32 = extended_low (a % 2 ^ 32 % 2 ^ 32) (omega arith) ∙ low_twice a in
+        let second : sign_extended (b % 2 ^ 32 % 2 ^ 32) % 2 ^ 32 ≡ b % 2 ^ 32 = extended_low (b % 2 ^ 32 % 2 ^ 32) (omega arith) ∙ low_twice b in
         let low : reg_value rop (sign_extended (a % 2 ^ 32 % 2 ^ 32)) (sign_extended (b % 2 ^ 32 % 2 ^ 32)) % 2 ^ 32 ≡ y =
         right (sign_extended (a % 2 ^ 32 % 2 ^ 32)) (sign_extended (b % 2 ^ 32 % 2 ^ 32)) y
         (ap (λ k. on_integers bop W k (sign_extended (b % 2 ^ 32 % 2 ^ 32) % 2 ^ 32)) first ∙ ap (on_integers bop W (a % 2 ^ 32)) second ∙ e) in
         ap Integer (sym (stay (a % 2 ^ 32 % 2 ^ 32) (b % 2 ^ 32 % 2 ^ 32) (omega arith) (omega arith)))
-        ∙ ap (λ k. Integer (sign_extended k)) (sym (word_again (reg_value rop (sign_extended (a % 2 ^ 32 % 2 ^ 32)) (sign_extended (b % 2 ^ 32 % 2 ^ 32)))))
+        ∙ ap (λ k. Integer (sign_extended k)) (sym (low_twice (reg_value rop (sign_extended (a % 2 ^ 32 % 2 ^ 32)) (sign_extended (b % 2 ^ 32 % 2 ^ 32)))))
         ∙ ap (λ k. Integer (sign_extended (k % 2 ^ 32))) low
-        ∙ ap (held W) (some_value f)
+        ∙ ap (held W) (same_chosen f)
 
 words_yield : (classes : Classes) (c : Setting) (t : State ℕ) (p : ℕ) (rop : RegOp) (bop : BinaryOp) → BitsRight rop bop → BitsStay rop → (a b : Operand ℕ) (u v x : Value) → Reads c.globals t.values a W u → Reads c.globals t.values b W v → Stands classes c.globals t.values W a u → Stands classes c.globals t.values W b v → operate_two t.memory bop W u v ≡ Some x → Yields c t (bit_lines classes p rop a b) p (held W x)
 unfolding operate
@@ -276,11 +265,11 @@ record IsTruth (x : Value) : Type 0 where
 
 mapped_truth : (o : Option Bool) (x : Value) → option_map (λ b. Integer (truth b)) o ≡ Some x → IsTruth x
 mapped_truth None x h = absurd (none_value h)
-mapped_truth (Some b) x h = record { test = b; is = sym (some_value h) }
+mapped_truth (Some b) x h = record { test = b; is = sym (same_chosen h) }
 
 is_truth : (m : Memory) (on : Condition) (k j : Class) (u v x : Value) → operate_two m (Compare on k) j u v ≡ Some x → IsTruth x
 unfolding operate_two
-is_truth m on k j (Integer a) (Integer b) x h = record { test = holds on k a b; is = sym (some_value h) }
+is_truth m on k j (Integer a) (Integer b) x h = record { test = holds on k a b; is = sym (same_chosen h) }
 is_truth m on k j (Integer a) (Pointer b o) x h = mapped_truth (compare_places m on (Integer a) (Pointer b o)) x h
 is_truth m on k j (Integer a) (Function f) x h = mapped_truth (compare_places m on (Integer a) (Function f)) x h
 is_truth m on k j (Pointer b o) (Integer a) x h = mapped_truth (compare_places m on (Pointer b o) (Integer a)) x h
@@ -325,8 +314,8 @@ unfolding operate operate_two
 extended_gives m on j a b x h =
     ap (λ q. Some (Integer (truth q)))
     (holds_extended on (a % 2 ^ 32 % 2 ^ 32) (b % 2 ^ 32 % 2 ^ 32) (omega arith) (omega arith)
-    ∙ ap (λ k. holds on W k (b % 2 ^ 32 % 2 ^ 32)) (word_again a)
-    ∙ ap (holds on W (a % 2 ^ 32)) (word_again b))
+    ∙ ap (λ k. holds on W k (b % 2 ^ 32 % 2 ^ 32)) (low_twice a)
+    ∙ ap (holds on W (a % 2 ^ 32)) (low_twice b))
     ∙ h
 
 pub comparison_gives : (classes : Classes) (globals : List Value) (t : State ℕ) (on : Condition) (k j : Class) (a b : Operand ℕ) (u v x : Value) → Reads globals t.values a k u → Reads globals t.values b k v → Stands classes globals t.values k a u → Stands classes globals t.values k b v → operate_two t.memory (Compare on k) j u v ≡ Some x → Gives globals t (comparison_of classes on k a b) x
@@ -373,7 +362,7 @@ wide : Class → Extension → ℕ → Value
 wide k e n = Integer (extended e k n)
 
 extended_is : (e : Extension) (k : Class) (u x : Value) (n : ℕ) → widened e k u ≡ Some x → u ≡ Integer n → x ≡ Integer (extended e k n)
-extended_is e k u x n h is = some_value (sym h ∙ ap (widened e k) is)
+extended_is e k u x n h is = same_chosen (sym h ∙ ap (widened e k) is)
 
 half_held : (k : Class) (n : ℕ) → Integer (cast_unsigned w64 (cast_signed w16 (n % 2 ^ 32 % 2 ^ 16))) ≡ held k (Integer (extended SignedHalf k (n % 2 ^ 32)))
 half_held W n = ap Integer (sym (half_in_word (n % 2 ^ 32 % 2 ^ 16) (omega arith)))
@@ -418,16 +407,16 @@ extend_yields classes c t p UnsignedByte k a u x long r s h =
 
 -- a load: the bytes of the same size, widened
 narrow_loaded : (e : Extension) (k : Class) (v x : Value) → widened e k v ≡ Some x → extended_load (load_of e k) v ≡ Some (held k x)
-narrow_loaded SignedWord W (Integer n) x h = ap (λ y. Some (Integer y)) (sym (word_in_word (n % 2 ^ 32) (omega arith))) ∙ ap (λ y. Some (held W y)) (some_value h)
-narrow_loaded SignedWord L (Integer n) x h = ap (λ y. Some (held L y)) (some_value h)
-narrow_loaded UnsignedWord W (Integer n) x h = ap (λ y. Some (Integer (sign_extended y))) (sym (word_again n)) ∙ ap (λ y. Some (held W y)) (some_value h)
-narrow_loaded UnsignedWord L (Integer n) x h = ap (λ y. Some (held L y)) (some_value h)
-narrow_loaded SignedHalf W (Integer n) x h = ap (λ y. Some (Integer y)) (sym (half_in_word (n % 2 ^ 16) (omega arith))) ∙ ap (λ y. Some (held W y)) (some_value h)
-narrow_loaded SignedHalf L (Integer n) x h = ap (λ y. Some (held L y)) (some_value h)
-narrow_loaded UnsignedHalf k (Integer n) x h = ap Some (small_held k (n % 2 ^ 16) (omega arith)) ∙ ap (λ y. Some (held k y)) (some_value h)
-narrow_loaded SignedByte W (Integer n) x h = ap (λ y. Some (Integer y)) (sym (byte_in_word (n % 2 ^ 8) (omega arith))) ∙ ap (λ y. Some (held W y)) (some_value h)
-narrow_loaded SignedByte L (Integer n) x h = ap (λ y. Some (held L y)) (some_value h)
-narrow_loaded UnsignedByte k (Integer n) x h = ap Some (small_held k (n % 2 ^ 8) (omega arith)) ∙ ap (λ y. Some (held k y)) (some_value h)
+narrow_loaded SignedWord W (Integer n) x h = ap (λ y. Some (Integer y)) (sym (word_in_word (n % 2 ^ 32) (omega arith))) ∙ ap (λ y. Some (held W y)) (same_chosen h)
+narrow_loaded SignedWord L (Integer n) x h = ap (λ y. Some (held L y)) (same_chosen h)
+narrow_loaded UnsignedWord W (Integer n) x h = ap (λ y. Some (Integer (sign_extended y))) (sym (low_twice n)) ∙ ap (λ y. Some (held W y)) (same_chosen h)
+narrow_loaded UnsignedWord L (Integer n) x h = ap (λ y. Some (held L y)) (same_chosen h)
+narrow_loaded SignedHalf W (Integer n) x h = ap (λ y. Some (Integer y)) (sym (half_in_word (n % 2 ^ 16) (omega arith))) ∙ ap (λ y. Some (held W y)) (same_chosen h)
+narrow_loaded SignedHalf L (Integer n) x h = ap (λ y. Some (held L y)) (same_chosen h)
+narrow_loaded UnsignedHalf k (Integer n) x h = ap Some (small_held k (n % 2 ^ 16) (omega arith)) ∙ ap (λ y. Some (held k y)) (same_chosen h)
+narrow_loaded SignedByte W (Integer n) x h = ap (λ y. Some (Integer y)) (sym (byte_in_word (n % 2 ^ 8) (omega arith))) ∙ ap (λ y. Some (held W y)) (same_chosen h)
+narrow_loaded SignedByte L (Integer n) x h = ap (λ y. Some (held L y)) (same_chosen h)
+narrow_loaded UnsignedByte k (Integer n) x h = ap Some (small_held k (n % 2 ^ 8) (omega arith)) ∙ ap (λ y. Some (held k y)) (same_chosen h)
 narrow_loaded e k (Pointer b o) x h = absurd (none_value h)
 narrow_loaded e k (Function f) x h = absurd (none_value h)
 
@@ -468,12 +457,12 @@ negate_yields c t p W a u x r h =
     let w = is_word r.value u r.read_as in
     let n = w.number in
     yields_same c t (negate_lines p W a) p (Integer (sign_extended ((0 % 2 ^ 32 + (2 ^ 32 - n % 2 ^ 32)) % 2 ^ 32))) (held W x)
-    (ap (λ y. Integer (sign_extended y)) (negated_word n) ∙ ap (held W) (some_value (sym (ap (operate_one t.memory Neg W) w.read) ∙ h)))
+    (ap (λ y. Integer (sign_extended y)) (negated_word n) ∙ ap (held W) (same_chosen (sym (ap (operate_one t.memory Neg W) w.read) ∙ h)))
     (yields_one c t (Operate p (RegW Subw) (Number 0) a) p (Integer (sign_extended ((0 % 2 ^ 32 + (2 ^ 32 - n % 2 ^ 32)) % 2 ^ 32)))
     (operate_line c t p (RegW Subw) (Number 0) a (Integer 0) (Integer n) _ refl (r.is ∙ ap Some w.is) refl))
 negate_yields c t p L a (Integer n) x r h =
     yields_same c t (negate_lines p L a) p (Integer ((0 + (2 ^ 64 - n)) % 2 ^ 64)) x
-    (ap Integer (negated_long n) ∙ some_value h)
+    (ap Integer (negated_long n) ∙ same_chosen h)
     (yields_one c t (Operate p (Reg SubReg) (Number 0) a) p (Integer ((0 + (2 ^ 64 - n)) % 2 ^ 64))
     (operate_line c t p (Reg SubReg) (Number 0) a (Integer 0) (Integer n) _ refl (long_same c.globals t.values a (Integer n) r) refl))
 negate_yields c t p L a (Pointer b o) x r h = absurd (none_value h)
@@ -486,7 +475,7 @@ copy_yields classes c t p L a u r s = yields_one c t (Set p a) p u (set_line c t
 pub unary_yields : (classes : Classes) (c : Setting) (t : State ℕ) (p : ℕ) (op : UnaryOp) (k : Class) (a : Operand ℕ) (u x : Value) → HasResult op k → Reads c.globals t.values a (operand_class op k) u → Stands classes c.globals t.values (operand_class op k) a u → operate_one t.memory op k u ≡ Some x → Yields c t (unary_lines classes p op k a) p (held k x)
 unfolding operate_one
 unary_yields classes c t p Neg k a u x long r s h = negate_yields c t p k a u x r h
-unary_yields classes c t p Copy k a u x long r s h = subst (λ y. Yields c t (copy_lines classes p k a) p (held k y)) (some_value h) (copy_yields classes c t p k a u r s)
+unary_yields classes c t p Copy k a u x long r s h = subst (λ y. Yields c t (copy_lines classes p k a) p (held k y)) (same_chosen h) (copy_yields classes c t p k a u r s)
 unary_yields classes c t p (Extend e) k a u x long r s h = extend_yields classes c t p e k a u x long r s h
 unary_yields classes c t p LoadLong k a u x long r s h = subst (λ j. Yields c t (Load p Ld (at_once a) ∷ []) p (held j x)) (sym long) (load_long_yields c t p a u x r h)
 unary_yields classes c t p (LoadNarrow e) k a u x long r s h = load_yields c t p e k a u x r h

@@ -22,9 +22,10 @@ use Rattle.vcode.specs.Places.{virtual}
 use Rattle.select.specs.Selected.{parameter_of, selected}
 use Rattle.select.specs.Classes.{classes_in}
 use Rattle.select.specs.Invariants.{IsVirtual}
-use Rattle.select.proofs.Typing.{Among, neither_first, not_broken, none_among}
 use Rattle.select.proofs.Regular.{few_params, regular}
 use Rattle.select.proofs.Known.{known}
+use Rattle.phi_copies.proofs.PhiRules.{not_broken, neither_first, none_among}
+use Rattle.phi_copies.proofs.Members.{Among}
 
 -- ---- low
 

@@ -40,6 +40,7 @@ use Rattle.vcode.specs.declared.line.Jump.{Jump}
 use Rattle.vcode.specs.Cost.{is_immediate, operand_cost, operation_cost, line_cost, branch_cost, jump_cost, affords}
 use Rattle.select.specs.Selected.{is_whole, are_whole, word, comparison_of, not_zero, word_line, word_of, bits_of_words, bit_lines, operand_of, argument_of, extend_lines, copy_lines, load_of, as_word, unary_lines, binary_lines, inst_lines, turn_lines, all_lines, assignment_lines, ending_lines, jump_of}
 use Rattle.select.specs.Typed.{Classes}
+use Rattle.il_ast.proofs.Truth.{and_first, and_second}
 
 -- ---- lines that are no ticks
 
@@ -66,23 +67,15 @@ quiet_pays c jump (Alloc to size) ls q = refl
 quiet_pays c jump (Blit from to count) ls q = refl
 quiet_pays c jump (Call to callee args) ls q = refl
 
-and_left : (a b : Bool) → (a && b) ≡ true → a ≡ true
-and_left true b h = refl
-and_left false b h = h
-
-and_right : (a b : Bool) → (a && b) ≡ true → b ≡ true
-and_right true b h = h
-and_right false b h = absurd (let no : ⊥ = cc in no)
-
 -- more credit pays for as much
 quiet_more : (c d : ℕ) (jump : Jump ℕ) (l : Line ℕ) (ls : List (Line ℕ)) → ((x y : ℕ) → x ≤ y → affords x jump ls ≡ true → affords y jump ls ≡ true) → IsQuiet l → c ≤ d → affords c jump (l ∷ ls) ≡ true → affords d jump (l ∷ ls) ≡ true
 quiet_more c d jump l ls rest q le h =
     let n = line_cost l in
     let paid = sym (quiet_pays c jump l ls q) ∙ h in
-    let first = leb-true n c (and_left (nat_le n c) (affords (c - n) jump ls) paid) in
+    let first = leb-true n c (and_first (nat_le n c) (affords (c - n) jump ls) paid) in
     quiet_pays d jump l ls q
     ∙ and_from (nat_le n d) (affords (d - n) jump ls) (le-leb n d (omega (arith, first, le)))
-    (rest (c - n) (d - n) (omega (arith, le)) (and_right (nat_le n c) (affords (c - n) jump ls) paid))
+    (rest (c - n) (d - n) (omega (arith, le)) (and_second (nat_le n c) (affords (c - n) jump ls) paid))
 
 pub affords_more : (c d : ℕ) (jump : Jump ℕ) (ls : List (Line ℕ)) → c ≤ d → affords c jump ls ≡ true → affords d jump ls ≡ true
 affords_more c d jump [] le h = let cost = leb-true (jump_cost jump) c h in le-leb (jump_cost jump) d (omega (arith, cost, le))

@@ -1,5 +1,5 @@
 -- Virtual registers hold what temporaries hold, words sign-extended.
-use Rattle.std.proofs.Common.{◌≡◌, ℕ, zero, suc, ◌%◌, ◌^◌, ◌<◌, Bool, true, false, cond, nat_eq, List, [], ◌∷◌, map, refl, sym, ◌∙◌, ap, subst, arith}
+use Rattle.std.proofs.Common.{◌≡◌, ℕ, zero, suc, ◌%◌, ◌^◌, Bool, true, false, cond, nat_eq, List, [], ◌∷◌, map, refl, sym, ◌∙◌, ap, subst, arith}
 use Rattle.std.specs.Prelude.{slice_get, slice_set, Option, Some, None}
 use Rattle.std.specs.Option.{option_map, option_and_then, option_flatten}
 use Rattle.std.proofs.lemmas.Bool.Decides.{nat_tests}
@@ -20,6 +20,9 @@ use Rattle.vcode.specs.Places.{Values, virtual, put}
 use Rattle.vcode.specs.Step.{value_of, read, read_all}
 use Rattle.select.specs.Selected.{is_whole, word, operand_of, argument_of}
 use Rattle.select.specs.Typed.{Classes, Fits, ArgsFit}
+use Rattle.il_ast.proofs.Truth.{eq_zero_suc, eq_suc_zero, eq_suc_suc}
+use Rattle.il_ast.proofs.Chosen.{same_chosen}
+use Rattle.select.proofs.WholeWords.{extended_low}
 
 -- what a temporary holds, its register holds in the form of its class
 abbrev pub Holds : Classes → List (Option Value) → Values ℕ → Type 0
@@ -31,27 +34,9 @@ abbrev pub Written : (same : Bool) (x v : Value) (old : Option Value) → Type 0
 Written true x v old = x ≡ v
 Written false x v old = old ≡ Some v
 
-some_value : {v w : Value} → Some v ≡ Some w → v ≡ w
-some_value h = cc
-
-eq_zero_suc : (k : ℕ) → nat_eq 0 (suc k) ≡ false
-eq_zero_suc k = grind (arith, nat_tests)
-
-eq_suc_zero : (k : ℕ) → nat_eq (suc k) 0 ≡ false
-eq_suc_zero k = grind (arith, nat_tests)
-
-same_tests : (a b : Bool) → (a ≡ true → b ≡ true) → (b ≡ true → a ≡ true) → a ≡ b
-same_tests true true f g = refl
-same_tests true false f g = sym (f refl)
-same_tests false true f g = g refl
-same_tests false false f g = refl
-
-eq_suc_suc : (a b : ℕ) → nat_eq (suc a) (suc b) ≡ nat_eq a b
-eq_suc_suc a b = same_tests (nat_eq (suc a) (suc b)) (nat_eq a b) (λ h. grind (arith, nat_tests)) (λ h. grind (arith, nat_tests))
-
 pub written : (xs : List (Option Value)) (t q : ℕ) (x v : Value) → option_flatten (slice_get (slice_set xs t (Some x)) q) ≡ Some v → Written (nat_eq q t) x v (option_flatten (slice_get xs q))
 written [] t q x v h = absurd (let no : ⊥ = cc in no)
-written (y ∷ xs) zero zero x v h = some_value h
+written (y ∷ xs) zero zero x v h = same_chosen h
 written (y ∷ xs) zero (suc q) x v h = subst (λ b. Written b x v (option_flatten (slice_get xs q))) (sym (eq_suc_zero q)) h
 written (y ∷ xs) (suc t) zero x v h = subst (λ b. Written b x v (option_flatten (Some y))) (sym (eq_zero_suc t)) h
 written (y ∷ xs) (suc t) (suc q) x v h = subst (λ b. Written b x v (option_flatten (slice_get xs q))) (sym (eq_suc_suc q t)) (written xs t q x v h)
@@ -73,12 +58,9 @@ pub record Reads (globals : List Value) (values : Values ℕ) (a : Operand ℕ) 
   pub is : value_of globals values a ≡ Some value
   pub read_as : in_place k value ≡ Some u
 
-low_bits : (n : ℕ) → n < 2 ^ 32 → sign_extended n % 2 ^ 32 ≡ n
-low_bits n h = grind (arith, ints)
-
 -- a word is read as it was given, whichever class it was written in
 words_are_read : (c : Class) (v : Value) → in_place W (held c v) ≡ in_place W v
-words_are_read W (Integer n) = ap (λ k. Some (Integer k)) (low_bits (n % 2 ^ 32) (omega arith))
+words_are_read W (Integer n) = ap (λ k. Some (Integer k)) (extended_low (n % 2 ^ 32) (omega arith))
 words_are_read W (Pointer b o) = refl
 words_are_read W (Function f) = refl
 words_are_read L v = refl
@@ -135,7 +117,7 @@ Stands classes globals values L a u = Unit {0}
 read_held : (v u : Value) → in_place W v ≡ Some u → held W v ≡ held W u
 read_held (Integer n) u h =
     let again : n % 2 ^ 32 ≡ n % 2 ^ 32 % 2 ^ 32 = omega arith in
-    ap (λ k. Integer (sign_extended k)) again ∙ ap (held W) (some_value h)
+    ap (λ k. Integer (sign_extended k)) again ∙ ap (held W) (same_chosen h)
 read_held (Pointer b o) u h = absurd (let no : ⊥ = cc in no)
 read_held (Function f) u h = absurd (let no : ⊥ = cc in no)
 
@@ -145,7 +127,7 @@ extended_fits n = grind (arith, ints)
 stands_value : (classes : Classes) (globals : List Value) (temps : List (Option Value)) (values : Values ℕ) (a : Val) (u : Value) → Holds classes temps values → (o : Option Value) → value_at globals temps a ≡ o → option_and_then (in_place W) o ≡ Some u → Stands classes globals values W (operand_of a) u
 stands_value classes globals temps values a u holds None e h whole = absurd (let no : ⊥ = cc in no)
 stands_value classes globals temps values (Int n) u holds (Some v) e h whole =
-    ap (λ k. Some (Integer k)) (extended_fits n) ∙ ap (λ x. Some (held W x)) (some_value (ap (option_and_then (in_place W)) e ∙ h))
+    ap (λ k. Some (Integer k)) (extended_fits n) ∙ ap (λ x. Some (held W x)) (same_chosen (ap (option_and_then (in_place W)) e ∙ h))
 stands_value classes globals temps values (Global g) u holds (Some v) e h whole = absurd (let no : ⊥ = cc in no)
 stands_value classes globals temps values (Temp t) u holds (Some v) e h whole =
     holds t v e ∙ ap (λ k. Some (held k v)) (by (classes t) whole) ∙ ap Some (read_held v u h)

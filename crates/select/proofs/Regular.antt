@@ -1,5 +1,5 @@
 -- The virtual code of a lowered function of a good text is regular.
-use Rattle.std.proofs.Common.{◌≡◌, ℕ, suc, ◌+◌, ◌<◌, ◌≤◌, Bool, true, false, not, nat_lt, nat_le, ◌&&◌, ◌||◌, List, [], ◌∷◌, ◌++◌, length, map, refl, sym, ◌∙◌, ap, subst, arith, append_assoc, ◌⊎◌, inl, inr, nat_eq}
+use Rattle.std.proofs.Common.{◌≡◌, ℕ, suc, ◌+◌, ◌<◌, ◌≤◌, Bool, true, false, not, nat_lt, nat_le, ◌||◌, List, [], ◌∷◌, ◌++◌, length, map, refl, sym, ◌∙◌, ap, subst, arith, append_assoc, ◌⊎◌, inl, inr, nat_eq}
 use Rattle.std.specs.Prelude.{Option, Some, None}
 use Rattle.std.specs.Option.{option_map}
 use Rattle.std.specs.List.{list_all, list_any, sum_by}
@@ -36,20 +36,14 @@ use Rattle.vcode.specs.Cost.{is_paid}
 use Rattle.vcode.specs.Regular.{is_target as is_target_in, leads_inside, is_alloc, allocs_first, alloc_bytes, turns_of, passes_few, IsRegular}
 use Rattle.select.specs.Selected.{operand_of, destination_of, argument_of, inst_lines, turn_lines, all_lines, copy_lines, assignment_lines, ending_lines, jump_of, block_of, edge_of, blocks_of, parameter_of, selected, binary_lines}
 use Rattle.select.specs.Typed.{Classes}
-use Rattle.select.proofs.Typing.{Among, neither_first, neither_second, not_broken, none_among}
 use Rattle.select.proofs.Paying.{ending_pays, insts_pay, end_ending_pays, edge_pays}
 use Rattle.select.proofs.EachBlock.{blocks_all, Branches, Leaves, edges_all, IsTarget, is_target}
 use Rattle.select.proofs.UsedPlaces.{copy_sets, unary_sets, binary_sets, no_alloc, no_area, no_turn, all_few}
+use Rattle.il_ast.proofs.Truth.{and_first, and_second}
+use Rattle.phi_copies.proofs.PhiRules.{not_broken, neither_first, neither_second, none_among}
+use Rattle.phi_copies.proofs.Members.{Among}
 
 -- ---- tests
-
-and_left : (a b : Bool) → (a && b) ≡ true → a ≡ true
-and_left true b h = refl
-and_left false b h = h
-
-and_right : (a b : Bool) → (a && b) ≡ true → b ≡ true
-and_right true b h = h
-and_right false b h = absurd (let no : ⊥ = cc in no)
 
 neither : (p : Line ℕ → Bool) (xs ys : List (Line ℕ)) → list_any p xs ≡ false → list_any p ys ≡ false → list_any p (xs ++ ys) ≡ false
 neither p [] ys h k = k
@@ -202,7 +196,7 @@ first_alone classes f n [] es rest are h edges = by rest edges
   where
     by : (bs : List (VirtualBlock ℕ)) → list_all makes_none bs ≡ true → allocs_first bs ≡ true
     by [] e = refl
-    by (b ∷ bs) e = and_right (makes_none b) (list_all makes_none bs) e
+    by (b ∷ bs) e = and_second (makes_none b) (list_all makes_none bs) e
 first_alone classes f n (b ∷ blocks) [] rest are h edges = absurd are
 first_alone classes f n (b ∷ blocks) (e ∷ es) rest are h edges =
     let others = neither_second (in_insts has_wrong_size (b ∷ [])) (in_insts is_alloc_inst blocks) h in
@@ -354,7 +348,7 @@ block_weighs (c ∷ bs) b (inr a) =
 
 few_turns : (classes : Classes) (f : Func) → IsGoodFunction f → (b : Block) (e : Ending) → Among b f.blocks → sum_by turns_of (all_lines classes b.insts ++ ending_lines classes e) ≤ FUNCTION_WEIGHT
 few_turns classes f good b e a =
-    let heavy = leb-true (weight f) FUNCTION_WEIGHT (and_left (nat_le (weight f) FUNCTION_WEIGHT) _ good.limits) in
+    let heavy = leb-true (weight f) FUNCTION_WEIGHT (and_first (nat_le (weight f) FUNCTION_WEIGHT) _ good.limits) in
     let block = block_weighs f.blocks b a in
     let both = sum_by-append turns_of (all_lines classes b.insts) (ending_lines classes e) in
     let insts = insts_turns classes b.insts in
@@ -382,7 +376,7 @@ inst_few classes (CallInst to callee args) h = and_from (nat_le (length (map arg
 
 all_both : (p : Line ℕ → Bool) (xs ys : List (Line ℕ)) → list_all p xs ≡ true → list_all p ys ≡ true → list_all p (xs ++ ys) ≡ true
 all_both p [] ys h k = k
-all_both p (x ∷ xs) ys h k = and_from (p x) (list_all p (xs ++ ys)) (and_left (p x) (list_all p xs) h) (all_both p xs ys (and_right (p x) (list_all p xs) h) k)
+all_both p (x ∷ xs) ys h k = and_from (p x) (list_all p (xs ++ ys)) (and_first (p x) (list_all p xs) h) (all_both p xs ys (and_second (p x) (list_all p xs) h) k)
 
 copies_few : (classes : Classes) (cs : List Assignment) → list_all passes_few (assignment_lines classes cs) ≡ true
 copies_few classes [] = refl
@@ -395,16 +389,16 @@ insts_few classes [] rest h k = k
 insts_few classes (i ∷ insts) rest h k =
     ap (list_all passes_few) (append_assoc (turn_lines classes i) (all_lines classes insts) rest)
     ∙ all_both passes_few (inst_lines classes i.item) (all_lines classes insts ++ rest)
-    (inst_few classes i.item (and_left (has_few_args i.item) (list_all (λ (x : Lined Inst). has_few_args x.item) insts) h))
-    (insts_few classes insts rest (and_right (has_few_args i.item) (list_all (λ (x : Lined Inst). has_few_args x.item) insts) h) k)
+    (inst_few classes i.item (and_first (has_few_args i.item) (list_all (λ (x : Lined Inst). has_few_args x.item) insts) h))
+    (insts_few classes insts rest (and_second (has_few_args i.item) (list_all (λ (x : Lined Inst). has_few_args x.item) insts) h) k)
 
 abbrev calls_few : Block → Bool
 calls_few b = list_all (λ (i : Lined Inst). has_few_args i.item) b.insts
 
 all_among : (p : Block → Bool) (bs : List Block) (b : Block) → list_all p bs ≡ true → Among b bs → p b ≡ true
 all_among p [] b h a = absurd a
-all_among p (c ∷ bs) b h (inl e) = ap p e ∙ and_left (p c) (list_all p bs) h
-all_among p (c ∷ bs) b h (inr a) = all_among p bs b (and_right (p c) (list_all p bs) h) a
+all_among p (c ∷ bs) b h (inl e) = ap p e ∙ and_first (p c) (list_all p bs) h
+all_among p (c ∷ bs) b h (inr a) = all_among p bs b (and_second (p c) (list_all p bs) h) a
 
 few_blocks : (classes : Classes) (f : Func) (code : Endings) → IsLowered f code → list_all calls_few f.blocks ≡ true → list_all (λ (b : VirtualBlock ℕ). list_all passes_few b.lines) (blocks_of classes f.blocks code.endings ++ map (edge_of classes) code.edges) ≡ true
 few_blocks classes f code is h =
@@ -416,17 +410,17 @@ few_blocks classes f code is h =
 
 calls_within : (f : Func) → IsGoodFunction f → list_all calls_few f.blocks ≡ true
 calls_within f good =
-    let behind_weight = and_right (nat_le (weight f) FUNCTION_WEIGHT) _ good.limits in
-    let behind_temps = and_right (nat_le (length f.temps) 4000) _ behind_weight in
-    let behind_params = and_right (nat_le (length f.params) 64) _ behind_temps in
-    and_right (nat_le (alloc_area f) 1048576) _ behind_params
+    let behind_weight = and_second (nat_le (weight f) FUNCTION_WEIGHT) _ good.limits in
+    let behind_temps = and_second (nat_le (length f.temps) 4000) _ behind_weight in
+    let behind_params = and_second (nat_le (length f.params) 64) _ behind_temps in
+    and_second (nat_le (alloc_area f) 1048576) _ behind_params
 
 limits_of : (f : Func) → IsGoodFunction f → (length f.params ≤ 64) × (alloc_area f ≤ 1048576)
 limits_of f good =
-    let behind_weight = and_right (nat_le (weight f) FUNCTION_WEIGHT) _ good.limits in
-    let behind_temps = and_right (nat_le (length f.temps) 4000) _ behind_weight in
-    let behind_params = and_right (nat_le (length f.params) 64) _ behind_temps in
-    (leb-true (length f.params) 64 (and_left (nat_le (length f.params) 64) _ behind_temps), leb-true (alloc_area f) 1048576 (and_left (nat_le (alloc_area f) 1048576) _ behind_params))
+    let behind_weight = and_second (nat_le (weight f) FUNCTION_WEIGHT) _ good.limits in
+    let behind_temps = and_second (nat_le (length f.temps) 4000) _ behind_weight in
+    let behind_params = and_second (nat_le (length f.params) 64) _ behind_temps in
+    (leb-true (length f.params) 64 (and_first (nat_le (length f.params) 64) _ behind_temps), leb-true (alloc_area f) 1048576 (and_first (nat_le (alloc_area f) 1048576) _ behind_params))
 
 pub regular : (classes : Classes) (f : Func) (code : Endings) → IsGoodFunction f → IsLowered f code → IsRegular (selected classes f code)
 unfolding selected

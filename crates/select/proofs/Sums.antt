@@ -2,7 +2,7 @@
 use Rattle.std.proofs.Common.{◌≡◌, ◌⊎◌, inl, inr, ℕ, ◌+◌, ◌≤◌, Bool, true, false, cond, List, [], ◌∷◌, ◌++◌, length, refl, sym, ◌∙◌, ap, arith}
 use Rattle.std.specs.List.{sum_by, count_by}
 use Rattle.std.proofs.lemmas.List.Sums.{sum_by-cons}
-use Rattle.select.proofs.Typing.{Among}
+use Rattle.phi_copies.proofs.Members.{Among}
 
 abbrev pub total : {X : Type 0} → (X → ℕ) → List X → ℕ
 total f [] = 0

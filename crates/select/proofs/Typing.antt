@@ -1,6 +1,6 @@
 -- In a lowered function of a good text each temporary has one class, and each operand fits its place.
-use Rattle.std.proofs.Common.{◌≡◌, ℕ, zero, suc, ◌-◌, ◌<◌, Bool, true, false, not, cond, nat_eq, nat_lt, ◌&&◌, ◌||◌, List, [], ◌∷◌, ◌++◌, length, refl, sym, ◌∙◌, ap, subst, arith, ◌⊎◌, inl, inr}
-use Rattle.std.specs.Prelude.{slice_get, Option, Some, None}
+use Rattle.std.proofs.Common.{◌≡◌, ℕ, zero, suc, ◌-◌, ◌<◌, Bool, true, false, not, cond, nat_eq, nat_lt, ◌&&◌, ◌||◌, List, [], ◌∷◌, length, refl, sym, ◌∙◌, ap, subst, arith, ◌⊎◌, inl, inr}
+use Rattle.std.specs.Prelude.{slice_get, Some, None}
 use Rattle.std.specs.List.{flat_map, list_any}
 use Rattle.std.proofs.lemmas.Bool.Decides.{nat_tests}
 use Rattle.std.proofs.lemmas.Bool.{and_from, not-true, not-false, or_cases}
@@ -12,27 +12,18 @@ use Rattle.il_ast.specs.declared.function.Func.{Func}
 use Rattle.il_ast.specs.Values.{same_class}
 use Rattle.il_types.specs.declared.site.Definer.{Definer}
 use Rattle.il_types.specs.declared.site.Operand.{Operand}
-use Rattle.il_types.specs.First.{when, or_else, first}
+use Rattle.il_types.specs.First.{when, first}
 use Rattle.il_types.specs.Marks.{is_given}
 use Rattle.il_types.specs.Sites.{definers_of, operands_of}
 use Rattle.il_types.specs.Locals.{two_types, misplaced, undefined_temp, fits, is_defined, has_wrong_result, in_insts, in_returns}
 use Rattle.select.specs.Typed.{Fits}
 use Rattle.select.specs.Classes.{class_given, or_long, all_phis, classes_in}
+use Rattle.il_ast.proofs.Truth.{and_first}
+use Rattle.il_ast.proofs.Alike.{class_itself}
+use Rattle.phi_copies.proofs.PhiRules.{not_broken, neither_first, none_among, any_among}
+use Rattle.phi_copies.proofs.Members.{Among, among_left, among_right}
 
 -- ---- what a list has
-
-abbrev pub Among : {A : Type 0} → A → List A → Type 0
-Among x [] = ⊥
-Among x (y ∷ xs) = (x ≡ y) ⊎ Among x xs
-
-pub among_left : {A : Type 0} (x : A) (xs ys : List A) → Among x xs → Among x (xs ++ ys)
-among_left x [] ys h = absurd h
-among_left x (y ∷ xs) ys (inl e) = inl e
-among_left x (y ∷ xs) ys (inr h) = inr (among_left x xs ys h)
-
-pub among_right : {A : Type 0} (x : A) (xs ys : List A) → Among x ys → Among x (xs ++ ys)
-among_right x [] ys h = h
-among_right x (y ∷ xs) ys h = inr (among_right x xs ys h)
 
 pub among_at : {A B : Type 0} (f : A → List B) (ys : List A) (k : ℕ) (y : A) (x : B) → slice_get ys k ≡ Some y → Among x (f y) → Among x (flat_map f ys)
 among_at f [] k y x e h = absurd (let no : ⊥ = cc in no)
@@ -41,32 +32,6 @@ among_at f (z ∷ ys) zero y x e h =
 among_at f (z ∷ ys) (suc k) y x e h = among_right x (f z) (flat_map f ys) (among_at f ys k y x e h)
 
 -- ---- rules that nothing breaks
-
-pub neither_first : (a b : Option ℕ) → or_else a b ≡ None → a ≡ None
-neither_first None b h = refl
-neither_first (Some n) b h = absurd (let no : ⊥ = cc in no)
-
-pub neither_second : (a b : Option ℕ) → or_else a b ≡ None → b ≡ None
-neither_second None b h = h
-neither_second (Some n) b h = absurd (let no : ⊥ = cc in no)
-
-pub not_broken : (b : Bool) (line : ℕ) → when b line ≡ None → b ≡ false
-not_broken true line h = absurd (let no : ⊥ = cc in no)
-not_broken false line h = refl
-
-pub none_among : {A : Type 0} (g : A → Option ℕ) (xs : List A) (x : A) → first g xs ≡ None → Among x xs → g x ≡ None
-none_among g [] x h a = absurd a
-none_among g (y ∷ xs) x h (inl e) = ap g e ∙ neither_first (g y) (first g xs) h
-none_among g (y ∷ xs) x h (inr a) = none_among g xs x (neither_second (g y) (first g xs) h) a
-
-any_among : {A : Type 0} (p : A → Bool) (xs : List A) (x : A) → p x ≡ true → Among x xs → list_any p xs ≡ true
-any_among p [] x h a = absurd a
-any_among p (y ∷ xs) x h (inl e) = ap (λ b. b || list_any p xs) (ap p (sym e) ∙ h)
-any_among p (y ∷ xs) x h (inr a) = by (p y) (any_among p xs x h a)
-  where
-    by : (b : Bool) → list_any p xs ≡ true → (b || list_any p xs) ≡ true
-    by true e = refl
-    by false e = e
 
 record Found {A : Type 0} (p : A → Bool) (xs : List A) : Type 0 where
   item : A
@@ -83,14 +48,10 @@ found_any p (y ∷ xs) h = by (p y) refl h (found_any p xs)
 
 -- ---- definers
 
-same_self : (c : Class) → same_class c c ≡ true
-same_self W = refl
-same_self L = refl
-
 given : (f : Func) (d : Definer) → Among d (definers_of f) → is_given d.class d.temp (definers_of f) ≡ true
 given f d a =
     any_among (λ (e : Definer). nat_eq e.temp d.temp && same_class e.class d.class) (definers_of f) d
-    (and_from (nat_eq d.temp d.temp) (same_class d.class d.class) (let e : nat_eq d.temp d.temp ≡ true = grind (arith, nat_tests) in e) (same_self d.class)) a
+    (and_from (nat_eq d.temp d.temp) (same_class d.class d.class) (let e : nat_eq d.temp d.temp ≡ true = grind (arith, nat_tests) in e) (class_itself d.class)) a
 
 -- a definer's class is its temporary's
 pub class_is : (f : Func) (d : Definer) → two_types f ≡ None → Among d (definers_of f) → class_given f d.temp ≡ d.class
@@ -116,14 +77,10 @@ OwnTemps f = (d : Definer) → Among d (definers_of f) → d.temp < length f.tem
 pub own_class : (f : Func) (t : ℕ) → t < length f.temps → classes_in f t ≡ class_given f t
 own_class f t lt = let e : nat_lt t (length f.temps) ≡ true = grind (arith, nat_tests) in ap (λ b. cond b (class_given f t) (or_long (slice_get (all_phis f.blocks) (t - length f.temps)))) e
 
-same_number : (a b : Bool) → (a && b) ≡ true → a ≡ true
-same_number true b h = refl
-same_number false b h = h
-
 pub assigned_own : (f : Func) → OwnTemps f → (c : Class) (t : ℕ) → is_given c t (definers_of f) ≡ true → t < length f.temps
 assigned_own f own c t h =
     let r = found_any (λ (d : Definer). nat_eq d.temp t && same_class d.class c) (definers_of f) h in
-    let e = same_number (nat_eq r.item.temp t) (same_class r.item.class c) r.passes in
+    let e = and_first (nat_eq r.item.temp t) (same_class r.item.class c) r.passes in
     let is : r.item.temp ≡ t = grind (arith, nat_tests) in
     subst (λ n. n < length f.temps) is (own r.item r.there)
 

@@ -22,7 +22,7 @@ use Rattle.vcode.specs.Named.{operand_keeps, line_keeps}
 use Rattle.vcode.specs.Regular.{is_alloc, alloc_bytes, turns_of, passes_few}
 use Rattle.select.specs.Selected.{is_whole, are_whole, word, words_compared, comparison_of, word_line, word_of, bits_of_words, bit_lines, compare_line, extend_lines, copy_lines, unary_lines, binary_lines}
 use Rattle.select.specs.Typed.{Classes}
-use Rattle.select.proofs.Typing.{Among}
+use Rattle.phi_copies.proofs.Members.{Among}
 
 -- the operand is the register t, or one of these, or no register
 abbrev pub In : ℕ → List (Operand ℕ) → Operand ℕ → Type 0

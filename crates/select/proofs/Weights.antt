@@ -35,10 +35,12 @@ use Rattle.vcode.specs.declared.code.Block.{Block as VirtualBlock}
 use Rattle.vcode.specs.Regular.{code_weight, weight_of}
 use Rattle.select.specs.Selected.{operand_of, inst_lines, turn_lines, all_lines, copy_lines, unary_lines, binary_lines, assignment_lines, ending_lines, edge_of, blocks_of, selected}
 use Rattle.select.specs.Typed.{Classes}
-use Rattle.select.proofs.Typing.{Among, neither_second, not_broken, none_among}
 use Rattle.select.proofs.UsedPlaces.{Sets, copy_sets, unary_sets, binary_sets}
 use Rattle.select.proofs.EachBlock.{IsTarget, is_target}
 use Rattle.select.proofs.Sums.{total, one, sum_total, count_total, total_plus, total_both, total_less, total_ones, exchanged, at_most_once}
+use Rattle.il_ast.proofs.Truth.{equal_turned}
+use Rattle.phi_copies.proofs.PhiRules.{not_broken, neither_second, none_among}
+use Rattle.phi_copies.proofs.Members.{Among}
 
 -- ---- what lines weigh
 
@@ -87,15 +89,12 @@ ending_weighs classes e =
 
 -- ---- each block has a label of its own
 
-same_test : (a b : ℕ) → nat_eq a b ≡ nat_eq b a
-same_test a b = grind (arith, nat_tests)
-
 times_label : (l : ℕ) (blocks : List Block) → times l (label_sites blocks) ≡ total (λ (c : Block). one (nat_eq l c.label)) blocks
 times_label l blocks = count_total (λ (s : Site). nat_eq s.number l) (label_sites blocks) ∙ each blocks
   where
     each : (bs : List Block) → total (λ (s : Site). one (nat_eq s.number l)) (label_sites bs) ≡ total (λ (c : Block). one (nat_eq l c.label)) bs
     each [] = refl
-    each (b ∷ bs) = ap (λ q. one q + total (λ (s : Site). one (nat_eq s.number l)) (label_sites bs)) (same_test b.label l) ∙ ap (λ n. one (nat_eq l b.label) + n) (each bs)
+    each (b ∷ bs) = ap (λ q. one q + total (λ (s : Site). one (nat_eq s.number l)) (label_sites bs)) (equal_turned b.label l) ∙ ap (λ n. one (nat_eq l b.label) + n) (each bs)
 
 site_among : (blocks : List Block) (b : Block) → Among b blocks → Among (record { line = b.line; number = b.label }) (label_sites blocks)
 site_among [] b a = absurd a

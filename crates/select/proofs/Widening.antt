@@ -11,9 +11,6 @@ use Rattle.bits.specs.Words.{sign_extended}
 pub word_plus_zero : (n : ℕ) → (n % 2 ^ 32 + 0 % 2 ^ 32) % 2 ^ 32 ≡ n % 2 ^ 32
 word_plus_zero n = omega arith
 
-pub word_again : (n : ℕ) → n % 2 ^ 32 % 2 ^ 32 ≡ n % 2 ^ 32
-word_again n = omega arith
-
 pub negated_word : (n : ℕ) → (0 % 2 ^ 32 + (2 ^ 32 - n % 2 ^ 32)) % 2 ^ 32 ≡ (2 ^ 32 - n % 2 ^ 32) % 2 ^ 32 % 2 ^ 32
 negated_word n = omega arith
 

@@ -1,5 +1,5 @@
 -- The code with copies follows the code: marked registers hold whole words, and its registers hold at least as much, since a copy takes also what has no extension.
-use Rattle.std.proofs.Common.{◌≡◌, ℕ, zero, suc, ◌%◌, ◌^◌, Bool, true, false, not, ◌&&◌, ◌||◌, nat_eq, if◌then◌else◌, List, [], ◌∷◌, map, length, Option, Some, None, slice_get, refl, sym, ◌∙◌, ap, subst, arith}
+use Rattle.std.proofs.Common.{◌≡◌, ℕ, ◌%◌, ◌^◌, Bool, true, false, not, ◌&&◌, ◌||◌, nat_eq, if◌then◌else◌, List, [], ◌∷◌, map, length, Option, Some, None, slice_get, refl, sym, ◌∙◌, ap, subst, arith}
 use Rattle.std.specs.List.{list_all}
 use Rattle.std.specs.Option.{option_map, option_and_then}
 use Rattle.std.proofs.lemmas.Bool.Decides.{nat_tests}
@@ -42,6 +42,7 @@ use Rattle.vcode.proofs.Following.{Follows, AllFollow, ActFollows, act_follows, 
 use Rattle.vcode.proofs.Rewriting.{rewrites_keep}
 use Rattle.sign_extensions.specs.Whole.{is_marked, is_whole, gives_whole, loads_whole, is_word, takes_whole, keeps_marks, are_closed, is_extension, claim, with_claim, jump_claim, with_copy, with_copies}
 use Rattle.sign_extensions.proofs.Values.{Whole, IfWhole, AreWhole, whole_number, assign_whole, operand_whole, then_whole, operate_whole, load_whole, held_whole, extension_is}
+use Rattle.il_ast.proofs.Listed.{all_at}
 
 -- marked registers hold whole words, and registers of the second code at least as much
 abbrev claims : List Bool → Claims
@@ -272,11 +273,6 @@ bound_whole marks values (d ∷ params) [] h all = all
 bound_whole marks values (d ∷ params) (v ∷ args) h all =
     let s = and_parts (takes_whole marks d) (list_all (takes_whole marks) params) h in
     bound_whole marks (put virtual d.place (held d.class v) values) params args s.1 (assign_whole marks values d.place (Some (held d.class v)) all (taken_whole marks d v s.0))
-
-all_at : {X : Type 0} (test : X → Bool) (xs : List X) (k : ℕ) (x : X) → list_all test xs ≡ true → slice_get xs k ≡ Some x → test x ≡ true
-all_at test [] k x h at = absurd (let no : ⊥ = cc in no)
-all_at test (y ∷ xs) zero x h at = let same : y ≡ x = cc in ap test (sym same) ∙ (and_parts (test y) (list_all test xs) h).0
-all_at test (y ∷ xs) (suc k) x h at = all_at test xs k x (and_parts (test y) (list_all test xs) h).1 at
 
 abbrev pub copied : List Bool → Code ℕ → Code ℕ
 copied marks v = record { result = v.result; params = v.params; blocks = map (with_copies marks) v.blocks }

@@ -31,6 +31,8 @@ use Rattle.vcode.specs.Places.{Values, assign, virtual}
 use Rattle.vcode.specs.Step.{value_of}
 use Rattle.select.proofs.WholeWords.{BitsStay, and_stays, or_stays, xor_stays}
 use Rattle.sign_extensions.specs.Whole.{is_whole_number, is_marked, is_whole, keeps_whole, gives_whole, loads_whole}
+use Rattle.rv_isa.proofs.RangeLemmas.{word_value_fits}
+use Rattle.select.proofs.Widening.{small_in_word}
 
 -- it stands as a word does: a number is the sign extension of its low 32 bits
 abbrev pub Whole : Value → Type 0
@@ -51,9 +53,6 @@ whole_number n h = by h
 
 -- ---- numbers
 
-low_number : (n : ℕ) → n < 2 ^ 31 → sign_extended (n % 2 ^ 32) ≡ n
-low_number n h = grind (arith, ints)
-
 high_number : (n : ℕ) → 2 ^ 64 - 2 ^ 31 ≤ n → n < 2 ^ 64 → sign_extended (n % 2 ^ 32) ≡ n
 high_number n h k = grind (arith, ints)
 
@@ -61,7 +60,7 @@ extended_again : (n : ℕ) → n < 2 ^ 32 → sign_extended (sign_extended n % 2
 extended_again n h = grind (arith, ints)
 
 either_number : (n : ℕ) (a b : Bool) → nat_lt n (2 ^ 31) ≡ a → nat_le (2 ^ 64 - 2 ^ 31) n ≡ b → n < 2 ^ 64 → (a || b) ≡ true → sign_extended (n % 2 ^ 32) ≡ n
-either_number n true b e f h k = low_number n (let lt : n < 2 ^ 31 = grind (arith, nat_tests) in lt)
+either_number n true b e f h k = small_in_word n (let lt : n < 2 ^ 31 = grind (arith, nat_tests) in lt)
 either_number n false true e f h k = high_number n (let le : 2 ^ 64 - 2 ^ 31 ≤ n = grind (arith, nat_tests) in le) h
 either_number n false false e f h k = absurd (let no : ⊥ = cc in no)
 
@@ -88,12 +87,9 @@ operand_whole marks globals values (Name g) all h = absurd (let no : ⊥ = cc in
 
 -- ---- operations
 
-word_small : (op : RegWOp) (a b : ℕ) → a < 2 ^ 32 → b < 2 ^ 32 → word_value op a b < 2 ^ 32
-word_small op a b h k = grind (arith, ints)
-
 regw_whole : (m : Memory) (op : RegWOp) (u v : Value) → IfWhole (operate m (RegW op) u v)
 unfolding operate
-regw_whole m op (Integer a) (Integer b) = integer_whole (regw_value op a b) (extended_again (word_value op (a % 2 ^ 32) (b % 2 ^ 32)) (word_small op (a % 2 ^ 32) (b % 2 ^ 32) (omega arith) (omega arith)))
+regw_whole m op (Integer a) (Integer b) = integer_whole (regw_value op a b) (extended_again (word_value op (a % 2 ^ 32) (b % 2 ^ 32)) (word_value_fits op (a % 2 ^ 32) (b % 2 ^ 32) (omega arith) (omega arith)))
 regw_whole m op (Integer a) (Pointer b o) = tt
 regw_whole m op (Integer a) (Function f) = tt
 regw_whole m op (Pointer b o) v = tt
@@ -216,8 +212,8 @@ loaded_one : (op : LoadOp) (v : Value) → loads_whole op ≡ true → IfWhole (
 loaded_one Lb (Integer n) h = integer_whole (load_value Lb (n % 2 ^ 8)) (byte_signed (n % 2 ^ 8) (omega arith))
 loaded_one Lh (Integer n) h = integer_whole (load_value Lh (n % 2 ^ 16)) (half_signed (n % 2 ^ 16) (omega arith))
 loaded_one Lw (Integer n) h = integer_whole (load_value Lw (n % 2 ^ 32)) (word_signed (n % 2 ^ 32) (omega arith))
-loaded_one Lbu (Integer n) h = integer_whole (n % 2 ^ 8) (low_number (n % 2 ^ 8) (omega arith))
-loaded_one Lhu (Integer n) h = integer_whole (n % 2 ^ 16) (low_number (n % 2 ^ 16) (omega arith))
+loaded_one Lbu (Integer n) h = integer_whole (n % 2 ^ 8) (small_in_word (n % 2 ^ 8) (omega arith))
+loaded_one Lhu (Integer n) h = integer_whole (n % 2 ^ 16) (small_in_word (n % 2 ^ 16) (omega arith))
 loaded_one Ld v h = absurd (let no : ⊥ = cc in no)
 loaded_one Lwu v h = absurd (let no : ⊥ = cc in no)
 loaded_one Lb (Pointer b o) h = tt

@@ -1,7 +1,7 @@
 -- Code with copies of blocks in the place of jumps to them is code that there may be, where all its ticks together are few.
 use Rattle.std.proofs.Common.{◌≡◌, ℕ, zero, suc, ◌+◌, ◌-◌, ◌*◌, ◌≤◌, Bool, true, false, not, ◌||◌, nat_lt, nat_le, List, [], ◌∷◌, ◌++◌, length, Option, Some, None, slice_get, refl, sym, ◌∙◌, ap, arith}
 use Rattle.std.specs.List.{list_all, list_any, sum_by}
-use Rattle.std.proofs.lemmas.Bool.{and_parts, and_from}
+use Rattle.std.proofs.lemmas.Bool.{and_parts, and_from, not-true}
 use Rattle.std.proofs.lemmas.Bool.Decides.{nat_tests}
 use Rattle.std.proofs.lemmas.List.Folds.{list_all-append, list_any-append}
 use Rattle.std.proofs.lemmas.List.Sums.{sum_by-cons, sum_by-append, sum_by-le-sum_by}
@@ -135,20 +135,16 @@ plain_takes_none (l ∷ lines) h =
     by_line (Blit from to count) h = (refl, h)
     by_line (Call to callee args) h = (refl, h)
 
-not_is : (b : Bool) → not b ≡ true → b ≡ false
-not_is true h = absurd (let no : ⊥ = cc in no)
-not_is false h = refl
-
 joined_plain : (b t : Block ℕ) → is_plain b ≡ true → is_plain t ≡ true → is_plain (joined b t) ≡ true
 joined_plain b t own other =
     ap not
     (list_any-append is_alloc b.lines t.lines
-    ∙ (ap (λ x. x || list_any is_alloc t.lines) (not_is (list_any is_alloc b.lines) own) ∙ not_is (list_any is_alloc t.lines) other))
+    ∙ (ap (λ x. x || list_any is_alloc t.lines) (not-true (list_any is_alloc b.lines) own) ∙ not-true (list_any is_alloc t.lines) other))
 
 joined_bytes : (b t : Block ℕ) → is_plain t ≡ true → sum_by alloc_bytes (joined b t).lines ≤ sum_by alloc_bytes b.lines
 joined_bytes b t plain =
     let both = sum_by-append alloc_bytes b.lines t.lines in
-    let none = plain_takes_none t.lines (not_is (list_any is_alloc t.lines) plain) in
+    let none = plain_takes_none t.lines (not-true (list_any is_alloc t.lines) plain) in
     omega (arith, both, none)
 
 first_only : (all : List (Block ℕ)) → allocs_first all ≡ true → (blocks new : List (Block ℕ)) → AllLonger all blocks new

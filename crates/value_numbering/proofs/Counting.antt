@@ -18,6 +18,8 @@ use Rattle.vcode.specs.Operations.{operate}
 use Rattle.vcode.specs.Step.{operated}
 use Rattle.value_numbering.specs.Known.{linear, grows}
 use Rattle.value_numbering.specs.Steps.{stands, further, behind}
+use Rattle.il_ast.proofs.Wrapping.{further_sum}
+use Rattle.rv_isa.proofs.RangeLemmas.{word_value_fits}
 
 abbrev modulus : ℕ
 modulus = 2 ^ 64
@@ -26,9 +28,6 @@ modulus = 2 ^ 64
 
 again : (x y : ℕ) → ((x + y) % 2 ^ 64 + 0) % 2 ^ 64 ≡ (x + y) % 2 ^ 64
 again x y = omega arith
-
-further_sum : (x o n : ℕ) → ((x + o % 2 ^ 64) % 2 ^ 64 + n % 2 ^ 64) % 2 ^ 64 ≡ (x + (o + n) % 2 ^ 64 % 2 ^ 64) % 2 ^ 64
-further_sum x o n = omega arith
 
 -- of a product p, what more was added to it as r, which is q modulo 2^64, is taken off the offset
 balanced : (y o p q r a b : ℕ) → a ≡ (p + r) % 2 ^ 64 → r % 2 ^ 64 ≡ q % 2 ^ 64 → b ≡ p % 2 ^ 64
@@ -126,12 +125,9 @@ IsWord (Some (Function f)) = ⊥
 extended_again : (n : ℕ) → n < 2 ^ 32 → cast_unsigned w64 (cast_signed w32 (cast_unsigned w64 (cast_signed w32 n) % 2 ^ 32)) ≡ cast_unsigned w64 (cast_signed w32 n)
 extended_again n h = grind (arith, ints)
 
-word_small : (op : RegWOp) (a b : ℕ) → a < 2 ^ 32 → b < 2 ^ 32 → word_value op a b < 2 ^ 32
-word_small op a b h k = grind (arith, ints)
-
 words_give : (m : Memory) (op : RegWOp) (u v : Value) → IsWord (operate m (RegW op) u v)
 unfolding operate
-words_give m op (Integer a) (Integer b) = extended_again (word_value op (a % 2 ^ 32) (b % 2 ^ 32)) (word_small op (a % 2 ^ 32) (b % 2 ^ 32) (omega arith) (omega arith))
+words_give m op (Integer a) (Integer b) = extended_again (word_value op (a % 2 ^ 32) (b % 2 ^ 32)) (word_value_fits op (a % 2 ^ 32) (b % 2 ^ 32) (omega arith) (omega arith))
 words_give m op (Integer a) (Pointer b o) = tt
 words_give m op (Integer a) (Function f) = tt
 words_give m op (Pointer b o) v = tt

@@ -154,7 +154,7 @@ nothing_added n = let e : (n % 2 ^ 32 + 0) % 2 ^ 32 ≡ n % 2 ^ 32 = omega arith
 
 -- ---- values
 
-gives_one : (o p : Option Value) → Gives o ≡ Gives p → o ≡ p
+pub gives_one : (o p : Option Value) → Gives o ≡ Gives p → o ≡ p
 gives_one o p h = cc
 
 given_one : (o p : Option Value) → given o ≡ Gives p → o ≡ p

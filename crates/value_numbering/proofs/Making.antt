@@ -1,5 +1,5 @@
 -- Lines and blocks are made one after another.
-use Rattle.std.proofs.Common.{◌≡◌, ℕ, ◌+◌, ◌<◌, List, [], ◌∷◌, ◌++◌, Option, length, get_or, drop, refl, sym, ap, subst}
+use Rattle.std.proofs.Common.{◌≡◌, ℕ, ◌+◌, ◌<◌, List, ◌∷◌, Option, length, get_or, drop, sym, subst}
 use Rattle.vcode.specs.declared.line.Line.{Line}
 use Rattle.vcode.specs.declared.line.Jump.{Jump}
 use Rattle.vcode.specs.declared.code.Block.{Block}
@@ -8,10 +8,6 @@ use Rattle.value_numbering.specs.declared.fact.Fact.{Fact}
 use Rattle.value_numbering.specs.declared.ways.Order.{Order}
 use Rattle.value_numbering.specs.Steps.{after}
 use Rattle.value_numbering.specs.Reused.{IsKnown, AllKnown, Made, AreReused, IsReused, AllReused}
-
-pub append_one : {X : Type 0} (xs : List X) (x : X) (rest : List X) → (xs ++ x ∷ []) ++ rest ≡ xs ++ x ∷ rest
-append_one [] x rest = refl
-append_one (y ∷ xs) x rest = ap (λ zs. y ∷ zs) (append_one xs x rest)
 
 -- one fact more is known
 pub facts_on : (wanted facts : List Fact) (order : Option Order) (i : ℕ) (f : Fact) → i < length wanted → f ≡ get_or wanted i f → IsKnown facts order f → AllKnown facts order (drop (i + 1) wanted) → AllKnown facts order (drop i wanted)

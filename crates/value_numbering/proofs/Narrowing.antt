@@ -31,6 +31,7 @@ use Rattle.value_numbering.specs.declared.fact.Expression.{Expression}
 use Rattle.value_numbering.specs.declared.fact.Expression.TheVariants.{Same, Operated, Extended, Loaded, Linear, Growing}
 use Rattle.value_numbering.specs.Known.{gives, is_back, first_of}
 use Rattle.value_numbering.specs.Narrow.{extended_from, masked_from, low_of}
+use Rattle.value_numbering.proofs.Extending.{gives_one}
 
 -- ---- numbers
 
@@ -188,9 +189,6 @@ narrow_storing m size at o p narrow same =
     by None same = ap stores (sym same)
 
 -- ---- what a fact says
-
-gives_one : (o p : Option Value) → Gives o ≡ Gives p → o ≡ p
-gives_one o p h = cc
 
 is_extended : (globals : List Value) (m : Memory) (values : Values ℕ) (size : Size) (e : Expression) (q r : ℕ) → extended_from e (bits size) ≡ Some q → gives globals m values e ≡ Gives (values r)
     → SameLow (span size) (values q) (values r)

@@ -42,7 +42,7 @@ use Rattle.vcode.specs.Facts.{Facts as About, claimed}
 use Rattle.vcode.proofs.Alike.{MayLeave}
 use Rattle.vcode.proofs.Factual.{fact_line, fact_jump, facts_rewrite, Claimed}
 use Rattle.vcode.proofs.Rewriting.{rewrites_keep}
-use Rattle.vcode.proofs.Writing.{turned, unwritten, now_holds}
+use Rattle.vcode.proofs.Writing.{unwritten, now_holds}
 use Rattle.value_numbering.specs.declared.fact.Expression.{Expression}
 use Rattle.value_numbering.specs.declared.fact.Expression.TheVariants.{Same, Operated, Extended, Loaded, Linear, Growing}
 use Rattle.value_numbering.specs.declared.fact.Fact.{Fact}
@@ -54,13 +54,14 @@ use Rattle.value_numbering.specs.Steps.{product_in, product, product_of, beyond,
 use Rattle.value_numbering.proofs.Counting.{number, nothing_more, whole_grows, index_grows, shift_is_product, IsWord, word_given, number_stands, word_again, grown_same, grown_word, Less, LessLong, less_grows, less_long_grows}
 use Rattle.value_numbering.proofs.Narrowing.{narrow_same}
 use Rattle.value_numbering.specs.Extensions.{other_way}
-use Rattle.value_numbering.proofs.Extending.{itself_same, reloaded_same}
+use Rattle.value_numbering.proofs.Extending.{itself_same, reloaded_same, gives_one}
 use Rattle.value_numbering.specs.Narrow.{IsNarrow}
 use Rattle.value_numbering.specs.Regrouped.{Adds, IsSum, InOrder, Turned, IsRegrouped}
 use Rattle.value_numbering.proofs.Regrouping.{turned as sum_turned, regrouped}
 use Rattle.value_numbering.specs.Shifts.{IsHalfway}
 use Rattle.value_numbering.proofs.Shifting.{less_back}
 use Rattle.value_numbering.specs.Reused.{Holds, Found, Already, Counted, Made, Itself, Copy, Narrow, FirstRegrouped, SecondRegrouped, Halfway, Reloaded, Again, claims_at, order_met, order_missed, IsKnown, Listed, OfCopies, Bounded, is_limit, limits, bounds, AllKnown, LeadsWell, AreReused, AllReused}
+use Rattle.il_ast.proofs.Truth.{equal_turned}
 
 -- ---- all facts are true
 
@@ -119,9 +120,6 @@ put_nothing (Linear b i c o) = refl
 put_nothing (Growing a n) = refl
 
 -- ---- copies
-
-gives_one : (o p : Option Value) → Gives o ≡ Gives p → o ≡ p
-gives_one o p h = cc
 
 copy_same : (globals : List Value) (m : Memory) (values : Values ℕ) (f : Fact) (r q : ℕ) → IsTrueOf globals m values f → (if nat_eq f.register r then copied_from f.value else None) ≡ Some q → values q ≡ values r
 copy_same globals m values f r q is e = by (nat_eq f.register r) refl e
@@ -589,7 +587,7 @@ made_same globals m values n facts l k all (Narrow {size = size} {a = a} {at = a
 
 -- an operand that doesn't name the register that is written
 operand_spared : (globals : List Value) (values : Values ℕ) (r : ℕ) (o : Option Value) (a : Operand ℕ) → names r a ≡ false → SameIn globals values (written (Some r) o values) (λ x. x) a
-operand_spared globals values r o (At q) h = unwritten (Some r) o values q (turned r q ∙ h)
+operand_spared globals values r o (At q) h = unwritten (Some r) o values q (equal_turned r q ∙ h)
 operand_spared globals values r o (Number n) h = refl
 operand_spared globals values r o (Name g) h = refl
 
@@ -609,7 +607,7 @@ fact_spared : (globals : List Value) (m : Memory) (values : Values ℕ) (to : Op
 fact_spared globals m values None o f h is = is
 fact_spared globals m values (Some r) o f h is =
     let s = or_parts (nat_eq f.register r) (reads r f.value) (not-true (nat_eq f.register r || reads r f.value) h) in
-    gives_spared globals m values r o f.value s.1 ∙ is ∙ ap Gives (sym (unwritten (Some r) o values f.register (turned r f.register ∙ s.0)))
+    gives_spared globals m values r o f.value s.1 ∙ is ∙ ap Gives (sym (unwritten (Some r) o values f.register (equal_turned r f.register ∙ s.0)))
 
 add_any : (m n : Memory) (u v : Value) → on_places m SumOf u v ≡ on_places n SumOf u v
 add_any m n (Integer x) (Integer y) = refl
@@ -792,14 +790,14 @@ index_moves : (globals : List Value) (m : Memory) (values : Values ℕ) (x n r :
 index_moves globals m values x n r b c q o sum spared other is =
     ap (λ (v : Option Value). Gives (linear m v (written (Some x) o values x) c (behind q n c))) (operand_spared globals values x o b spared)
     ∙ ap (λ (v : Option Value). Gives (linear m (value_of globals values b) v c (behind q n c))) (now_holds x o values ∙ sum)
-    ∙ ap Gives (index_grows m (value_of globals values b) (values x) c q n) ∙ is ∙ ap Gives (sym (unwritten (Some x) o values r (turned x r ∙ other)))
+    ∙ ap Gives (index_grows m (value_of globals values b) (values x) c q n) ∙ is ∙ ap Gives (sym (unwritten (Some x) o values r (equal_turned x r ∙ other)))
 
 -- the register itself grew
 whole_moves : (globals : List Value) (m : Memory) (values : Values ℕ) (x n i : ℕ) (b : Operand ℕ) (c q : ℕ) (o : Option Value) → o ≡ operated m (Reg Add) (values x) (number n) → names x b ≡ false → nat_eq i x ≡ false → gives globals m values (Linear b (At i) c q) ≡ Gives (values x)
     → IsTrueOf globals m (written (Some x) o values) (with_offset x b i c (further q n))
 whole_moves globals m values x n i b c q o sum spared other is =
     ap (λ (v : Option Value). Gives (linear m v (written (Some x) o values i) c (further q n))) (operand_spared globals values x o b spared)
-    ∙ ap (λ (v : Option Value). Gives (linear m (value_of globals values b) v c (further q n))) (unwritten (Some x) o values i (turned x i ∙ other))
+    ∙ ap (λ (v : Option Value). Gives (linear m (value_of globals values b) v c (further q n))) (unwritten (Some x) o values i (equal_turned x i ∙ other))
     ∙ ap Gives (sym (whole_grows m (operated m (Reg Add) (value_of globals values b) (operated m (Reg Mul) (values i) (number c))) q n))
     ∙ ap (λ (v : Option Value). Gives (operated m (Reg Add) v (number n))) (gives_one (linear m (value_of globals values b) (values i) c q) (values x) is) ∙ ap Gives (sym sum ∙ sym (now_holds x o values))
 

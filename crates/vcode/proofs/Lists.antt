@@ -1,7 +1,5 @@
 -- What stands next in a list, and what passes a test that all pass.
-use Rattle.std.proofs.Common.{◌≡◌, ℕ, zero, suc, ◌+◌, ◌<◌, Bool, true, List, [], ◌∷◌, ◌++◌, length, get_or, slice_get, drop, Option, Some, None, refl, sym, ap, ◌∙◌, arith}
-use Rattle.std.specs.List.{list_all}
-use Rattle.std.proofs.lemmas.Bool.{and_parts}
+use Rattle.std.proofs.Common.{◌≡◌, ℕ, zero, suc, ◌+◌, ◌<◌, List, [], ◌∷◌, ◌++◌, length, get_or, slice_get, drop, Option, Some, None, refl, sym, ap, ◌∙◌, arith}
 
 -- the items from one on are it and those behind it
 pub item_next : {X : Type 0} (xs : List X) (i : ℕ) (x : X) → i < length xs → x ≡ get_or xs i x → drop i xs ≡ x ∷ drop (i + 1) xs
@@ -35,12 +33,3 @@ same_some x y o e f = let g : Some x ≡ Some y = sym e ∙ f in cc
 pub one_more : {X : Type 0} (xs : List X) (x : X) → length (xs ++ x ∷ []) ≡ length xs + 1
 one_more [] x = refl
 one_more (y ∷ xs) x = ap suc (one_more xs x) ∙ (let e : suc (length xs + 1) ≡ suc (length xs) + 1 = omega arith in e)
-
-pub append_none : {X : Type 0} (xs : List X) → xs ++ [] ≡ xs
-append_none [] = refl
-append_none (x ∷ xs) = ap (λ zs. x ∷ zs) (append_none xs)
-
-pub all_at : {X : Type 0} (test : X → Bool) (xs : List X) (k : ℕ) (x : X) → list_all test xs ≡ true → slice_get xs k ≡ Some x → test x ≡ true
-all_at test [] k x h at = absurd (let no : ⊥ = cc in no)
-all_at test (y ∷ xs) zero x h at = let same : y ≡ x = cc in ap test (sym same) ∙ (and_parts (test y) (list_all test xs) h).0
-all_at test (y ∷ xs) (suc k) x h at = all_at test xs k x (and_parts (test y) (list_all test xs) h).1 at

@@ -1,7 +1,6 @@
 -- What registers hold after a write.
-use Rattle.std.proofs.Common.{◌≡◌, ℕ, Bool, true, false, not, ◌&&◌, nat_eq, if◌then◌else◌, Option, Some, None, refl, sym, ◌∙◌, ap, arith}
+use Rattle.std.proofs.Common.{◌≡◌, ℕ, Bool, true, false, not, ◌&&◌, nat_eq, if◌then◌else◌, Option, Some, None, refl, sym, ◌∙◌, ap}
 use Rattle.std.specs.Option.{option_map_or}
-use Rattle.std.proofs.lemmas.Bool.Decides.{nat_tests}
 use Rattle.std.specs.List.{list_all}
 use Rattle.std.proofs.lemmas.Bool.{and_parts, eqb-true}
 use Rattle.il_ast.specs.declared.value.Value.{Value}
@@ -12,24 +11,19 @@ use Rattle.vcode.specs.Named.{operand_keeps, line_keeps}
 use Rattle.vcode.specs.Writes.{line_writes}
 use Rattle.vcode.specs.Places.{Values}
 use Rattle.vcode.specs.Acts.{written}
+use Rattle.il_ast.proofs.Truth.{equals_itself, equal_turned}
 
 abbrev pub is_written : Option ℕ → ℕ → Bool
 is_written to r = option_map_or (λ k. nat_eq k r) to false
 
-pub turned : (a b : ℕ) → nat_eq a b ≡ nat_eq b a
-turned a b = grind (arith, nat_tests)
-
-pub is_itself : (r : ℕ) → nat_eq r r ≡ true
-is_itself r = grind (arith, nat_tests)
-
 -- a register that isn't written holds what it did
 pub unwritten : (to : Option ℕ) (o : Option Value) (values : Values ℕ) (r : ℕ) → is_written to r ≡ false → written to o values r ≡ values r
 unwritten None o values r h = refl
-unwritten (Some k) o values r h = ap (λ (b : Bool). if b then o else values r) (turned r k ∙ h)
+unwritten (Some k) o values r h = ap (λ (b : Bool). if b then o else values r) (equal_turned r k ∙ h)
 
 -- one that is written holds the value
 pub now_holds : (k : ℕ) (o : Option Value) (values : Values ℕ) → written (Some k) o values k ≡ o
-now_holds k o values = ap (λ (b : Bool). if b then o else values k) (is_itself k)
+now_holds k o values = ap (λ (b : Bool). if b then o else values k) (equals_itself k)
 
 -- ---- two codes that write the same
 
@@ -43,7 +37,7 @@ kept_and a b h k = ap (λ x. x && not b) h ∙ ap not k
 -- those that agreed but for the one that both write
 pub written_agree : (w : ℕ → Bool) (to : Option ℕ) (o : Option Value) (before after : Values ℕ) → Agree (λ r. w r && not (is_written to r)) before after → Agree w (written to o before) (written to o after)
 written_agree w None o before after agrees r e = agrees r (kept_and (w r) false e refl)
-written_agree w (Some k) o before after agrees r e = by (nat_eq r k) (turned k r)
+written_agree w (Some k) o before after agrees r e = by (nat_eq r k) (equal_turned k r)
   where
     by : (b : Bool) → nat_eq k r ≡ b → (if b then o else after r) ≡ (if b then o else before r)
     by true f = refl
@@ -71,7 +65,7 @@ pub second_writes : (w : ℕ → Bool) (k : ℕ) (o : Option Value) (before afte
 second_writes w k o before after isnt agrees r e = unwritten (Some k) o after r (unlike w k r isnt e) ∙ agrees r e
 
 other : (test : ℕ → Bool) (to r : ℕ) → test to ≡ true → test r ≡ false → nat_eq to r ≡ false
-other test to r h isnt = turned to r ∙ unlike test r to isnt h
+other test to r h isnt = equal_turned to r ∙ unlike test r to isnt h
 
 -- a line writes no register that isn't of a kind whose registers alone it names
 pub writes_only : (test : ℕ → Bool) (l : Line ℕ) (r : ℕ) → line_keeps test l ≡ true → test r ≡ false → is_written (line_writes l) r ≡ false

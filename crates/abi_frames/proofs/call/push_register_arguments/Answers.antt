@@ -1,6 +1,6 @@
 use Rattle.std.proofs.Common.{◌+◌, ◌++◌, drop, sym, ap, ◌∙◌}
-use Rattle.std.proofs.lemmas.List.{drop_all}
-use Rattle.vcode.proofs.Lists.{item_next, append_none}
+use Rattle.std.proofs.lemmas.List.{drop_all, append-nil}
+use Rattle.vcode.proofs.Lists.{item_next}
 use Rattle.abi_frames.specs.Emission.{register_items, register_all}
 use Rattle.abi_frames.proofs.Walking.{code_next}
 use Rattle.abi_frames.proofs.call.push_register_arguments.Goals as goal
@@ -18,4 +18,4 @@ loop-number-preserved c =
 pub returns : goal.returns
 returns c =
     let items = c.loop-number.items.items in
-    sym (append_none items) ∙ ap (λ rows. items ++ register_all c.args.layout.now c.loop-number.number rows) (sym (drop_all c.loop-number.number c.args.arguments.now c.loop-number-test.false)) ∙ c.loop-number.invariant
+    sym (append-nil items) ∙ ap (λ rows. items ++ register_all c.args.layout.now c.loop-number.number rows) (sym (drop_all c.loop-number.number c.args.arguments.now c.loop-number-test.false)) ∙ c.loop-number.invariant

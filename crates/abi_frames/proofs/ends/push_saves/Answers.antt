@@ -1,9 +1,8 @@
 use Rattle.std.proofs.Common.{◌+◌, ◌++◌, [], ◌∷◌, drop, get_or, length, sym, ap, ◌∙◌, arith}
-use Rattle.std.proofs.lemmas.List.{drop_all, drop_more}
+use Rattle.std.proofs.lemmas.List.{drop_all, drop_more, append-nil}
 use Rattle.rv_isa.specs.declared.abi.TheConstants.{STACK_POINTER}
 use Rattle.rv_isa.specs.declared.labelled.Item.{Item}
 use Rattle.operation_code.specs.Fields.{store_8}
-use Rattle.vcode.proofs.Lists.{append_none}
 use Rattle.abi_frames.specs.Emission.{save_all}
 use Rattle.abi_frames.proofs.Walking.{code_next}
 use Rattle.abi_frames.proofs.ends.push_saves.Goals as goal
@@ -27,4 +26,4 @@ loop-number-preserved c =
 pub returns : goal.returns
 returns c =
     let items = c.loop-number.items.items in
-    sym (append_none items) ∙ ap (λ rows. items ++ save_all c.loop-number.offset rows) (sym (drop_all c.loop-number.number-index c.args.registers.now c.loop-number-test.false)) ∙ c.loop-number.invariant.0
+    sym (append-nil items) ∙ ap (λ rows. items ++ save_all c.loop-number.offset rows) (sym (drop_all c.loop-number.number-index c.args.registers.now c.loop-number-test.false)) ∙ c.loop-number.invariant.0

@@ -7,9 +7,9 @@ use Rattle.vcode.specs.declared.code.Block.{Block}
 use Rattle.abi_frames.specs.EarlyReturns.{price}
 use Rattle.abi_frames.specs.BareWays.{bare_items, bare_labels}
 use Rattle.abi_frames.specs.Frames.{IsFrameOf}
-use Rattle.abi_frames.proofs.Sizes.{le_is}
 use Rattle.abi_frames.proofs.Promising.{code_of, ways_are_labelled, ways_perform}
 use Rattle.abi_frames.proofs.frame.bare_within.Goals as goal
+use Rattle.std.proofs.lemmas.Bool.{leb-true}
 
 pub new-requires : goal.new-requires
 new-requires c =
@@ -20,7 +20,7 @@ new-requires c =
     let test : nat_le (longest_size (bare_items l.code l.slots copies parts enter)) (price l.code) ≡ true =
     sym (ap (λ (is : List Item). nat_le (longest_size is) (price l.code)) (c.as_slice.ensures.value ∙ c.in_ok-items.ensures))
     ∙ (ap (λ (n : ℕ). nat_le (longest_size c.as_slice.result.now) n) (sym c.price-most.ensures) ∙ (sym c.is_within.ensures ∙ c.if-is_within.true)) in
-    let size = le_is (longest_size (bare_items l.code l.slots copies parts enter)) (price l.code) test in
+    let size = leb-true (longest_size (bare_items l.code l.slots copies parts enter)) (price l.code) test in
     let labels : c.bare_labels.result ≡ bare_labels (length l.code.blocks) =
     c.bare_labels.ensures ∙ ap (λ (bs : List (Block Location)). bare_labels (length bs)) c.as_slice-blocks.ensures in
     subst (λ (is : List Item). IsLabelled (record { items = is; labels = c.bare_labels.result })) (sym c.in_ok-items.ensures)

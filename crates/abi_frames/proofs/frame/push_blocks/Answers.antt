@@ -1,10 +1,10 @@
 use Rattle.std.proofs.Common.{◌+◌, ◌++◌, drop, sym, ap, ◌∙◌, arith}
-use Rattle.std.proofs.lemmas.List.{drop_all}
+use Rattle.std.proofs.lemmas.List.{drop_all, append-nil}
 use Rattle.std.specs.List.{list_all, sum_by}
 use Rattle.vcode.specs.declared.place.Location.{Location}
 use Rattle.vcode.specs.declared.code.Block.{Block}
 use Rattle.vcode.specs.Regular.{alloc_bytes, passes_few}
-use Rattle.vcode.proofs.Lists.{item_next, append_none}
+use Rattle.vcode.proofs.Lists.{item_next}
 use Rattle.abi_frames.specs.Emission.{block_items, blocks_items}
 use Rattle.abi_frames.proofs.Walking.{all_next, sum_next, code_next}
 use Rattle.abi_frames.proofs.frame.push_blocks.Goals as goal
@@ -38,4 +38,4 @@ loop-label-preserved c =
 pub returns : goal.returns
 returns c =
     let items = c.loop-label.items.items in
-    sym (append_none items) ∙ ap (λ rows. items ++ blocks_items c.args.layout.now c.args.saved.now c.loop-label.label rows) (sym (drop_all c.loop-label.label c.args.blocks.now c.loop-label-test.false)) ∙ c.loop-label.invariant.0
+    sym (append-nil items) ∙ ap (λ rows. items ++ blocks_items c.args.layout.now c.args.saved.now c.loop-label.label rows) (sym (drop_all c.loop-label.label c.args.blocks.now c.loop-label-test.false)) ∙ c.loop-label.invariant.0

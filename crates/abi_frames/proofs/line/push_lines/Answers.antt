@@ -1,7 +1,7 @@
 use Rattle.std.proofs.Common.{◌+◌, ◌++◌, drop, sym, ap, ◌∙◌, arith}
 use Rattle.vcode.specs.Regular.{alloc_bytes, passes_few}
-use Rattle.vcode.proofs.Lists.{item_next, append_none}
-use Rattle.std.proofs.lemmas.List.{drop_all}
+use Rattle.vcode.proofs.Lists.{item_next}
+use Rattle.std.proofs.lemmas.List.{drop_all, append-nil}
 use Rattle.abi_frames.specs.Emission.{line_items, lines_items}
 use Rattle.abi_frames.proofs.Walking.{all_next, sum_next, code_next}
 use Rattle.abi_frames.proofs.line.push_lines.Goals as goal
@@ -48,4 +48,4 @@ returns c =
     let lines = c.args.lines.now in
     let i = c.loop-line.line-index in
     let items = c.loop-line.items.items in
-    sym (append_none items) ∙ ap (λ rows. items ++ lines_items c.args.layout.now c.loop-line.used rows) (sym (drop_all i lines c.loop-line-test.false)) ∙ c.loop-line.invariant.0
+    sym (append-nil items) ∙ ap (λ rows. items ++ lines_items c.args.layout.now c.loop-line.used rows) (sym (drop_all i lines c.loop-line-test.false)) ∙ c.loop-line.invariant.0

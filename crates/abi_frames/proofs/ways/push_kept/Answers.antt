@@ -1,10 +1,10 @@
 use Rattle.std.proofs.Common.{◌+◌, ◌++◌, drop, sym, ap, ◌∙◌, arith}
-use Rattle.std.proofs.lemmas.List.{drop_all}
+use Rattle.std.proofs.lemmas.List.{drop_all, append-nil}
 use Rattle.std.specs.List.{list_all, sum_by}
 use Rattle.vcode.specs.declared.place.Location.{Location}
 use Rattle.vcode.specs.declared.code.Block.{Block}
 use Rattle.vcode.specs.Regular.{alloc_bytes, passes_few}
-use Rattle.vcode.proofs.Lists.{item_next, append_none}
+use Rattle.vcode.proofs.Lists.{item_next}
 use Rattle.abi_frames.specs.BareWays.{kept_block_items, kept_items}
 use Rattle.abi_frames.proofs.Walking.{all_next, sum_next, code_next}
 use Rattle.abi_frames.proofs.ways.push_kept.Goals as goal
@@ -40,4 +40,4 @@ loop-number-preserved c =
 pub returns : goal.returns
 returns c =
     let items = c.loop-number.items.items in
-    sym (append_none items) ∙ ap (λ rows. items ++ kept_items c.args.layout.now c.args.saved.now c.args.parts.now c.loop-number.number rows) (sym (drop_all c.loop-number.number c.args.blocks.now c.loop-number-test.false)) ∙ c.loop-number.invariant.0
+    sym (append-nil items) ∙ ap (λ rows. items ++ kept_items c.args.layout.now c.args.saved.now c.args.parts.now c.loop-number.number rows) (sym (drop_all c.loop-number.number c.args.blocks.now c.loop-number-test.false)) ∙ c.loop-number.invariant.0

@@ -1,8 +1,8 @@
 use Rattle.std.proofs.Common.{◌+◌, ◌^◌, ◌++◌, [], ◌∷◌, drop, map, sym, ap, ◌∙◌}
-use Rattle.std.proofs.lemmas.List.{drop_all}
+use Rattle.std.proofs.lemmas.List.{drop_all, append-nil}
 use Rattle.rv_isa.specs.Labels.{has_label_below}
 use Rattle.rv_isa.specs.declared.labelled.Item.{Item}
-use Rattle.vcode.proofs.Lists.{item_next, append_none}
+use Rattle.vcode.proofs.Lists.{item_next}
 use Rattle.abi_frames.specs.BareWays.{raised}
 use Rattle.abi_frames.proofs.Walking.{all_next, code_next}
 use Rattle.abi_frames.proofs.ways.push_raised.Goals as goal
@@ -27,4 +27,4 @@ loop-item-preserved c =
 pub returns : goal.returns
 returns c =
     let items = c.loop-item.items.items in
-    sym (append_none items) ∙ ap (λ rows. items ++ map (raised c.args.by) rows) (sym (drop_all c.loop-item.item-index c.args.copy.now c.loop-item-test.false)) ∙ c.loop-item.invariant.0
+    sym (append-nil items) ∙ ap (λ rows. items ++ map (raised c.args.by) rows) (sym (drop_all c.loop-item.item-index c.args.copy.now c.loop-item-test.false)) ∙ c.loop-item.invariant.0

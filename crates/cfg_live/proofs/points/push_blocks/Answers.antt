@@ -1,6 +1,6 @@
 use Rattle.std.proofs.Common.{rules, ◌≡◌, ◌+◌, ◌++◌, [], ◌∷◌, length, drop, sym, ap, ◌∙◌, append_assoc}
-use Rattle.std.proofs.lemmas.List.{drop_all}
-use Rattle.vcode.proofs.Lists.{item_next, append_none}
+use Rattle.std.proofs.lemmas.List.{drop_all, append-nil}
+use Rattle.vcode.proofs.Lists.{item_next}
 use Rattle.cfg_live.specs.Points.{with_block, with_blocks, starts_after}
 use Rattle.cfg_live.proofs.points.push_blocks.Goals as goal
 
@@ -28,6 +28,6 @@ returns-clause-uses c =
 pub returns-clause-firsts : goal.returns-clause-firsts
 returns-clause-firsts c =
     let firsts = c.loop-block.firsts.items in
-    sym (append_none firsts)
+    sym (append-nil firsts)
     ∙ (ap (λ bs. firsts ++ starts_after c.loop-block.uses.items bs) (sym (drop_all c.loop-block.block-index c.args.blocks.now c.loop-block-test.false))
     ∙ c.loop-block.invariant.1)

@@ -1,7 +1,6 @@
 use Rattle.std.proofs.Common.{◌≡◌, List, [], ◌++◌, ℕ, drop, sym, ◌∙◌, ap, subst, arith}
-use Rattle.std.proofs.lemmas.List.{drop_all, append_assoc}
+use Rattle.std.proofs.lemmas.List.{drop_all, append_assoc, append-nil}
 use Rattle.vcode.specs.declared.line.Line.{Line}
-use Rattle.vcode.proofs.Lists.{append_none}
 use Rattle.code_motion.specs.Longer.{AreLonger, NoLines, with_front}
 use Rattle.code_motion.proofs.Making.{line_on}
 use Rattle.code_motion.proofs.longer.with_fronts.Goals as goal
@@ -21,5 +20,5 @@ returns c =
     let n = c.args.registers.before in
     let m = c.args.registers.after in
     let none : drop c.loop-number.number c.args.from.now ≡ [] = drop_all c.loop-number.number c.args.from.now (let past = c.loop-number-test.false in omega arith) in
-    subst (λ (xs : List (Line ℕ)). AreLonger n m c.args.from.now xs) (append_none c.loop-number.lines.items)
+    subst (λ (xs : List (Line ℕ)). AreLonger n m c.args.from.now xs) (append-nil c.loop-number.lines.items)
     (c.loop-number.invariant [] (subst (λ (xs : List (Line ℕ)). AreLonger n m xs []) (sym none) NoLines))

@@ -1,13 +1,13 @@
 use Rattle.std.proofs.Common.{◌≡◌, ℕ, List, [], ◌∷◌, ◌++◌, length, drop, sym, ap, ◌∙◌, subst, arith}
-use Rattle.std.proofs.lemmas.List.{drop_all}
+use Rattle.std.proofs.lemmas.List.{drop_all, append-nil}
 use Rattle.vcode.specs.declared.line.Line.{Line}
 use Rattle.constant_propagation.specs.FactTable.{facts_of}
 use Rattle.constant_propagation.specs.Shortened.{shortened}
 use Rattle.constant_propagation.specs.Forwarded.{AreForwarded}
 use Rattle.constant_propagation.specs.After.{after}
-use Rattle.constant_propagation.proofs.Making.{lines_on, append_one}
-use Rattle.vcode.proofs.Lists.{append_none}
+use Rattle.constant_propagation.proofs.Making.{lines_on}
 use Rattle.constant_propagation.proofs.propagate.forwarded_lines.Goals as goal
+use Rattle.il_ast.proofs.Listed.{append_one}
 
 pub loop-line-preserved : goal.loop-line-preserved
 loop-line-preserved c =
@@ -32,5 +32,5 @@ pub returns-clause-lines : goal.returns-clause-lines
 returns-clause-lines c = λ es whole j k h.
     let n = length c.args.table.now.written.items in
     let none : drop c.loop-line.line-index c.args.lines.now ≡ [] = drop_all c.loop-line.line-index c.args.lines.now (let past = c.loop-line-test.false in omega arith) in
-    subst (λ (xs : List (Line ℕ)). AreForwarded n es whole (facts_of c.args.table.now) c.args.lines.now xs j k) (append_none c.loop-line.made.items)
+    subst (λ (xs : List (Line ℕ)). AreForwarded n es whole (facts_of c.args.table.now) c.args.lines.now xs j k) (append-nil c.loop-line.made.items)
     (c.loop-line.invariant.made es [] whole j k (subst (λ (xs : List (Line ℕ)). AreForwarded n es whole (facts_of c.loop-line.table) xs [] j k) (sym none) h))

@@ -3,10 +3,10 @@ use Rattle.std.proofs.lemmas.Option.{slice_get_read}
 use Rattle.bitset.specs.Bits.{Bits, is_member}
 use Rattle.vcode.specs.declared.code.Block.{Block}
 use Rattle.vcode.specs.Named.{block_keeps, is_below}
-use Rattle.vcode.proofs.Lists.{all_at}
 use Rattle.dead_code.specs.Without.{Wanted, kept_block, wanted_in, held}
 use Rattle.dead_code.proofs.Walking.{blocks_on, closed_on, inside_at}
 use Rattle.dead_code.proofs.remove.kept_blocks.Goals as goal
+use Rattle.il_ast.proofs.Listed.{all_at}
 
 pub kept_block-requires : goal.kept_block-requires
 kept_block-requires c =

@@ -9,11 +9,11 @@ use Rattle.il_ast.specs.declared.value.Value.{Value}
 use Rattle.il_ast.specs.Effect.{place_of, phi_values, with_phis}
 use Rattle.obj_link.specs.Shown.{shown}
 use Rattle.il_types.specs.Arguments.{are_all_distinct}
-use Rattle.il_types.proofs.ArgumentLemmas.{get_there}
 use Rattle.il_interp.specs.Prepared.{program_of}
 use Rattle.il_interp.proofs.HopLemmas.{enters}
 use Rattle.il_interp.proofs.LabelLemmas.{program_distinct}
 use Rattle.il_interp.proofs.hops.enter.Goals as goal
+use Rattle.il_ast.proofs.Listed.{get_there}
 
 pub take_numbers-requires : goal.take_numbers-requires
 take_numbers-requires c =

@@ -10,11 +10,11 @@ use Rattle.il_ast.specs.declared.value.Value.{Value}
 use Rattle.il_ast.specs.Effect.{place_of, phi_values, with_phis, enter_place, enter_at, entered}
 use Rattle.obj_link.specs.Shown.{shown}
 use Rattle.il_types.specs.Arguments.{are_all_distinct}
-use Rattle.il_types.proofs.ArgumentLemmas.{get_there}
 use Rattle.il_interp.specs.Prepared.{program_of}
 use Rattle.il_interp.specs.Machine.{On, env_of, locals_of, react}
 use Rattle.il_interp.proofs.LabelLemmas.{program_distinct}
 use Rattle.il_interp.proofs.jump.enter.Goals as goal
+use Rattle.il_ast.proofs.Listed.{get_there}
 
 pub read_phis-requires : goal.read_phis-requires
 read_phis-requires c =

@@ -1,7 +1,8 @@
 use Rattle.std.proofs.Common.{◌<◌, arith, length, get_or}
-use Rattle.il_interp.proofs.RowLemmas.{one_further, read_at}
+use Rattle.il_interp.proofs.RowLemmas.{one_further}
 use Rattle.il_interp.proofs.numbers.operate_in_row.Goals.{then-most-count, else-most-count}
 use Rattle.il_interp.proofs.numbers.operate_in_row.Goals as goal
+use Rattle.std.proofs.lemmas.Option.{slice_get-get_or}
 
 pub loop-at-preserved : goal.loop-at-preserved
 loop-at-preserved c =
@@ -12,4 +13,4 @@ loop-at-preserved c =
     ] in
     one_further c.args.insts.now c.args.temps.now c.loop-at.temps c.instruction.new.temps c.args.next c.loop-at.at
     (get_or c.args.insts.now c.loop-at.at c.index-insts-at.result) c.loop-at.auto.at
-    (read_at c.args.insts.now c.loop-at.at c.index-insts-at.result inside) c.if-not-instruction.ensures c.loop-at.invariant
+    (slice_get-get_or c.args.insts.now c.loop-at.at c.index-insts-at.result inside) c.if-not-instruction.ensures c.loop-at.invariant

@@ -3,8 +3,8 @@ use Rattle.std.proofs.lemmas.Option.{slice_get_past}
 use Rattle.std.specs.Prelude.{slice_get, Option}
 use Rattle.std.specs.Option.{option_and_then, option_flatten}
 use Rattle.il_types.specs.LabelBlocks.{place_in}
-use Rattle.il_types.proofs.ArgumentLemmas.{get_there}
 use Rattle.il_interp.proofs.prepare.place_at.Goals as goal
+use Rattle.il_ast.proofs.Listed.{get_there}
 
 pub returns-in-Some-get : goal.returns-in-Some-get
 returns-in-Some-get c =

@@ -4,10 +4,10 @@ use Rattle.std.specs.Prelude.{slice_get, IfOk, Option}
 use Rattle.il_ast.specs.declared.block.Block.{Block}
 use Rattle.il_ast.specs.Effect.{effect, turn_of}
 use Rattle.obj_link.specs.Shown.{shown}
-use Rattle.il_types.proofs.ArgumentLemmas.{get_there}
 use Rattle.il_interp.specs.Prepared.{program_of}
 use Rattle.il_interp.specs.Machine.{Next, act_of, env_of, react, step, stepped, turn_in_function}
 use Rattle.il_interp.proofs.turn.turn.Goals as goal
+use Rattle.il_ast.proofs.Listed.{get_there}
 
 pub returns-in-Some-get : goal.returns-in-Some-get
 unfolding step effect

@@ -6,10 +6,10 @@ use Rattle.il_ast.specs.declared.instruction.Jump.{Jump}
 use Rattle.il_ast.specs.declared.instruction.Lined.{Lined}
 use Rattle.il_ast.specs.Effect.{turn_in, end_effect}
 use Rattle.obj_link.specs.Shown.{shown}
-use Rattle.il_types.proofs.ArgumentLemmas.{get_there}
 use Rattle.il_interp.specs.Prepared.{program_of}
 use Rattle.il_interp.specs.Machine.{act_of, env_of, locals_of, react, stepped}
 use Rattle.il_interp.proofs.turn.turn_in_block.Goals as goal
+use Rattle.il_ast.proofs.Listed.{get_there}
 
 pub returns-in-Some : goal.returns-in-Some
 returns-in-Some c =

@@ -1,9 +1,10 @@
 use Rattle.std.proofs.Common.{◌∙◌, sym, ap, ◌+◌, length, take, drop, arith}
 use Rattle.std.specs.Prelude.{slice_get}
 use Rattle.std.proofs.lemmas.List.{length-set}
-use Rattle.il_mem.proofs.Spans.{span_at, get_other}
+use Rattle.il_mem.proofs.Spans.{span_at}
 use Rattle.il_mem.proofs.Writing.{written_next}
 use Rattle.il_mem.proofs.write.copy_within.Goals as goal
+use Rattle.il_ast.proofs.Listed.{get_set_apart}
 
 pub loop-k-preserved : goal.loop-k-preserved
 loop-k-preserved c =
@@ -16,5 +17,5 @@ loop-k-preserved c =
       ap length c.set.ensures ∙ (length-set _ _ _ ∙ c.loop-k.invariant.1),
       (λ j low high.
           ap (λ cells. slice_get cells j) c.set.ensures
-          ∙ (get_other c.loop-k.block (c.args.to + c.loop-k.k) j _ (omega (arith, c.requires.apart)) ∙ c.loop-k.invariant.2 j low high)),
+          ∙ (get_set_apart c.loop-k.block (c.args.to + c.loop-k.k) j _ (omega (arith, c.requires.apart)) ∙ c.loop-k.invariant.2 j low high)),
     )

@@ -1,7 +1,8 @@
 use Rattle.std.proofs.Common.{◌≡◌, nat_eq, true, sym, ◌∙◌, arith}
 use Rattle.std.proofs.lemmas.Bool.Decides.{nat_tests}
-use Rattle.il_types.proofs.ArgumentLemmas.{found_at, get_there}
+use Rattle.il_types.proofs.ArgumentLemmas.{found_at}
 use Rattle.il_types.proofs.arguments.argument_at.Goals as goal
+use Rattle.il_ast.proofs.Listed.{get_there}
 
 pub returns-then-number : goal.returns-then-number
 returns-then-number c =

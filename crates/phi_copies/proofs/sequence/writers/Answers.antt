@@ -3,8 +3,8 @@ use Rattle.std.specs.BTreeMap.{get, is_at}
 use Rattle.std.proofs.lemmas.Bool.Decides.{nat_tests}
 use Rattle.phi_copies.specs.Order.{to_of, IsWritten}
 use Rattle.phi_copies.specs.declared.moves.Move.{Move}
-use Rattle.phi_copies.proofs.Placing.{cases_eq}
 use Rattle.phi_copies.proofs.sequence.writers.Goals as goal
+use Rattle.std.proofs.lemmas.Bool.{cases_eq}
 
 -- one move more, that goes elsewhere
 elsewhere : (ms : List Move) (place i : ℕ) (o : Option ℕ) → place ≢ to_of ms i → IsWritten ms place i o → IsWritten ms place (i + 1) o

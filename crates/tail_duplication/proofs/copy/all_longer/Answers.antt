@@ -1,13 +1,10 @@
-use Rattle.std.proofs.Common.{◌≡◌, ◌+◌, ◌<◌, Bool, List, [], ◌∷◌, ◌++◌, ℕ, length, get_or, drop, refl, sym, ◌∙◌, ap, subst, arith}
-use Rattle.std.proofs.lemmas.List.{drop_all}
+use Rattle.std.proofs.Common.{◌≡◌, ◌+◌, ◌<◌, Bool, List, [], ◌∷◌, ◌++◌, ℕ, length, get_or, drop, sym, ◌∙◌, ap, subst, arith}
+use Rattle.std.proofs.lemmas.List.{drop_all, append-nil}
 use Rattle.vcode.specs.declared.code.Block.{Block}
-use Rattle.vcode.proofs.Lists.{append_none, item_next}
+use Rattle.vcode.proofs.Lists.{item_next}
 use Rattle.tail_duplication.specs.Joined.{longer, AllLonger}
 use Rattle.tail_duplication.proofs.copy.all_longer.Goals as goal
-
-append_one : {X : Type 0} (xs : List X) (x : X) (rest : List X) → (xs ++ x ∷ []) ++ rest ≡ xs ++ x ∷ rest
-append_one [] x rest = refl
-append_one (y ∷ xs) x rest = ap (λ zs. y ∷ zs) (append_one xs x rest)
+use Rattle.il_ast.proofs.Listed.{append_one}
 
 -- one block more
 blocks_on : (blocks : List (Block ℕ)) (i : ℕ) (b d : Block ℕ) (chosen : Bool) (rest : List (Block ℕ)) → i < length blocks → b ≡ get_or blocks i b → d ≡ longer blocks chosen b
@@ -27,5 +24,5 @@ pub returns : goal.returns
 returns c =
     let blocks = c.args.blocks.now in
     let none : drop c.loop-number.number blocks ≡ [] = drop_all c.loop-number.number blocks (let past = c.loop-number-test.false in omega arith) in
-    subst (λ (xs : List (Block ℕ)). AllLonger blocks blocks xs) (append_none c.loop-number.made.items)
+    subst (λ (xs : List (Block ℕ)). AllLonger blocks blocks xs) (append-nil c.loop-number.made.items)
     (c.loop-number.invariant [] (subst (λ (xs : List (Block ℕ)). AllLonger blocks xs []) (sym none) tt))

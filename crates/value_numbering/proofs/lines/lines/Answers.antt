@@ -1,12 +1,12 @@
 use Rattle.std.proofs.Common.{◌≡◌, ◌+◌, List, [], ◌∷◌, ◌++◌, ℕ, drop, sym, ◌∙◌, ap, subst, arith}
-use Rattle.std.proofs.lemmas.List.{drop_all}
+use Rattle.std.proofs.lemmas.List.{drop_all, append-nil}
 use Rattle.vcode.specs.declared.line.Line.{Line}
-use Rattle.vcode.proofs.Lists.{append_none}
 use Rattle.value_numbering.specs.declared.fact.Fact.{Fact}
 use Rattle.value_numbering.specs.Steps.{after}
 use Rattle.value_numbering.specs.Reused.{Made, AreReused}
-use Rattle.value_numbering.proofs.Making.{append_one, lines_on}
+use Rattle.value_numbering.proofs.Making.{lines_on}
 use Rattle.value_numbering.proofs.lines.lines.Goals as goal
+use Rattle.il_ast.proofs.Listed.{append_one}
 
 pub loop-line-preserved : goal.loop-line-preserved
 loop-line-preserved c = λ rest claims j h.
@@ -25,5 +25,5 @@ pub returns : goal.returns
 returns c = λ claims j h.
     let n = c.args.registers in
     let none : drop c.loop-line.line-index c.args.from.now ≡ [] = drop_all c.loop-line.line-index c.args.from.now (let past = c.loop-line-test.false in omega arith) in
-    subst (λ (xs : List (Line ℕ)). AreReused n claims c.args.facts.now.items c.args.from.now xs j) (append_none c.loop-line.all.items)
+    subst (λ (xs : List (Line ℕ)). AreReused n claims c.args.facts.now.items c.args.from.now xs j) (append-nil c.loop-line.all.items)
     (c.loop-line.invariant [] claims j (subst (λ (xs : List (Line ℕ)). AreReused n claims c.loop-line.facts.items xs [] j) (sym none) h))

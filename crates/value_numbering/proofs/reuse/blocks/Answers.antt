@@ -1,10 +1,10 @@
 use Rattle.std.proofs.Common.{◌≡◌, Option, IfSome, List, [], ◌∷◌, ◌++◌, ℕ, drop, sym, ◌∙◌, ap, subst, arith}
-use Rattle.std.proofs.lemmas.List.{drop_all}
+use Rattle.std.proofs.lemmas.List.{drop_all, append-nil}
 use Rattle.vcode.specs.declared.code.Block.{Block}
-use Rattle.vcode.proofs.Lists.{append_none}
 use Rattle.value_numbering.specs.Reused.{IsReused, AllReused}
-use Rattle.value_numbering.proofs.Making.{append_one, blocks_on}
+use Rattle.value_numbering.proofs.Making.{blocks_on}
 use Rattle.value_numbering.proofs.reuse.blocks.Goals as goal
+use Rattle.il_ast.proofs.Listed.{append_one}
 
 pub loop-number-preserved : goal.loop-number-preserved
 loop-number-preserved c = λ rest h.
@@ -21,5 +21,5 @@ pub returns : goal.returns
 returns c =
     let n = c.args.registers in
     let none : drop c.loop-number.number c.args.from.now ≡ [] = drop_all c.loop-number.number c.args.from.now (let past = c.loop-number-test.false in omega arith) in
-    subst (λ (xs : List (Block ℕ)). AllReused n c.args.claims.now 0 c.args.from.now xs) (append_none c.loop-number.made.items)
+    subst (λ (xs : List (Block ℕ)). AllReused n c.args.claims.now 0 c.args.from.now xs) (append-nil c.loop-number.made.items)
     (c.loop-number.invariant [] (subst (λ (xs : List (Block ℕ)). AllReused n c.args.claims.now c.loop-number.number xs []) (sym none) tt))
