@@ -1,5 +1,5 @@
 //! The files of the system.
-ghost use Rattle.std.specs.Prelude.{◌≡◌, ◌↔◌, Contains, IfOk, IsTrue};
+ghost use Rattle.std.specs.Prelude.{◌≡◌, ◌↔◌, IfOk, IsTrue};
 ghost use Rattle.std.specs.Fs.{permissions_mode};
 ghost use Rattle.std.specs.Io.KnownBytes.{Appends};
 ghost use Rattle.std.specs.IoError.{error_kind};
@@ -50,9 +50,7 @@ fn is_same_file(one: FileId, other: FileId) -> bool
 }
 
 /// Whether a file is one of these.
-fn is_among(file: FileId, files: &[FileId]) -> bool
-    ensures { IsTrue result ↔ Contains files.now file }
-{
+fn is_among(file: FileId, files: &[FileId]) -> bool {
     for other in files {
         if is_same_file(*other, file) {
             return true;
