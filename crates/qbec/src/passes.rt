@@ -3,16 +3,16 @@ ghost use Rattle.std.specs.Prelude.{IfOk};
 ghost use Rattle.il_ast.specs.Passes.{Keeps};
 ghost use Rattle.vcode.specs.Coded.{virtual_code};
 
-use block_placement::order::place_blocks;
+use block_layout::placement::order::place_blocks;
+use block_layout::tails::copy::{duplicate_tails, thread_jumps};
 use code_motion::hoist::hoist_invariants;
-use constant_hoisting::constants::hoist_constants;
+use constant_placement::hoisting::constants::hoist_constants;
+use constant_placement::sinking::sink::sink_constants;
 use constant_propagation::propagate::propagate_constants;
-use constant_sinking::sink::sink_constants;
 use copy_propagation::read::propagate_copies;
 use dead_code::remove::remove_dead_code;
 use sign_extensions::copies::copy_whole_words;
 use std::alloc::{AllocError, Global};
-use tail_duplication::copy::{duplicate_tails, thread_jumps};
 use value_numbering::reuse::reuse_values;
 use vcode::function::VFunc;
 

@@ -1,14 +1,14 @@
 //! What passes choose to do with a function, in lines of their own.
 use crate::lists::add_numbers;
-use block_placement::choice::chains::chained;
+use block_layout::placement::choice::chains::chained;
 use code_motion::choice::choose::choose_plan;
 use code_text::function::virtual_function;
-use constant_hoisting::choice::plans::choose_plans;
-use constant_hoisting::plan::Plan;
-use constant_sinking::choice::choose;
+use constant_placement::hoisting::choice::plans::choose_plans;
+use constant_placement::hoisting::plan::Plan;
+use constant_placement::sinking::choice::choose;
 use qbec::passes::Pass;
 use std::alloc::Global;
-use tail_duplication::choice::{Worth, chosen_tails};
+use block_layout::tails::choice::{Worth, chosen_tails};
 use text_maker::maker::TextMaker;
 use vcode::function::VFunc;
 

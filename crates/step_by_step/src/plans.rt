@@ -3,9 +3,9 @@ use crate::lists::numbers;
 use crate::passes::{shown, shown_or_refused};
 use code_motion::plan::{BlockPlan, Computation};
 use code_text::function::virtual_function;
-use constant_hoisting::hold::with_constant;
-use constant_hoisting::plan::{Constant, Plan};
-use constant_sinking::known::Known;
+use constant_placement::hoisting::hold::with_constant;
+use constant_placement::hoisting::plan::{Constant, Plan};
+use constant_placement::sinking::known::Known;
 use il_ast::list::Seq;
 use std::alloc::Global;
 use vcode::code::Block;
@@ -100,14 +100,14 @@ pub fn with_tails(alloc: Global, text: &str, plan_text: &str) -> Option<String> 
     let function = virtual_function(alloc, text)?;
     shown_or_refused(
         alloc,
-        tail_duplication::copy::apply(alloc, &function, chosen.as_slice()),
+        block_layout::tails::copy::apply(alloc, &function, chosen.as_slice()),
     )
 }
 
 /// What a plan's text has for a block: behind how many of its lines, and the registers with their numbers. Each line of the text has a block, how many lines, a register
 /// and a number.
-fn sets_of(alloc: Global, block: usize, plan_text: &str) -> Option<constant_sinking::known::Plan> {
-    let mut plan = constant_sinking::known::Plan {
+fn sets_of(alloc: Global, block: usize, plan_text: &str) -> Option<constant_placement::sinking::known::Plan> {
+    let mut plan = constant_placement::sinking::known::Plan {
         behind: 0,
         sets: Seq::new(alloc),
     };
@@ -136,6 +136,6 @@ pub fn with_sets(alloc: Global, text: &str, plan_text: &str) -> Option<String> {
     }
     shown_or_refused(
         alloc,
-        constant_sinking::sink::apply(alloc, &function, plans.as_slice()),
+        constant_placement::sinking::sink::apply(alloc, &function, plans.as_slice()),
     )
 }

@@ -1,0 +1,3 @@
+pub mod Ordered
+pub mod Placed
+pub mod Joined

@@ -1,5 +1,0 @@
-pub mod Placing
-pub mod Running
-pub mod Summing
-pub mod Keeping
-pub mod Standing

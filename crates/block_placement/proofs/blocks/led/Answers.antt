@@ -1,5 +1,0 @@
-use Rattle.std.proofs.Common.{rules}
-use Rattle.block_placement.proofs.blocks.led.Goals as goal
-
-pub returns-in-Goto : goal.returns-in-Goto
-returns-in-Goto c = search rules

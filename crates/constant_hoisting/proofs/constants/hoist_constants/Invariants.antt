@@ -1,6 +1,0 @@
-use Rattle.il_ast.specs.Passes.{Keeps}
-use Rattle.vcode.specs.Coded.{virtual_code}
-use Rattle.constant_hoisting.proofs.constants.hoist_constants.Given as goal
-
-abbrev pub invariant-loop-plan : goal.invariant-loop-plan
-invariant-loop-plan l = Keeps (virtual_code l.fn.function) (virtual_code l.held)

@@ -1,6 +1,0 @@
-use Rattle.std.proofs.Common.{◌≡◌, ◌++◌, drop}
-use Rattle.constant_hoisting.specs.Held.{with_blocks}
-use Rattle.constant_hoisting.proofs.replace.with_blocks.Given as goal
-
-abbrev pub invariant-loop-number : goal.invariant-loop-number
-invariant-loop-number l = l.made.items ++ with_blocks l.plan l.number (drop l.number l.blocks) ≡ with_blocks l.plan 0 l.fn.blocks

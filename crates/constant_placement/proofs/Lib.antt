@@ -1,0 +1,4 @@
+pub mod RunningHeld
+pub mod RunningSunk
+pub mod KeepingHeld
+pub mod KeepingSunk

@@ -1,0 +1,239 @@
+//! Which constants are worth a register.
+use crate::hoisting::choice::free::free_registers;
+use crate::hoisting::choice::regions::{Region, Regions, find_regions};
+use crate::hoisting::choice::saving::where_read;
+use crate::hoisting::choice::uses::{Key, Use, may_save, uses_of};
+use flow::depths::loop_depths;
+use flow::graph::{predecessors, successor};
+use il_ast::few::Few;
+use std::alloc::{AllocError, Global};
+use vcode::code::Block;
+use vcode::function::VFunc;
+use vcode::place::Operand;
+
+/// More of them would leave too few registers of the machine for what changes in a long function.
+const MOST: usize = 6;
+
+/// A function of so many blocks is long.
+const LONG: usize = 80;
+
+/// As many may a shorter one have.
+const MOST_IN_SHORT: usize = 12;
+
+/// A loop of so many blocks most often goes round so often that it pays for a register that has to be saved.
+const LARGE: u32 = 20;
+
+/// A constant for a register that the function names nowhere.
+#[derive(Drop)]
+pub struct Chosen {
+    /// the register that is to hold it
+    pub register: u32,
+
+    /// the number or the global name
+    pub constant: Operand<u32>,
+
+    /// by number, the blocks that are to set the register before their jump
+    pub sets: Vec<bool>,
+
+    /// by number, the blocks in which it is to hold the constant
+    pub holds: Vec<bool>,
+}
+
+/// A constant that is worth a register. The one that saves most is the last.
+#[derive(Clone, Copy, PartialEq, Eq, PartialOrd, Ord)]
+struct Choice {
+    gain: i64,
+    key: Key,
+}
+
+/// What it saves to hold a constant in a region, less what it costs to set it in front. Over calls it takes a register that has to be saved: far more is asked.
+fn net(one: &Use, region: &Region) -> i64 {
+    let price = where_read(&one.key.operand()).saturating_mul(i64::from(region.entries));
+    if region.has_calls {
+        let part = if region.blocks < LARGE { 4 } else { 2 };
+        (one.gain / part).saturating_sub(price).saturating_sub(1)
+    } else {
+        one.gain.saturating_sub(price)
+    }
+}
+
+/// The uses that are worth it, with what they save.
+fn worthy_uses(
+    alloc: Global,
+    blocks: &[Block<u32>],
+    depths: &[u32],
+    regions: &Regions,
+) -> Result<Vec<Use>, AllocError> {
+    let uses = uses_of(alloc, blocks, depths, regions)?;
+    let mut worthy = Vec::new(alloc);
+    for one in uses.iter() {
+        if let Some(region) = regions.list.get(one.region) {
+            let gain = net(one, region);
+            if 0 < gain {
+                worthy.push(Use { gain, ..*one })?;
+            }
+        }
+    }
+    Ok(worthy)
+}
+
+/// Each constant of these, in order of what it saves in all regions.
+fn choices(alloc: Global, worthy: &[Use]) -> Result<Vec<Choice>, AllocError> {
+    let mut choices: Vec<Choice> = Vec::new(alloc);
+    for one in worthy {
+        match choices.last_mut() {
+            Some(last) if last.key == one.key => last.gain = last.gain.saturating_add(one.gain),
+            _ => choices.push(Choice {
+                gain: one.gain,
+                key: one.key,
+            })?,
+        }
+    }
+    choices.sort()?;
+    Ok(choices)
+}
+
+/// By number, the regions in which it is worth it to hold the constant.
+fn held_regions(
+    alloc: Global,
+    worthy: &[Use],
+    key: Key,
+    count: usize,
+) -> Result<Vec<bool>, AllocError> {
+    let mut held = vec![in alloc; false; count]?;
+    for one in worthy {
+        if one.key == key {
+            if let Some(mark) = held.get_mut(one.region) {
+                *mark = true;
+            }
+        }
+    }
+    Ok(held)
+}
+
+fn leads_in(holds: &[bool], to: Option<usize>) -> bool {
+    match to {
+        Some(to) => holds.get(to).copied().unwrap_or(false),
+        None => false,
+    }
+}
+
+fn holding(
+    alloc: Global,
+    blocks: &[Block<u32>],
+    regions: &Regions,
+    held: &[bool],
+) -> Result<Vec<bool>, AllocError> {
+    let mut holds = vec![in alloc; false; blocks.len()]?;
+    for (number, mark) in holds.iter_mut().enumerate() {
+        *mark = held.get(regions.number(number)).copied().unwrap_or(false);
+    }
+    Ok(holds)
+}
+
+/// The blocks that lead from elsewhere to one that holds it.
+fn setting(alloc: Global, blocks: &[Block<u32>], holds: &[bool]) -> Result<Vec<bool>, AllocError> {
+    let mut sets = vec![in alloc; false; blocks.len()]?;
+    for (number, (mark, block)) in sets.iter_mut().zip(blocks).enumerate() {
+        let is_outside = !leads_in(holds, Some(number));
+        *mark = is_outside
+            && (leads_in(holds, successor(&block.jump, 0))
+                || leads_in(holds, successor(&block.jump, 1)));
+    }
+    Ok(sets)
+}
+
+fn chosen_for(
+    alloc: Global,
+    blocks: &[Block<u32>],
+    regions: &Regions,
+    worthy: &[Use],
+    key: Key,
+    register: u32,
+) -> Result<Chosen, AllocError> {
+    let held = held_regions(alloc, worthy, key, regions.list.len())?;
+    let holds = holding(alloc, blocks, regions, held.as_slice())?;
+    let sets = setting(alloc, blocks, holds.as_slice())?;
+    Ok(Chosen {
+        register,
+        constant: key.operand(),
+        sets,
+        holds,
+    })
+}
+
+/// The k-th choice from the last.
+fn from_last(choices: &[Choice], k: usize) -> Option<Choice> {
+    choices.iter().rev().nth(k).copied()
+}
+
+fn has_loops(depths: &[u32]) -> bool {
+    for depth in depths {
+        if 0 < *depth {
+            return true;
+        }
+    }
+    false
+}
+
+/// A constant for each register, as long as there are some that are worth it.
+fn chosen_in(
+    alloc: Global,
+    function: &VFunc,
+    regions: &Regions,
+    worthy: &[Use],
+    choices: &[Choice],
+) -> Result<Vec<Chosen>, AllocError> {
+    let blocks = function.code.blocks.as_slice();
+    let most = if blocks.len() < LONG {
+        MOST_IN_SHORT
+    } else {
+        MOST
+    };
+    let free = free_registers(alloc, function, most)?;
+    let mut chosen = Vec::new(alloc);
+    for (k, register) in free.iter().enumerate() {
+        if let Some(choice) = from_last(choices, k) {
+            chosen.push(chosen_for(alloc, blocks, regions, worthy, choice.key, *register)?)?;
+        }
+    }
+    Ok(chosen)
+}
+
+fn chosen_in_loops(
+    alloc: Global,
+    function: &VFunc,
+    predecessors: &[Few<usize>],
+    depths: &[u32],
+) -> Result<Vec<Chosen>, AllocError> {
+    let blocks = function.code.blocks.as_slice();
+    let regions = find_regions(alloc, blocks, predecessors, depths)?;
+    let worthy = worthy_uses(alloc, blocks, depths, &regions)?;
+    let choices = choices(alloc, worthy.as_slice())?;
+    chosen_in(
+        alloc,
+        function,
+        &regions,
+        worthy.as_slice(),
+        choices.as_slice(),
+    )
+}
+
+/// The constants of the function's loops that save most, each with a register of its own, the best first. They are few, and most often rightly set and held.
+///
+/// # Errors
+///
+/// Only where memory was refused.
+pub fn choose_constants(alloc: Global, function: &VFunc) -> Result<Vec<Chosen>, AllocError> {
+    let blocks = function.code.blocks.as_slice();
+    if !may_save(alloc, blocks)? {
+        return Ok(Vec::new(alloc));
+    }
+    let predecessors = predecessors(alloc, blocks)?;
+    let depths = loop_depths(alloc, blocks, predecessors.as_slice())?;
+    if has_loops(depths.as_slice()) {
+        chosen_in_loops(alloc, function, predecessors.as_slice(), depths.as_slice())
+    } else {
+        Ok(Vec::new(alloc))
+    }
+}

@@ -1,0 +1,254 @@
+//! Which registers blocks set: a guess, of which nothing is proved.
+use crate::sinking::known::{Known, Plan};
+use crate::sinking::numbers::Numbers;
+use crate::sinking::place::placed;
+use cfg_live::live::live;
+use cfg_live::sets::Live;
+use flow::graph::{predecessors, predecessors_of};
+use il_ast::list::Seq;
+use std::alloc::{AllocError, Global};
+use std::mem;
+use vcode::code::Block;
+use vcode::function::VFunc;
+use vcode::line::{Jump, Line};
+use vcode::place::Operand;
+
+/// How many registers a block sets at most.
+const SETS: usize = 64;
+
+/// A block as others lead to it.
+#[derive(Clone, Copy)]
+struct Entry {
+    /// its first point
+    point: usize,
+
+    /// whether only one way leads there
+    is_alone: bool,
+}
+
+/// The first point behind a block.
+fn point_behind(point: usize, block: &Block<u32>) -> usize {
+    let mut point = point;
+    for line in block.lines.as_slice() {
+        match line {
+            Line::Tick { .. } => {}
+            _ => point = point.saturating_add(1),
+        }
+    }
+    point.saturating_add(1)
+}
+
+fn entries(alloc: Global, blocks: &[Block<u32>]) -> Result<Vec<Entry>, AllocError> {
+    let predecessors = predecessors(alloc, blocks)?;
+    let mut entries = Vec::with_capacity(alloc, blocks.len())?;
+    let mut point = 0usize;
+    for (number, block) in blocks.iter().enumerate() {
+        entries.push(Entry {
+            point,
+            is_alone: predecessors_of(predecessors.as_slice(), number).len() == 1,
+        })?;
+        point = point_behind(point, block);
+    }
+    Ok(entries)
+}
+
+/// Whether only the block `number` leads to that block, and that comes later in the text.
+fn may_set(entries: &[Entry], number: usize, block: usize) -> bool {
+    match entries.get(block) {
+        Some(entry) => entry.is_alone && block > number,
+        None => false,
+    }
+}
+
+/// The two blocks behind a block, if one of them may set what the block does.
+fn ways(entries: &[Entry], number: usize, block: &Block<u32>) -> Option<(usize, usize)> {
+    match &block.jump {
+        Jump::Branch { met, otherwise, .. } => {
+            if may_set(entries, number, *met) || may_set(entries, number, *otherwise) {
+                Some((*met, *otherwise))
+            } else {
+                None
+            }
+        }
+        _ => None,
+    }
+}
+
+/// Whether a block sets anything that one behind it may set.
+fn sets_any(
+    alloc: Global,
+    numbers: &mut Numbers,
+    entries: &[Entry],
+    blocks: &[Block<u32>],
+) -> Result<bool, AllocError> {
+    for (number, block) in blocks.iter().enumerate() {
+        if let Some(_) = ways(entries, number, block) {
+            let unread = numbers.unread(alloc, &[], block)?;
+            if !unread.is_empty() {
+                return Ok(true);
+            }
+        }
+    }
+    Ok(false)
+}
+
+fn sets_number(line: &Line<u32>) -> bool {
+    match line {
+        Line::Set {
+            value: Operand::Number(_),
+            ..
+        } => true,
+        _ => false,
+    }
+}
+
+/// Whether a block sets a number and branches.
+fn may_sink(block: &Block<u32>) -> bool {
+    match block.jump {
+        Jump::Branch { .. } => block.lines.as_slice().iter().any(|line| sets_number(line)),
+        _ => false,
+    }
+}
+
+/// What is to be set in blocks that are still ahead, and what that is chosen by.
+#[derive(Drop)]
+struct Ahead {
+    sets: Vec<Vec<Known>>,
+    entries: Vec<Entry>,
+    live: Live,
+}
+
+impl Ahead {
+    /// Whether the register is live where the block begins.
+    fn wants(&self, block: usize, register: u32) -> bool {
+        match self.entries.get(block) {
+            Some(entry) => self.live.holds(entry.point, register),
+            None => false,
+        }
+    }
+
+    fn add(&mut self, number: usize, block: usize, known: Known) -> Result<(), AllocError> {
+        if may_set(self.entries.as_slice(), number, block) {
+            if let Some(sets) = self.sets.get_mut(block) {
+                if sets.len() < SETS {
+                    sets.push(known)?;
+                }
+            }
+        }
+        Ok(())
+    }
+
+    /// The one of two blocks behind a block that wants the register is to set it.
+    fn choose(
+        &mut self,
+        number: usize,
+        met: usize,
+        otherwise: usize,
+        known: Known,
+    ) -> Result<(), AllocError> {
+        match (
+            self.wants(met, known.register),
+            self.wants(otherwise, known.register),
+        ) {
+            (true, false) => self.add(number, met, known),
+            (false, true) => self.add(number, otherwise, known),
+            _ => Ok(()),
+        }
+    }
+
+    fn choose_all(
+        &mut self,
+        number: usize,
+        met: usize,
+        otherwise: usize,
+        unread: &[Known],
+    ) -> Result<(), AllocError> {
+        for known in unread {
+            self.choose(number, met, otherwise, *known)?;
+        }
+        Ok(())
+    }
+
+    /// What a block is to set.
+    fn take(&mut self, alloc: Global, block: usize) -> Vec<Known> {
+        match self.sets.get_mut(block) {
+            Some(sets) => mem::replace(sets, Vec::new(alloc)),
+            None => Vec::new(alloc),
+        }
+    }
+
+    /// What a block sets, which behind it one of two ways wants, is to be set there.
+    fn pass(
+        &mut self,
+        alloc: Global,
+        numbers: &mut Numbers,
+        number: usize,
+        block: &Block<u32>,
+        plan: &Plan,
+    ) -> Result<(), AllocError> {
+        if let Some((met, otherwise)) = ways(self.entries.as_slice(), number, block) {
+            let unread = numbers.unread(alloc, plan.sets.as_slice(), block)?;
+            self.choose_all(number, met, otherwise, unread.as_slice())?;
+        }
+        Ok(())
+    }
+}
+
+fn nothing(alloc: Global, blocks: usize) -> Result<Vec<Vec<Known>>, AllocError> {
+    let mut sets = Vec::with_capacity(alloc, blocks)?;
+    for _ in 0..blocks {
+        sets.push(Vec::new(alloc))?;
+    }
+    Ok(sets)
+}
+
+fn plan(alloc: Global, sets: Vec<Known>, block: &Block<u32>) -> Result<Plan, AllocError> {
+    if sets.is_empty() {
+        Ok(Plan {
+            behind: 0,
+            sets: Seq::new(alloc),
+        })
+    } else {
+        placed(alloc, sets, block)
+    }
+}
+
+/// What each block is to set, block by block, so that what one is to set may be set again behind it.
+fn all_plans(
+    alloc: Global,
+    numbers: &mut Numbers,
+    ahead: &mut Ahead,
+    blocks: &[Block<u32>],
+) -> Result<Vec<Plan>, AllocError> {
+    let mut plans = Vec::with_capacity(alloc, blocks.len())?;
+    for (number, block) in blocks.iter().enumerate() {
+        let plan = plan(alloc, ahead.take(alloc, number), block)?;
+        ahead.pass(alloc, numbers, number, block, &plan)?;
+        plans.push(plan)?;
+    }
+    Ok(plans)
+}
+
+/// What each block is to set; none where no block sets what one behind it may set.
+///
+/// # Errors
+///
+/// Only where memory was refused.
+pub fn choose(alloc: Global, function: &VFunc) -> Result<Option<Vec<Plan>>, AllocError> {
+    let blocks = function.code.blocks.as_slice();
+    if !blocks.iter().any(|block| may_sink(block)) {
+        return Ok(None);
+    }
+    let entries = entries(alloc, blocks)?;
+    let mut numbers = Numbers::new(alloc, function.registers)?;
+    if !sets_any(alloc, &mut numbers, entries.as_slice(), blocks)? {
+        return Ok(None);
+    }
+    let mut ahead = Ahead {
+        sets: nothing(alloc, blocks.len())?,
+        entries,
+        live: live(alloc, function)?,
+    };
+    let plans = all_plans(alloc, &mut numbers, &mut ahead, blocks)?;
+    Ok(Some(plans))
+}

@@ -1,5 +1,0 @@
-use Rattle.std.proofs.Common.{rules}
-use Rattle.constant_sinking.proofs.with_sets.fits.Goals as goal
-
-pub returns-then-are_low-clause-stay : goal.returns-then-are_low-clause-stay
-returns-then-are_low-clause-stay c = search rules

@@ -1,5 +1,0 @@
-use Rattle.std.proofs.Common.{rules}
-use Rattle.tail_duplication.proofs.copy.apply.Goals as goal
-
-pub with_these-requires-clause-light : goal.with_these-requires-clause-light
-with_these-requires-clause-light c = search rules
