@@ -18,6 +18,7 @@ use Rattle.vcode.specs.Regular.{leads_inside}
 use Rattle.vcode.proofs.Measuring.{Measured, Empty, Put, SetIn, measure, nothing_taken, within_tested, Each, NoBlocks, OneMore}
 use Rattle.vcode.specs.Becomes.{with_these}
 use Rattle.vcode.proofs.Results.{Serves, Owed, owed_each}
+use Rattle.vcode.proofs.Weaker.{line_weaker, jump_weaker, below_more}
 use Rattle.code_motion.specs.Longer.{is_extra, AreLonger, NoLines, Own, Extra, IsLonger, AllLonger}
 use Rattle.code_motion.proofs.Running.{runs}
 
@@ -38,56 +39,6 @@ lines_measured n m NoLines = Empty
 lines_measured n m (Own rest) = Put refl (λ e. absurd (let no : ⊥ = cc in no)) (lines_measured n m rest)
 lines_measured n m (Extra {m = k} fits rest) = SetIn refl (extra_takes n m k fits) (lines_measured n m rest)
 
--- ---- what names fewer registers names more
-
-module _ (p q : ℕ → Bool) (more : (r : ℕ) → p r ≡ true → q r ≡ true) where
-  operand_more : (a : Operand ℕ) → operand_keeps p a ≡ true → operand_keeps q a ≡ true
-  operand_more (At r) h = more r h
-  operand_more (Number k) h = refl
-  operand_more (Name g) h = refl
-
-  two_more : (a b : Operand ℕ) → (operand_keeps p a && operand_keeps p b) ≡ true → (operand_keeps q a && operand_keeps q b) ≡ true
-  two_more a b h = let s = and_parts (operand_keeps p a) (operand_keeps p b) h in and_from (operand_keeps q a) (operand_keeps q b) (operand_more a s.0) (operand_more b s.1)
-
-  args_more : (args : List (Argument ℕ)) → list_all (λ (a : Argument ℕ). operand_keeps p a.value) args ≡ true → list_all (λ (a : Argument ℕ). operand_keeps q a.value) args ≡ true
-  args_more [] h = refl
-  args_more (a ∷ args) h =
-      let s = and_parts (operand_keeps p a.value) (list_all (λ (b : Argument ℕ). operand_keeps p b.value) args) h in
-      and_from (operand_keeps q a.value) (list_all (λ (b : Argument ℕ). operand_keeps q b.value) args) (operand_more a.value s.0) (args_more args s.1)
-
-  wanted_more : (to : Option (Destination ℕ)) → wanted_keeps p to ≡ true → wanted_keeps q to ≡ true
-  wanted_more None h = refl
-  wanted_more (Some d) h = more d.place h
-
-  made_more : (to : Option ℕ) → made_keeps p to ≡ true → made_keeps q to ≡ true
-  made_more None h = refl
-  made_more (Some r) h = more r h
-
-  line_more : (l : Line ℕ) → line_keeps p l ≡ true → line_keeps q l ≡ true
-  line_more (Tick turn w) h = refl
-  line_more (Set to a) h = let s = and_parts (p to) (operand_keeps p a) h in and_from (q to) (operand_keeps q a) (more to s.0) (operand_more a s.1)
-  line_more (Operate to op a b) h =
-      let s = and_parts (p to) (operand_keeps p a && operand_keeps p b) h in and_from (q to) (operand_keeps q a && operand_keeps q b) (more to s.0) (two_more a b s.1)
-  line_more (Load to op at) h = let s = and_parts (p to) (operand_keeps p at.base) h in and_from (q to) (operand_keeps q at.base) (more to s.0) (operand_more at.base s.1)
-  line_more (Store size a at) h = two_more a at.base h
-  line_more (Alloc to size) h = made_more to h
-  line_more (Blit from to count) h = two_more from to h
-  line_more (Call to callee args) h =
-      let s = and_parts (wanted_keeps p to) (operand_keeps p callee && list_all (λ (a : Argument ℕ). operand_keeps p a.value) args) h in
-      let t = and_parts (operand_keeps p callee) (list_all (λ (a : Argument ℕ). operand_keeps p a.value) args) s.1 in
-      and_from (wanted_keeps q to) (operand_keeps q callee && list_all (λ (a : Argument ℕ). operand_keeps q a.value) args) (wanted_more to s.0)
-      (and_from (operand_keeps q callee) (list_all (λ (a : Argument ℕ). operand_keeps q a.value) args) (operand_more callee t.0) (args_more args t.1))
-
-  jump_more : (j : Jump ℕ) → jump_keeps p j ≡ true → jump_keeps q j ≡ true
-  jump_more (Goto k) h = refl
-  jump_more (Branch on met otherwise) h = two_more on.left on.right h
-  jump_more (Return None) h = refl
-  jump_more (Return (Some a)) h = operand_more a.value h
-  jump_more Halt h = refl
-
-below_more : (n m : ℕ) → n ≤ m → (r : ℕ) → is_below n r ≡ true → is_below m r ≡ true
-below_more n m more r h = grind (arith, nat_tests)
-
 -- ---- the registers that it names
 
 extra_low : (n m : ℕ) (l : Line ℕ) → is_extra n m l ≡ true → line_keeps (is_below m) l ≡ true
@@ -104,7 +55,7 @@ lines_low : (n m : ℕ) → n ≤ m → {lines new : List (Line ℕ)} → AreLon
 lines_low n m more NoLines h = refl
 lines_low n m more (Own {l = l} {lines = lines} {new = new} rest) h =
     let s = and_parts (line_keeps (is_below n) l) (list_all (line_keeps (is_below n)) lines) h in
-    and_from (line_keeps (is_below m) l) (list_all (line_keeps (is_below m)) new) (line_more (is_below n) (is_below m) (below_more n m more) l s.0) (lines_low n m more rest s.1)
+    and_from (line_keeps (is_below m) l) (list_all (line_keeps (is_below m)) new) (line_weaker (is_below n) (is_below m) (below_more n m more) l s.0) (lines_low n m more rest s.1)
 lines_low n m more (Extra {m = k} {new = new} fits rest) h = and_from (line_keeps (is_below m) k) (list_all (line_keeps (is_below m)) new) (extra_low n m k fits) (lines_low n m more rest h)
 
 -- ---- the whole
@@ -118,7 +69,7 @@ block_serves n m more b d is =
           let s = and_parts (list_all (line_keeps (is_below n)) b.lines) (jump_keeps (is_below n) b.jump) e in
           and_from (list_all (line_keeps (is_below m)) d.lines) (jump_keeps (is_below m) d.jump)
           (lines_low n m more is.lines s.0)
-          (ap (jump_keeps (is_below m)) is.jump ∙ jump_more (is_below n) (is_below m) (below_more n m more) b.jump s.1);
+          (ap (jump_keeps (is_below m)) is.jump ∙ jump_weaker (is_below n) (is_below m) (below_more n m more) b.jump s.1);
     }
 
 blocks_serve : (n m : ℕ) → n ≤ m → (blocks new : List (Block ℕ)) → AllLonger n m blocks new → Each (Serves n m) blocks new

@@ -21,3 +21,4 @@ pub mod DataPlaced
 pub mod GoodFunctions
 pub mod InNeed
 pub mod CompiledRuns
+pub mod Endless

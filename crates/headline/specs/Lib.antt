@@ -4,6 +4,7 @@ pub mod Natives
 pub mod Functions
 pub mod Start
 pub mod Headline
+pub mod Endless
 pub mod Whole
 pub mod Example
 pub mod Places

@@ -1,5 +1,6 @@
 //! The theorem that joins the layers, and what the compiler's first steps give the next, each part as the contract of a function that does nothing.
 ghost use Rattle.headline.specs.Functions.{CallsAreKept};
+ghost use Rattle.headline.specs.Endless.{EndlessProgramsRunOn};
 ghost use Rattle.headline.specs.Headline.{Executes};
 ghost use Rattle.headline.specs.Read.{FunctionsAreGood};
 ghost use Rattle.headline.specs.Whole.{ProgramIsExecuted};
@@ -71,4 +72,9 @@ pub fn replaced_programs_run()
 /// Where words stand for each function of a program, its executable executes it: from every start with argument words within their limits.
 pub fn compiled_programs_run()
     ensures { CompiledRuns }
+{}
+
+/// A machine that executes a program that never ends never stops, and puts out what the program does: all of it in time, and at each moment a beginning of it.
+pub fn endless_programs_run_on()
+    ensures { EndlessProgramsRunOn }
 {}

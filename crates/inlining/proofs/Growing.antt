@@ -30,7 +30,8 @@ use Rattle.inlining.specs.Growth.{Answers, StandsAt, IsCut, IsGrowth}
 use Rattle.vcode.proofs.Replacing.{args_count}
 use Rattle.inlining.proofs.Calm.{makes_none, candidate_makes_none}
 use Rattle.inlining.proofs.Listing.{all_taken, all_left, all_set, all_changed, all_weaker, sum_at, sum_set, sum_changed, length_both, length_changed, none_all, all_none, no_any}
-use Rattle.inlining.proofs.Fitting.{IsPlain, arguments_plain, result_plain, plain_sum, plain_all, arguments_named, candidate_named, block_weaker, below_more, inside_more, inside_moved, target_at}
+use Rattle.inlining.proofs.Fitting.{IsPlain, arguments_plain, result_plain, plain_sum, plain_all, arguments_named, candidate_named, inside_more, inside_moved, target_at}
+use Rattle.vcode.proofs.Weaker.{block_weaker, below_more}
 use Rattle.il_ast.proofs.Listed.{all_at, length_slice_set, all_append}
 use Rattle.std.proofs.lemmas.Option.{slice_get_within}
 use Rattle.vcode.proofs.Measuring.{still_within}

@@ -10,7 +10,8 @@ use Rattle.vcode.specs.Named.{block_keeps, is_below}
 use Rattle.vcode.specs.Regular.{leads_inside, IsRegular}
 use Rattle.inlining.specs.declared.limits.TheConstants.{BLOCKS}
 use Rattle.inlining.proofs.Listing.{all_weaker}
-use Rattle.inlining.proofs.Fitting.{below_more, block_weaker, inside_more}
+use Rattle.inlining.proofs.Fitting.{inside_more}
+use Rattle.vcode.proofs.Weaker.{below_more, block_weaker}
 
 pub inside_all : (candidate : VFunc) (behind : ℕ) → behind + length candidate.code.blocks < BLOCKS → list_all (λ (b : Block ℕ). leads_inside BLOCKS b.jump) candidate.code.blocks ≡ true
 inside_all candidate behind few =

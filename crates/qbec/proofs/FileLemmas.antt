@@ -57,6 +57,8 @@ is_file texts p codes image bytes is words made good loads stands =
     here =
         record {
           codes = codes;
+          one_each = words.few;
+          are_code = words.every;
           stands = subst (λ i. Stands i (executable_of image)) made stands;
           runs =
               λ ws s starts few short.

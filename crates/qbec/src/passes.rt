@@ -11,6 +11,7 @@ use constant_placement::sinking::sink::sink_constants;
 use constant_propagation::propagate::propagate_constants;
 use copy_propagation::read::propagate_copies;
 use dead_code::remove::remove_dead_code;
+use renaming::rename::rename_webs;
 use sign_extensions::copies::copy_whole_words;
 use std::alloc::{AllocError, Global};
 use value_numbering::reuse::reuse_values;
@@ -21,6 +22,7 @@ use vcode::function::VFunc;
 pub enum Pass {
     SignExtensions,
     JumpThreading,
+    Renaming,
     ConstantPropagation,
     DeadCode,
     CodeMotion,
@@ -34,9 +36,10 @@ pub enum Pass {
 
 /// The passes in their order. Dead lines go before values are numbered, since they would count as readers of these, and once more behind that. What code motion sets in
 /// front of loops is found there by value numbering; what that finds is carried on by constant propagation.
-pub const PASSES: [Pass; 13] = [
+pub const PASSES: [Pass; 14] = [
     Pass::SignExtensions,
     Pass::JumpThreading,
+    Pass::Renaming,
     Pass::ConstantPropagation,
     Pass::DeadCode,
     Pass::CodeMotion,
@@ -56,6 +59,7 @@ impl Pass {
         match self {
             Pass::SignExtensions => "sign_extensions",
             Pass::JumpThreading => "jump_threading",
+            Pass::Renaming => "renaming",
             Pass::ConstantPropagation => "constant_propagation",
             Pass::DeadCode => "dead_code",
             Pass::CodeMotion => "code_motion",
@@ -79,6 +83,7 @@ impl Pass {
         match self {
             Pass::SignExtensions => copy_whole_words(alloc, function),
             Pass::JumpThreading => thread_jumps(alloc, function),
+            Pass::Renaming => rename_webs(alloc, function),
             Pass::ConstantPropagation => propagate_constants(alloc, function),
             Pass::DeadCode => remove_dead_code(alloc, function),
             Pass::CodeMotion => hoist_invariants(alloc, function),

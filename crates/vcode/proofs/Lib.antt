@@ -17,3 +17,4 @@ pub mod Factual
 pub mod Measuring
 pub mod Results
 pub mod InPlace
+pub mod Weaker
