@@ -1,5 +1,0 @@
-use Rattle.std.proofs.Common.{rules}
-use Rattle.constant_propagation.proofs.claim.leads_well.Goals as goal
-
-pub returns-then-are_known : goal.returns-then-are_known
-returns-then-are_known c = search rules

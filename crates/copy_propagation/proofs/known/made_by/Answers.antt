@@ -1,5 +1,0 @@
-use Rattle.std.proofs.Common.{rules}
-use Rattle.copy_propagation.proofs.known.made_by.Goals as goal
-
-pub returns-else-to-from : goal.returns-else-to-from
-returns-else-to-from c = search rules

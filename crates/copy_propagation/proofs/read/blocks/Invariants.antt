@@ -1,6 +1,0 @@
-use Rattle.std.proofs.Common.{◌≡◌, take, map}
-use Rattle.copy_propagation.specs.Copied.{reading_block}
-use Rattle.copy_propagation.proofs.read.blocks.Given as goal
-
-abbrev pub invariant-loop-item : goal.invariant-loop-item
-invariant-loop-item l = l.made.items ≡ map reading_block (take l.item-index l.from)

@@ -1,0 +1,9 @@
+pub mod Writing
+pub mod MakingFacts
+pub mod Shortening
+pub mod Computing
+pub mod RunningFacts
+pub mod KeepingFacts
+pub mod RunningCopies
+pub mod KeepingCopies
+pub mod MakingCopies

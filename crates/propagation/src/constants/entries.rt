@@ -1,0 +1,222 @@
+//! What is claimed where blocks begin: a guess, of which nothing is proved.
+use crate::constants::claim::{Claim, Entry};
+use crate::constants::walk::Walk;
+use cfg_live::low_registers::LowRegisters;
+use cfg_live::uses::line_writes;
+use il_ast::list::Seq;
+use std::alloc::{AllocError, Global};
+use vcode::code::Block;
+use vcode::function::VFunc;
+use vcode::line::{Jump, Line};
+use vcode::place::Operand;
+
+/// How often the guess goes over a function at most.
+const ROUNDS: usize = 8;
+
+/// What is claimed where a block begins, once a way leads there.
+#[derive(Drop)]
+struct Guess {
+    claims: Seq<Claim>,
+    is_led_to: bool,
+
+    /// whether the block is still to be gone over with these
+    is_new: bool,
+}
+
+/// Those of the claims that are known.
+fn still_known(alloc: Global, walk: &Walk, claims: &[Claim]) -> Result<Seq<Claim>, AllocError> {
+    let mut kept = Seq::new(alloc);
+    for claim in claims {
+        if walk.knows(claim) {
+            kept.push(*claim)?;
+        }
+    }
+    Ok(kept)
+}
+
+/// One more way leads to a block, at the end of what the walk went along; returns whether less is claimed of the block than before, or something for the first time.
+fn meet(alloc: Global, walk: &mut Walk, guess: &mut Guess) -> Result<bool, AllocError> {
+    if guess.is_led_to {
+        if guess
+            .claims
+            .as_slice()
+            .iter()
+            .all(|claim| walk.knows(claim))
+        {
+            return Ok(false);
+        }
+        guess.claims = still_known(alloc, walk, guess.claims.as_slice())?;
+        guess.is_new = true;
+        Ok(true)
+    } else {
+        guess.claims = walk.known(alloc)?;
+        guess.is_led_to = true;
+        guess.is_new = true;
+        Ok(true)
+    }
+}
+
+fn meet_at(
+    alloc: Global,
+    walk: &mut Walk,
+    guesses: &mut [Guess],
+    block: usize,
+) -> Result<bool, AllocError> {
+    match guesses.get_mut(block) {
+        Some(guess) => meet(alloc, walk, guess),
+        None => Ok(false),
+    }
+}
+
+/// What is known where a block ends is claimed where its jump leads.
+fn lead(
+    alloc: Global,
+    walk: &mut Walk,
+    guesses: &mut [Guess],
+    jump: &Jump<u32>,
+) -> Result<bool, AllocError> {
+    match jump {
+        Jump::Goto(to) => meet_at(alloc, walk, guesses, *to),
+        Jump::Branch { met, otherwise, .. } => {
+            let one = meet_at(alloc, walk, guesses, *met)?;
+            let other = meet_at(alloc, walk, guesses, *otherwise)?;
+            Ok(one || other)
+        }
+        Jump::Return(_) | Jump::Halt => Ok(false),
+    }
+}
+
+/// A block begins with what is claimed there, if that is less than when the block was gone over; says whether it is. To a block to which no way led so far one
+/// may yet lead, so nothing is claimed of that.
+fn begin(walk: &mut Walk, guesses: &mut [Guess], block: usize) -> Result<bool, AllocError> {
+    match guesses.get_mut(block) {
+        Some(guess) if guess.is_new => {
+            guess.is_led_to = true;
+            guess.is_new = false;
+            walk.begin(guess.claims.as_slice())?;
+            Ok(true)
+        }
+        _ => Ok(false),
+    }
+}
+
+/// Goes over a block, if that begins with less than when it was gone over; returns whether what is claimed of any changed.
+fn go(
+    alloc: Global,
+    walk: &mut Walk,
+    guesses: &mut [Guess],
+    number: usize,
+    block: &Block<u32>,
+) -> Result<bool, AllocError> {
+    if !begin(walk, guesses, number)? {
+        return Ok(false);
+    }
+    walk.go(block.lines.as_slice())?;
+    lead(alloc, walk, guesses, &block.jump)
+}
+
+/// Goes over all blocks; returns whether what is claimed of any changed.
+fn round(
+    alloc: Global,
+    walk: &mut Walk,
+    guesses: &mut [Guess],
+    blocks: &[Block<u32>],
+) -> Result<bool, AllocError> {
+    let mut has_changed = false;
+    for (number, block) in blocks.iter().enumerate() {
+        has_changed = go(alloc, walk, guesses, number, block)? || has_changed;
+    }
+    Ok(has_changed)
+}
+
+/// A way leads to the first block, on which nothing is known, and none to the others.
+fn unknown(alloc: Global, blocks: usize) -> Result<Vec<Guess>, AllocError> {
+    let mut guesses = Vec::with_capacity(alloc, blocks)?;
+    for number in 0..blocks {
+        guesses.push(Guess {
+            claims: Seq::new(alloc),
+            is_led_to: number == 0,
+            is_new: true,
+        })?;
+    }
+    Ok(guesses)
+}
+
+fn as_entries(alloc: Global, guesses: Vec<Guess>) -> Result<Vec<Entry>, AllocError> {
+    let mut entries = Vec::with_capacity(alloc, guesses.len())?;
+    for guess in guesses {
+        entries.push(Entry {
+            claims: guess.claims,
+        })?;
+    }
+    Ok(entries)
+}
+
+/// Which registers are set to numbers, and which are written otherwise, of those with numbers below 128.
+#[derive(Clone, Copy)]
+struct Writes {
+    numbers: LowRegisters,
+    others: LowRegisters,
+}
+
+impl Writes {
+    /// With what a line writes.
+    fn with(self, line: &Line<u32>) -> Writes {
+        match line {
+            Line::Set {
+                to,
+                value: Operand::Number(_),
+            } => Writes {
+                numbers: self.numbers.with(*to),
+                ..self
+            },
+            _ => match line_writes(line) {
+                Some(register) => Writes {
+                    others: self.others.with(register),
+                    ..self
+                },
+                None => self,
+            },
+        }
+    }
+
+    fn with_all(self, lines: &[Line<u32>]) -> Writes {
+        let mut writes = self;
+        for line in lines {
+            writes = writes.with(line);
+        }
+        writes
+    }
+}
+
+/// Whether a register is written with numbers alone: else none holds one behind the block that sets it, but where several ways join.
+fn holds_number(function: &VFunc) -> bool {
+    let mut writes = Writes {
+        numbers: LowRegisters::new(),
+        others: LowRegisters::new(),
+    };
+    for block in function.code.blocks.as_slice() {
+        writes = writes.with_all(block.lines.as_slice());
+    }
+    function.registers > 128 || !writes.numbers.without(writes.others).is_empty()
+}
+
+/// What is claimed where each block begins: that registers hold what they do behind every block that leads there. Nothing, where that isn't found in a few rounds.
+///
+/// # Errors
+///
+/// Only where memory was refused.
+pub(crate) fn entries(alloc: Global, function: &VFunc) -> Result<Vec<Entry>, AllocError> {
+    if !holds_number(function) {
+        return Ok(Vec::new(alloc));
+    }
+    let blocks = function.code.blocks.as_slice();
+    let mut walk = Walk::new(alloc, function)?;
+    let mut guesses = unknown(alloc, blocks.len())?;
+    for _ in 0..ROUNDS {
+        if !round(alloc, &mut walk, guesses.as_mut_slice(), blocks)? {
+            return as_entries(alloc, guesses);
+        }
+    }
+    Ok(Vec::new(alloc))
+}

@@ -1,0 +1,237 @@
+//! Blocks and functions, put by what is known.
+ghost use Rattle.std.specs.Prelude.{◌≡◌, ◌+◌, ◌*◌, ◌^◌, ◌<◌, ◌≤◌, [], ℕ, List, length, IfOk, IfSome, None};
+ghost use Rattle.il_ast.specs.Passes.{Keeps};
+ghost use Rattle.vcode.specs.declared.line.Line.{Line as ALine};
+ghost use Rattle.vcode.specs.declared.line.Jump.{Jump as AJump};
+ghost use Rattle.vcode.specs.Coded.{virtual_code};
+ghost use Rattle.propagation.specs.declared.constants.claim.Entry.{Entry};
+ghost use Rattle.propagation.specs.FactTable.{facts_of, IsTable};
+ghost use Rattle.propagation.specs.Claimed.{claimed};
+ghost use Rattle.propagation.specs.Forwarded.{AreForwarded, IsForwarded, AllForwarded};
+ghost use Rattle.propagation.specs.After.{changes_memory, sum_of, fact_of, after};
+
+use crate::constants::claim::{Claim, Entry, claims_at, leads_well};
+use crate::constants::entries::entries;
+use crate::constants::fact::Fact;
+use crate::constants::replace::{is_add, jump, line as forwarded};
+use crate::constants::strength_reduction::shortened;
+use crate::constants::table::FactTable;
+use cfg_live::uses::line_writes;
+use il_ast::list::Seq;
+use std::alloc::{AllocError, Global};
+use vcode::code::Block;
+use vcode::function::VFunc;
+use vcode::line::{Comparison, Line, Operation};
+use vcode::place::{Destination, Operand};
+
+fn changes_memory(line: &Line<u32>) -> bool
+    ensures { result ≡ changes_memory line.now }
+{
+    match line {
+        Line::Store { .. } | Line::Alloc { .. } | Line::Blit { .. } | Line::Call { .. } => true,
+        _ => false,
+    }
+}
+
+/// A sum of a register and a number.
+fn sum_of(left: Operand<u32>, right: Operand<u32>) -> Option<Fact>
+    ensures { result ≡ sum_of left right }
+{
+    match (left, right) {
+        (Operand::At(_), Operand::Number(number)) => Some(Fact::Sum(left, number)),
+        _ => None,
+    }
+}
+
+/// What a line makes known of the register that it writes.
+fn fact_of(line: &Line<u32>) -> Option<Fact>
+    ensures { result ≡ fact_of line.now }
+{
+    match line {
+        Line::Set { value, .. } => Some(Fact::Same(*value)),
+        Line::Operate {
+            operation: Operation::Compare(condition, class),
+            left,
+            right,
+            ..
+        } => Some(Fact::Test(Comparison {
+            condition: *condition,
+            class: *class,
+            left: *left,
+            right: *right,
+        })),
+        Line::Operate {
+            operation: Operation::Reg(op),
+            left,
+            right,
+            ..
+        } => {
+            if is_add(Operation::Reg(*op)) {
+                sum_of(*left, *right)
+            } else {
+                None
+            }
+        }
+        _ => None,
+    }
+}
+
+/// A line was done.
+fn pass(table: &mut FactTable, line: &Line<u32>)
+    requires table { IsTable table.old }
+    requires runs { table.old.clock + 1 < 2 ^ 128 }
+    ensures table { IsTable table.new }
+    ensures after { (q : ℕ) → facts_of table.new q ≡ after (length table.old.written.items) line.now (facts_of table.old) q }
+    ensures clock { table.new.clock ≡ table.old.clock + 1 }
+    ensures count { length table.new.written.items ≡ length table.old.written.items }
+{
+    table.tick(changes_memory(line));
+    if let Some(register) = line_writes(line) {
+        table.write(register, fact_of(line));
+    }
+}
+
+/// These claims are made where a block begins.
+fn claim_all(table: &mut FactTable, claims: &[Claim])
+    requires table { IsTable table.old }
+    requires runs { table.old.clock + length claims.now < 2 ^ 128 }
+    ensures table { IsTable table.new }
+    ensures facts { facts_of table.new ≡ claimed (length table.old.written.items) (facts_of table.old) claims.now }
+    ensures clock { table.new.clock ≡ table.old.clock + length claims.now }
+    ensures count { length table.new.written.items ≡ length table.old.written.items }
+{
+    for claim in claims {
+        pass(
+            table,
+            &Line::Set {
+                to: claim.register,
+                value: claim.value,
+            },
+        );
+    }
+}
+
+/// The lines, put by what is known before each of them.
+fn forwarded_lines(
+    alloc: Global,
+    table: &mut FactTable,
+    lines: &[Line<u32>],
+) -> Result<Vec<Line<u32>>, AllocError>
+    requires table { IsTable table.old }
+    requires runs { table.old.clock + length lines.now < 2 ^ 128 }
+    ensures table { IsTable table.new }
+    ensures clock { IfOk result (λ v. table.new.clock ≡ table.old.clock + length lines.now) }
+    ensures count { length table.new.written.items ≡ length table.old.written.items }
+    ensures lines { IfOk result (λ v. (entries : List Entry) (whole : List (ALine ℕ)) (j k : AJump ℕ) → AreForwarded (length table.old.written.items) entries whole (facts_of table.new) [] [] j k → AreForwarded (length table.old.written.items) entries whole (facts_of table.old) lines.now v.items j k) }
+{
+    let mut made = Vec::with_capacity(alloc, lines.len())?;
+    for line in lines {
+        let carried = forwarded(alloc, table, line)?;
+        let put = shortened(carried);
+        pass(table, &put);
+        made.push(put)?;
+    }
+    Ok(made)
+}
+
+/// The block from what is claimed where it begins, if what is claimed where it leads is known.
+fn forwarded_block(
+    alloc: Global,
+    entries: &[Entry],
+    table: &mut FactTable,
+    number: usize,
+    block: &Block<u32>,
+) -> Result<Option<Block<u32>>, AllocError>
+    requires table { IsTable table.old }
+    requires later { table.old.clock ≤ number * 2 ^ 64 }
+    ensures table { IsTable table.new }
+    ensures clock { IfOk result (λ o. IfSome o (λ v. table.new.clock ≤ (number + 1) * 2 ^ 64)) }
+    ensures count { length table.new.written.items ≡ length table.old.written.items }
+    ensures block { IfOk result (λ o. IfSome o (λ v. IsForwarded (length table.old.written.items) entries.now number block.now v)) }
+{
+    let claims = claims_at(entries, number);
+    let lines = block.lines.as_slice();
+    if claims.len() > usize::MAX - lines.len() {
+        return Ok(None);
+    }
+    table.begin(number);
+    claim_all(table, claims);
+    let lines = forwarded_lines(alloc, table, lines)?;
+    let jump = jump(table, &lines, &block.jump);
+    if !leads_well(table, entries, &jump) {
+        return Ok(None);
+    }
+    Ok(Some(Block {
+        lines: Seq::from_vec(lines),
+        jump,
+    }))
+}
+
+fn forwarded_blocks(
+    alloc: Global,
+    entries: &[Entry],
+    table: &mut FactTable,
+    blocks: &[Block<u32>],
+) -> Result<Option<Seq<Block<u32>>>, AllocError>
+    requires table { IsTable table.old }
+    requires starts { table.old.clock ≡ 0 }
+    ensures { IfOk result (λ o. IfSome o (λ v. AllForwarded (length table.old.written.items) entries.now 0 blocks.now v)) }
+{
+    let mut made = Vec::with_capacity(alloc, blocks.len())?;
+    for (number, block) in blocks.iter().enumerate() {
+        match forwarded_block(alloc, entries, table, number, block)? {
+            Some(block) => made.push(block)?,
+            None => return Ok(None),
+        }
+    }
+    Ok(Some(Seq::from_vec(made)))
+}
+
+/// The function by these claims, if they are right.
+fn propagated(
+    alloc: Global,
+    function: &VFunc,
+    entries: &[Entry],
+) -> Result<Option<VFunc>, AllocError>
+    ensures { IfOk result (λ o. IfSome o (λ w. Keeps (virtual_code function.now) (virtual_code w))) }
+{
+    if claims_at(entries, 0).len() != 0 {
+        return Ok(None);
+    }
+    let mut table = FactTable::new(alloc, function.registers)?;
+    match forwarded_blocks(alloc, entries, &mut table, function.code.blocks.as_slice())? {
+        Some(blocks) => {
+            let made = function.with_blocks(alloc, function.registers, blocks)?;
+            Ok(Some(made))
+        }
+        None => Ok(None),
+    }
+}
+
+/// The function by the claims that are found, or by none where those aren't right.
+fn propagated_by_any(alloc: Global, function: &VFunc) -> Result<Option<VFunc>, AllocError>
+    ensures { IfOk result (λ o. IfSome o (λ w. Keeps (virtual_code function.now) (virtual_code w))) }
+{
+    let entries = entries(alloc, function)?;
+    match propagated(alloc, function, entries.as_slice())? {
+        Some(made) => Ok(Some(made)),
+        None => propagated(alloc, function, &[]),
+    }
+}
+
+/// The function with operands that are known copies or numbers replaced by what they are; with sums and addresses of known sums with numbers put as one sum or
+/// address; with operations on numbers and by powers of two in their short forms; with branches on results of comparisons put as branches on the comparisons, where
+/// the ticks of the block pay for it; and with branches on two numbers put as jumps. Each fact counts as long as no line makes it false: along its block, and that
+/// a register holds a number also in blocks where each way that leads there knows it. It takes time and memory as the text is long.
+///
+/// # Errors
+///
+/// Only where memory was refused.
+pub fn propagate_constants(alloc: Global, function: VFunc) -> Result<VFunc, AllocError>
+    ensures { IfOk result (λ w. Keeps (virtual_code function) (virtual_code w)) }
+{
+    match propagated_by_any(alloc, &function)? {
+        Some(made) => Ok(made),
+        None => Ok(function),
+    }
+}
