@@ -1,0 +1,4 @@
+pub mod Commuting
+pub mod Swapping
+pub mod Keeping
+pub mod Measuring
