@@ -244,7 +244,7 @@ begin_goes c parts itself enter i extra rest fs k u is none held few kept stands
         → Reaches (site c) (longest_size (prologue c.layout c.saved)) ((if t then itself else Goto i ∷ []) ++ rest) u Q
         → Begun (kept_setting c parts) (c.label i) extra fs k
     by_test true e m =
-        let size = prologue_size c.layout c.saved few in
+        let size = (prologue_size c.layout c.saved few).few in
         let steps = m.few in
         let price = a.price in
         let pace = a.pace in
@@ -263,7 +263,7 @@ begin_goes c parts itself enter i extra rest fs k u is none held few kept stands
         }
     by_test false e m =
         let g = goes_on (site c) i rest m.after m.stands m.fixed in
-        let size = prologue_size c.layout c.saved few in
+        let size = (prologue_size c.layout c.saved few).few in
         let steps = m.few in
         let more = g.at_most in
         let price = a.price in
@@ -292,11 +292,11 @@ record WaysCode (c : Setting) (f : Code Location) (slots : ℕ) (parts : List Pa
   pub right : (i : ℕ) (b : Block Location) → slice_get f.blocks i ≡ Some b → PartRight parts enter i b
   pub same_slots : c.slots ≡ slots
   pub same_area : c.area ≡ area f
-  pub same_saves : c.layout.saves ≡ (layout f slots true).saves
+  pub same_saves : c.layout.saves ≡ (layout f slots).saves
   pub same_saved : c.saved ≡ saved_registers f
   pub same_result : c.layout.result ≡ f.result
   pub same_leave : c.layout.leave ≡ length f.blocks
-  pub falls : c.layout.falls ≡ (layout f slots true).falls
+  pub falls : c.layout.falls ≡ (layout f slots).falls
   pub level : c.floor ≡ bottom c
   pub reserve : c.reserve ≡ 24
   pub pointer : c.start.registers 2 ≡ c.sp
@@ -508,16 +508,16 @@ comes_in c parts j none same pointer memory clear =
       caller = λ some. absurd (let no : ⊥ = omega (arith, some) in no);
     }
 
-pub performs_bare : (w : World) (at : ℕ) (label global : ℕ → ℕ) (addresses : List ℕ) (f : Code Location) (slots : ℕ) (copies : Bool) (parts : List Part) (first : ℕ)
+pub performs_bare : (w : World) (at : ℕ) (label global : ℕ → ℕ) (addresses : List ℕ) (f : Code Location) (slots : ℕ) (parts : List Part) (first : ℕ)
     → are_ways f parts first ≡ true → IsCode f slots → IsWorld w
     → ((n a : ℕ) → slice_get addresses n ≡ Some a → global n ≡ a) → ((n : ℕ) → global n < 2 ^ 30)
-    → Stand w.memory_map label global (ways_items (layout f slots copies) (saved_registers f) f.params f.blocks parts first) at
+    → Stand w.memory_map label global (ways_items (layout f slots) (saved_registers f) f.params f.blocks parts first) at
     → KeepsFrame w at (frame_bound f slots) (frame_size f slots) (area f) (map (λ d. d.class) f.params) f.result (flat_begin f) (flat_step f addresses)
-performs_bare w at label global addresses f slots copies parts first ways is world globals near stands sp j stack clear log r n goes all s ready =
-    let c : Setting = setting w label global addresses f slots copies sp j.memory s in
-    let y : Layout = layout f slots copies in
+performs_bare w at label global addresses f slots parts first ways is world globals near stands sp j stack clear log r n goes all s ready =
+    let c : Setting = setting w label global addresses f slots sp j.memory s in
+    let y : Layout = layout f slots in
     let rs : List ℕ = saved_registers f in
-    let good : IsSetting c = is_setting w label global addresses f slots copies sp j.room j.memory s is world globals near stack in
+    let good : IsSetting c = is_setting w label global addresses f slots sp j.room j.memory s is world globals near stack in
     let both = and_parts (is_entry_right f parts first) (are_parts_right parts first 0 f.blocks) ways in
     let entry = entry_right f parts first both.0 in
     let entries : List Item = entry_items (bare_layout y) f.params in
@@ -565,7 +565,7 @@ performs_bare w at label global addresses f slots copies parts first ways is wor
     (comes_in c parts j entry.no_area refl ready.stack_pointer ready.memory clear)).from body
     (subst (λ a. StandAt (site c) (entries ++ body) a) (sym ready.place) stands) ready.fixed in
     let few = m.few in
-    let size = entry_size (bare_layout y) f.params (lit< tt) (leb-true (length f.params) 64 is.regular.few_params) is.near in
+    let size = (entry_size (bare_layout y) f.params (lit< tt) (leb-true (length f.params) 64 is.regular.few_params) is.near).few in
     let begins = fronts_begin y rs (framed_items y rs parts f.blocks) parts first 0 f.blocks end (sym (zero-add (length f.blocks))) in
     let in_code = fronts_code c f slots parts first code in
     enter z f in_code j r n (follows z f in_code j r n) 0 (flat_begin f (sp - area f) j) m.steps m.after entry.first

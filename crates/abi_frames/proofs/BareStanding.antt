@@ -11,7 +11,7 @@ use Rattle.abi_frames.specs.declared.layout.Layout.{Layout}
 use Rattle.abi_frames.specs.declared.ways.Front.{Front}
 use Rattle.abi_frames.specs.declared.ways.Front.TheVariants.{Copied, Begin, Nothing}
 use Rattle.abi_frames.specs.declared.ways.Part.{Part}
-use Rattle.abi_frames.specs.Emission.{lines_items, jump_items, block_items}
+use Rattle.abi_frames.specs.Emission.{lines_items, block_items, end_items}
 use Rattle.abi_frames.specs.BareWays.{is_kept_block, bare_layout, fronts_from, front_label, raised, copied_items, begin_items, front_items, front_of, fronts_items, kept_block_items, kept_items}
 use Rattle.operation_code.proofs.Leading.{Site, StandAt}
 use Rattle.abi_frames.proofs.Starting.{stand_after, BlockCode}
@@ -51,7 +51,7 @@ pub record Begins (l : ℕ) (is : List Item) : Type 0 where
 front_begins : (y : Layout) (rs : List ℕ) (itself : List Item) (enter k : ℕ) (b : Block Location) (front : Front) (more : List Item)
     → Begins (front_label y k) (front_items y rs itself enter k b front ++ more)
 front_begins y rs itself enter k b Copied more = record {
-  rest = map (raised (fronts_from y)) (lines_items (bare_layout y) 0 b.lines ++ jump_items (bare_layout y) [] (k + 1) b.jump) ++ more;
+  rest = map (raised (fronts_from y)) (lines_items (bare_layout y) 0 b.lines ++ end_items (bare_layout y) [] k b) ++ more;
   same = refl;
 }
 front_begins y rs itself enter k b Begin more = record { rest = begin_items y rs itself enter k ++ more; same = refl }
@@ -112,7 +112,7 @@ pub copy_stands : (c : Site) (y : Layout) (b : Block Location) (k : ℕ) (rest :
     → BlockCode (lowered c (fronts_from y)) (bare_layout y) [] b k
 copy_stands c y b k rest a stands =
     let n : ℕ = fronts_from y in
-    let body : List Item = lines_items (bare_layout y) 0 b.lines ++ jump_items (bare_layout y) [] (k + 1) b.jump in
+    let body : List Item = lines_items (bare_layout y) 0 b.lines ++ end_items (bare_layout y) [] k b in
     let block : List Item = Label k ∷ body in
     let next : List Item = Label (k + 1) ∷ [] in
     let split : copied_items y k b ++ (Label (front_label y (k + 1)) ∷ rest) ≡ map (raised n) (block ++ next) ++ rest =
@@ -124,7 +124,7 @@ copy_stands c y b k rest a stands =
 -- ---- what stands behind the frame's begin
 
 kept_head : (y : Layout) (rs : List ℕ) (k : ℕ) (b : Block Location) (kept : Bool) (more : List Item) → Begins k (kept_block_items y rs k b kept ++ more)
-kept_head y rs k b true more = record { rest = (lines_items y 0 b.lines ++ jump_items y rs (k + 1) b.jump) ++ more; same = refl }
+kept_head y rs k b true more = record { rest = (lines_items y 0 b.lines ++ end_items y rs k b) ++ more; same = refl }
 kept_head y rs k b false more = record { rest = more; same = refl }
 
 pub kept_begins : (y : Layout) (rs : List ℕ) (parts : List Part) (k : ℕ) (blocks : List (Block Location)) (tail : List Item) → y.leave ≡ k + length blocks
@@ -142,7 +142,7 @@ pub kept_stand : (c : Site) (y : Layout) (rs : List ℕ) (parts : List Part) (k 
     → (i : ℕ) (b : Block Location) → slice_get blocks i ≡ Some b → is_kept_block parts (k + i) ≡ true → BlockCode c y rs b (k + i)
 kept_stand c y rs parts k [] tail a leave stands i b e kept = absurd (let no : ⊥ = cc in no)
 kept_stand c y rs parts k (d ∷ blocks) tail a leave stands zero b e kept =
-    let body : List Item = lines_items y 0 d.lines ++ jump_items y rs (k + 1) d.jump in
+    let body : List Item = lines_items y 0 d.lines ++ end_items y rs k d in
     let more : List Item = kept_items y rs parts (k + 1) blocks in
     let last : List Item = Label y.leave ∷ tail in
     let next = kept_begins y rs parts (k + 1) blocks tail (later leave) in

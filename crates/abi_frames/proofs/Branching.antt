@@ -10,7 +10,12 @@ use Rattle.il_ast.specs.declared.operation.Condition.TheVariants.{Equal, NotEqua
 use Rattle.il_ast.specs.Operations.{holds}
 use Rattle.rv_isa.specs.State.{State}
 use Rattle.rv_isa.specs.Labels.{longest_size}
+use Rattle.rv_isa.specs.declared.ranges.Register.{Register}
+use Rattle.rv_isa.specs.declared.instruction.BranchOp.{BranchOp}
+use Rattle.rv_isa.specs.declared.instruction.BranchOp.TheVariants.{Beq, Bne, Blt, Bge, Bltu, Bgeu}
 use Rattle.rv_isa.specs.declared.labelled.Item.{Item}
+use Rattle.rv_isa.specs.declared.labelled.Item.TheVariants.{Branch}
+use Rattle.operation_code.specs.Fields.{reg}
 use Rattle.rv_isa.specs.Labelled.{Fixed, Stands, Moves}
 use Rattle.vcode.specs.declared.line.Operation.TheVariants.{Compare}
 use Rattle.vcode.proofs.Comparing.{holds_extended}
@@ -56,17 +61,20 @@ when_taken c s UnsignedLessEqual x y l p q fixed at h = subst (Goes c s q l) (le
 when_taken c s UnsignedGreaterEqual x y l p q fixed at h = subst (Goes c s q l) (le_is_not_lt (in_register s y) (in_register s x)) (h s fixed at)
 
 -- whichever branch it is
+pub whichever : (P : Item → Type 0) (on : Condition) (v w l : ℕ) → ((op : BranchOp) (a b : Register) → P (Branch op a b l)) → P (branch_when on v w l)
+whichever P Equal v w l is = is Beq (reg v) (reg w)
+whichever P NotEqual v w l is = is Bne (reg v) (reg w)
+whichever P SignedLess v w l is = is Blt (reg v) (reg w)
+whichever P SignedGreater v w l is = is Blt (reg w) (reg v)
+whichever P SignedLessEqual v w l is = is Bge (reg w) (reg v)
+whichever P SignedGreaterEqual v w l is = is Bge (reg v) (reg w)
+whichever P UnsignedLess v w l is = is Bltu (reg v) (reg w)
+whichever P UnsignedGreater v w l is = is Bltu (reg w) (reg v)
+whichever P UnsignedLessEqual v w l is = is Bgeu (reg w) (reg v)
+whichever P UnsignedGreaterEqual v w l is = is Bgeu (reg v) (reg w)
+
 pub branch_size : (on : Condition) (v w l : ℕ) (is : List Item) → longest_size (branch_when on v w l ∷ is) ≡ 3 + longest_size is
-branch_size Equal v w l is = refl
-branch_size NotEqual v w l is = refl
-branch_size SignedLess v w l is = refl
-branch_size SignedGreater v w l is = refl
-branch_size SignedLessEqual v w l is = refl
-branch_size SignedGreaterEqual v w l is = refl
-branch_size UnsignedLess v w l is = refl
-branch_size UnsignedGreater v w l is = refl
-branch_size UnsignedLessEqual v w l is = refl
-branch_size UnsignedGreaterEqual v w l is = refl
+branch_size on v w l is = whichever (λ i. longest_size (i ∷ is) ≡ 3 + longest_size is) on v w l (λ op a b. refl)
 
 -- words are compared as their extensions
 pub read_holds : (on : Condition) (k : Class) (x y : ℕ) → holds on L (as_read (Compare on k) x) (as_read (Compare on k) y) ≡ holds on k (taken_as k x) (taken_as k y)

@@ -35,7 +35,7 @@ use Rattle.flat_code.specs.Step.{FlatState, Numbers, put, kept, held, number_of,
 use Rattle.abi_frames.specs.Calls.{Ready, passed}
 use Rattle.abi_frames.specs.Performs.{Returns, Stops, KeepsOn, Performs, PerformsAt, ReachStays, AllPerform}
 use Rattle.abi_frames.specs.Layout.{most_in_lines}
-use Rattle.abi_frames.specs.Emission.{prepare_items, call_through, receive_items, lines_items, jump_items}
+use Rattle.abi_frames.specs.Emission.{prepare_items, call_through, receive_items, lines_items, end_items}
 use Rattle.operation_code.proofs.Leading.{StandAt, Reaches, Leads, leads_nowhere, leads_so}
 use Rattle.abi_frames.proofs.Activations.{Setting, IsSetting, site, bottom, operand_in, Framed, operand_known, Assigned, MayWrite, assigned, assigned_output, is_among}
 use Rattle.abi_frames.proofs.Pacing.{few_standing}
@@ -102,10 +102,10 @@ departs : (c : Setting) (f : Code Location) → CodeStands c f → (b : Block Lo
     → (a : At c f b (Call to callee args ∷ lines) fs k u) → (at : ℕ) (xs : List ℕ) (turns room : ℕ) → number_of c.addresses fs.numbers callee ≡ Some at
     → read_all c.addresses fs.numbers args ≡ Some xs → at % 4 ≡ 0
     → Departs c to callee args at (record { turns = turns; room = room; args = xs; memory = fs.memory })
-    ((lines_items c.layout (a.used + 0) lines ++ jump_items c.layout c.saved (fs.block + 1) b.jump) ++ (Label (fs.block + 1) ∷ a.rest)) u
+    ((lines_items c.layout (a.used + 0) lines ++ end_items c.layout c.saved fs.block b) ++ (Label (fs.block + 1) ∷ a.rest)) u
 departs c f is b to callee args lines fs k u a at xs turns room is_at is_xs even =
     let line = call_line c f b to callee args lines fs k u a in
-    let tail : List Item = (lines_items c.layout (a.used + 0) lines ++ jump_items c.layout c.saved (fs.block + 1) b.jump) ++ (Label (fs.block + 1) ∷ a.rest) in
+    let tail : List Item = (lines_items c.layout (a.used + 0) lines ++ end_items c.layout c.saved fs.block b) ++ (Label (fs.block + 1) ∷ a.rest) in
     let jump : List Item = call_through callee in
     let m = (leads_prepared c is.setting u callee args a.framed.pointer line.known line.good line.fits).from (jump ++ (receive_items c.layout to ++ tail))
     (subst (λ l. StandAt (site c) l u.pc) (call_assoc (prepare_items c.layout callee args) jump (receive_items c.layout to) tail)
@@ -135,10 +135,10 @@ departs c f is b to callee args lines fs k u a at xs turns room is_at is_xs even
 resumed : (c : Setting) (f : Code Location) (b : Block Location) (to : Option (Destination Location)) (callee : Operand Location)
     (args : List (Argument Location)) (lines : List (Line Location)) (fs : FlatState) (k : ℕ) (u : State)
     → (a : At c f b (Call to callee args ∷ lines) fs k u) → (at : ℕ) (given : FlatGiven)
-    → (d : Departs c to callee args at given ((lines_items c.layout (a.used + 0) lines ++ jump_items c.layout c.saved (fs.block + 1) b.jump) ++ (Label (fs.block + 1) ∷ a.rest)) u)
+    → (d : Departs c to callee args at given ((lines_items c.layout (a.used + 0) lines ++ end_items c.layout c.saved fs.block b) ++ (Label (fs.block + 1) ∷ a.rest)) u)
     → (wants : Option Class) (before : Spots) (t : Spent) (x : Option ℕ) (now : Spots) → (back : Returns c.world (bottom c) wants before d.v t x now)
     → (numbers : Numbers)
-    → (m : Reaches (site c) (longest_size (receive_items c.layout to)) ((lines_items c.layout (a.used + 0) lines ++ jump_items c.layout c.saved (fs.block + 1) b.jump) ++ (Label (fs.block + 1) ∷ a.rest))
+    → (m : Reaches (site c) (longest_size (receive_items c.layout to)) ((lines_items c.layout (a.used + 0) lines ++ end_items c.layout c.saved fs.block b) ++ (Label (fs.block + 1) ∷ a.rest))
     back.after (λ w. Framed c numbers now w × (w.output ≡ back.after.output)))
     → At c f b lines (record fs { next = fs.next + 1; numbers = numbers; memory = now; spent = both fs.spent t })
     (k + (d.steps + (back.steps + m.steps))) m.after
@@ -213,14 +213,14 @@ address_saved c f is b to callee args lines fs k u a =
 returned : (c : Setting) (f : Code Location) → CodeStands c f → (j : FlatGiven) (r : FlatOutcome) (n : ℕ) → Follows c f j r n
     → (b : Block Location) (to : Option (Destination Location)) (callee : Operand Location) (args : List (Argument Location)) (lines : List (Line Location))
     (fs : FlatState) (k : ℕ) (u : State) → (a : At c f b (Call to callee args ∷ lines) fs k u) → (at : ℕ) (given : FlatGiven)
-    → (d : Departs c to callee args at given ((lines_items c.layout (a.used + 0) lines ++ jump_items c.layout c.saved (fs.block + 1) b.jump) ++ (Label (fs.block + 1) ∷ a.rest)) u)
+    → (d : Departs c to callee args at given ((lines_items c.layout (a.used + 0) lines ++ end_items c.layout c.saved fs.block b) ++ (Label (fs.block + 1) ∷ a.rest)) u)
     → (t : Spent) (x : Option ℕ) (now : Spots) → Returns c.world (bottom c) (option_map (λ (q : Destination Location). q.class) to) fs.memory d.v t x now
     → SameReach fs.memory now → (log : Log)
     → LoggedNext (λ s rest. Logged (step_of c f j) n s rest r) r (resumes fs to (FlatReturned t x now)) log → AllPerform c.world c.floor log
     → Performed c f r
 returned c f is j r n go b None callee args lines fs k u a at given d t x now back stays log goes all =
     let framed = framed_back c is.setting fs.numbers fs.memory now u d.v back.after a.framed d.same back.back stays (address_saved c f is b None callee args lines fs k u a) in
-    let tail : List Item = (lines_items c.layout (a.used + 0) lines ++ jump_items c.layout c.saved (fs.block + 1) b.jump) ++ (Label (fs.block + 1) ∷ a.rest) in
+    let tail : List Item = (lines_items c.layout (a.used + 0) lines ++ end_items c.layout c.saved fs.block b) ++ (Label (fs.block + 1) ∷ a.rest) in
     let m = (leads_nowhere (site c) back.after (λ w. Framed c (kept fs.numbers) now w × (w.output ≡ back.after.output)) (framed, refl)).from tail
     (subst (λ q. StandAt (site c) tail q) (sym back.back.place) d.stands) back.back.fixed in
     go b lines (record fs { next = fs.next + 1; numbers = kept fs.numbers; memory = now; spent = both fs.spent t })
@@ -230,7 +230,7 @@ returned c f is j r n go b (Some q) callee args lines fs k u a at given d t None
     undefined c f (both fs.spent t) r goes.0
 returned c f is j r n go b (Some q) callee args lines fs k u a at given d t (Some v) now back stays log goes all =
     let framed = framed_back c is.setting fs.numbers fs.memory now u d.v back.after a.framed d.same back.back stays (address_saved c f is b (Some q) callee args lines fs k u a) in
-    let tail : List Item = (lines_items c.layout (a.used + 0) lines ++ jump_items c.layout c.saved (fs.block + 1) b.jump) ++ (Label (fs.block + 1) ∷ a.rest) in
+    let tail : List Item = (lines_items c.layout (a.used + 0) lines ++ end_items c.layout c.saved fs.block b) ++ (Label (fs.block + 1) ∷ a.rest) in
     let numbers : Numbers = put q.place (Some (held q.class v)) (kept fs.numbers) in
     let line = call_line c f b (Some q) callee args lines fs k u a in
     let may = may_write c f is b (Call (Some q) callee args) lines fs k u a q.place line.wanted (λ n. refl) in
@@ -291,24 +291,24 @@ kept_on c f b to callee args lines fs k u a at given tail d t there =
 went : (c : Setting) (f : Code Location) → CodeStands c f → (j : FlatGiven) (r : FlatOutcome) (n : ℕ) → Follows c f j r n
     → (b : Block Location) (to : Option (Destination Location)) (callee : Operand Location) (args : List (Argument Location)) (lines : List (Line Location))
     (fs : FlatState) (k : ℕ) (u : State) → (a : At c f b (Call to callee args ∷ lines) fs k u) → (at : ℕ) (given : FlatGiven)
-    → (d : Departs c to callee args at given ((lines_items c.layout (a.used + 0) lines ++ jump_items c.layout c.saved (fs.block + 1) b.jump) ++ (Label (fs.block + 1) ∷ a.rest)) u)
+    → (d : Departs c to callee args at given ((lines_items c.layout (a.used + 0) lines ++ end_items c.layout c.saved fs.block b) ++ (Label (fs.block + 1) ∷ a.rest)) u)
     → (o : FlatOutcome) → Performs c.world (bottom c) (option_map (λ (q : Destination Location). q.class) to) fs.memory d.v o → ReachStays fs.memory o
     → (log : Log) → LoggedNext (λ s rest. Logged (step_of c f j) n s rest r) r (resumes fs to o) log → AllPerform c.world c.floor log
     → Performed c f r
 went c f is j r n go b to callee args lines fs k u a at given d (FlatReturned t x now) there stays log goes all =
     returned c f is j r n go b to callee args lines fs k u a at given d t x now there stays log goes all
 went c f is j r n go b to callee args lines fs k u a at given d (FlatEnded t (Exit m)) there stays log goes all =
-    let tail : List Item = (lines_items c.layout (a.used + 0) lines ++ jump_items c.layout c.saved (fs.block + 1) b.jump) ++ (Label (fs.block + 1) ∷ a.rest) in
+    let tail : List Item = (lines_items c.layout (a.used + 0) lines ++ end_items c.layout c.saved fs.block b) ++ (Label (fs.block + 1) ∷ a.rest) in
     subst (λ o. Performed c f o) goes.0 (stopped c f b to callee args lines fs k u a at given tail d t (Exited m) there)
 went c f is j r n go b to callee args lines fs k u a at given d (FlatEnded t Halted) there stays log goes all =
-    let tail : List Item = (lines_items c.layout (a.used + 0) lines ++ jump_items c.layout c.saved (fs.block + 1) b.jump) ++ (Label (fs.block + 1) ∷ a.rest) in
+    let tail : List Item = (lines_items c.layout (a.used + 0) lines ++ end_items c.layout c.saved fs.block b) ++ (Label (fs.block + 1) ∷ a.rest) in
     subst (λ o. Performed c f o) goes.0 (stopped c f b to callee args lines fs k u a at given tail d t Broken there)
 went c f is j r n go b to callee args lines fs k u a at given d (FlatEnded t Undefined) there stays log goes all =
     subst (λ o. Performed c f o) goes.0 tt
 went c f is j r n go b to callee args lines fs k u a at given d (FlatEnded t Stack) there stays log goes all =
     subst (λ o. Performed c f o) goes.0 tt
 went c f is j r n go b to callee args lines fs k u a at given d (FlatEnded t Turns) there stays log goes all =
-    let tail : List Item = (lines_items c.layout (a.used + 0) lines ++ jump_items c.layout c.saved (fs.block + 1) b.jump) ++ (Label (fs.block + 1) ∷ a.rest) in
+    let tail : List Item = (lines_items c.layout (a.used + 0) lines ++ end_items c.layout c.saved fs.block b) ++ (Label (fs.block + 1) ∷ a.rest) in
     subst (λ o. Performed c f o) goes.0 (kept_on c f b to callee args lines fs k u a at given tail d t there)
 
 -- ---- a call

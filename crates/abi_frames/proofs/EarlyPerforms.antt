@@ -241,7 +241,7 @@ quick_way c f slots j e r log call a m before t same_before turns output goes =
     memory = call.ready.memory
 
     size : longest_size (quick_items c.layout e.value) ≤ 2
-    size = quick_size c.layout e.value (value_short f e early)
+    size = (quick_size c.layout e.value (value_short f e early)).few
 
     -- with a value
     returned : (u : Spent) → u.turns ≤ FUNCTION_WEIGHT → u.output ≡ [] → (x : ReturnValue Location) → e.value ≡ Some (value_origin f.params x)
@@ -433,14 +433,14 @@ by_ways c f slots j e r log call n goes false g false h a = early_way c f slots 
 
 -- ---- the promise
 
-pub performs_early : (w : World) (at : ℕ) (label global : ℕ → ℕ) (addresses : List ℕ) (f : Code Location) (slots : ℕ) (copies : Bool) (e : EarlyReturn) → IsEarly f e → IsCode f slots → IsWorld w
+pub performs_early : (w : World) (at : ℕ) (label global : ℕ → ℕ) (addresses : List ℕ) (f : Code Location) (slots : ℕ) (e : EarlyReturn) → IsEarly f e → IsCode f slots → IsWorld w
     → ((n a : ℕ) → slice_get addresses n ≡ Some a → global n ≡ a) → ((n : ℕ) → global n < 2 ^ 30)
-    → Stand w.memory_map label global (early_items (layout f slots copies) (saved_registers f) f.params f.blocks e) at
+    → Stand w.memory_map label global (early_items (layout f slots) (saved_registers f) f.params f.blocks e) at
     → KeepsFrame w at (frame_bound f slots) (frame_size f slots) (area f) (map (λ d. d.class) f.params) f.result (flat_begin f) (flat_step f addresses)
-performs_early w at label global addresses f slots copies e early is world globals near stands sp j stack clear log r n goes all s ready =
-    let c : Setting = setting w label global addresses f slots copies sp j.memory s in
-    let y : Layout = layout f slots copies in
-    let good : IsSetting c = is_setting w label global addresses f slots copies sp j.room j.memory s is world globals near stack in
+performs_early w at label global addresses f slots e early is world globals near stands sp j stack clear log r n goes all s ready =
+    let c : Setting = setting w label global addresses f slots sp j.memory s in
+    let y : Layout = layout f slots in
+    let good : IsSetting c = is_setting w label global addresses f slots sp j.room j.memory s is world globals near stack in
     let rs : List ℕ = saved_registers f in
     let p_quick : List Item = Label (quick_label y) ∷ quick_items y e.value in
     let p_end : List Item = epilogue y rs ++ p_quick in
@@ -490,7 +490,7 @@ performs_early w at label global addresses f slots copies e early is world globa
       };
       ready = subst (λ a. Ready w a sp (classes f.params) j s) (sym ready.place) ready;
       clear = clear;
-      size = begin_size f slots copies is;
+      size = begin_size f slots is;
       all = all;
       reserve = refl;
       reached = λ i. refl;

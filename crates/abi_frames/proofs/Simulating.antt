@@ -49,7 +49,7 @@ use Rattle.flat_code.specs.Step.{known_number, FlatState, Numbers, put, number_o
 use Rattle.abi_frames.specs.Calls.{ResultIn, passed}
 use Rattle.abi_frames.specs.Performs.{AllPerform}
 use Rattle.abi_frames.specs.Layout.{most_in_lines}
-use Rattle.abi_frames.specs.Emission.{passed_class, line_items, lines_items, jump_items, goto_items, branch_items, result_items, leave_items, epilogue}
+use Rattle.abi_frames.specs.Emission.{passed_class, line_items, lines_items, goto_items, branch_items, result_items, leave_items, epilogue, end_items, left_behind, left_by_value, copies_end}
 use Rattle.operation_code.proofs.Leading.{StandAt, Leads, leads_so, Sets}
 use Rattle.abi_frames.proofs.Addressing.{is_based}
 use Rattle.abi_frames.proofs.Activations.{Setting, site, save_at, operand_in, Framed, operand_known, Assigned, assigned, assigned_output, held_below, held_not_10}
@@ -345,7 +345,7 @@ enter c f is j r n go i fs k u there a new log goes all = by_block (slice_get f.
           ahead = λ q. ap (λ i. slice_get b.lines i) (zero-add q);
           rest = stands.rest;
           used = 0;
-          stands = subst (λ x. StandAt (site c) ((lines_items c.layout 0 b.lines ++ jump_items c.layout c.saved (i + 1) b.jump) ++ (Label (i + 1) ∷ stands.rest)) x) (sym a.place) stands.stands;
+          stands = subst (λ x. StandAt (site c) ((lines_items c.layout 0 b.lines ++ end_items c.layout c.saved i b) ++ (Label (i + 1) ∷ stands.rest)) x) (sym a.place) stands.stands;
           fixed = a.fixed;
           framed = a.framed;
           comes = a.comes;
@@ -394,7 +394,7 @@ end_case c f is fs k w x rest stands a held =
     let left = m.holds in
     let few = m.few in
     let some = m.some in
-    let size = epilogue_size c.layout c.saved is.few_saved in
+    let size = (epilogue_size c.layout c.saved is.few_saved).few in
     let enough = is.setting.enough in
     let price = a.price in
     let pace = a.pace in
@@ -421,11 +421,11 @@ end_case c f is fs k w x rest stands a held =
     }
 
 -- from a jump to the frame's end, or a copy of that
-leave_case : (c : Setting) (f : Code Location) → CodeStands c f → (fs : FlatState) (k : ℕ) (w : State) (x : Option ℕ) (next : ℕ) (rest : List Item)
-    → StandAt (site c) (leave_items c.layout c.saved next ++ (Label next ∷ rest)) w.pc → Landed c w.pc FUNCTION_WEIGHT fs k w → k + 2 + c.reserve ≤ allowed fs
+leave_case : (c : Setting) (f : Code Location) → CodeStands c f → (fs : FlatState) (k : ℕ) (w : State) (x : Option ℕ) (next left : ℕ) (rest : List Item)
+    → StandAt (site c) (leave_items c.layout c.saved next left ++ (Label next ∷ rest)) w.pc → Landed c w.pc FUNCTION_WEIGHT fs k w → k + 2 + c.reserve ≤ allowed fs
     → ((t : State) → t.registers 10 ≡ w.registers 10 → ResultIn f.result x t)
     → Performed c f (FlatReturned fs.spent x (closed fs.memory (c.sp - c.area) (area f)))
-leave_case c f is fs k w x next rest stands a paid held = by_test (c.layout.copies && not (c.layout.falls && nat_eq c.layout.leave next)) stands
+leave_case c f is fs k w x next left rest stands a paid held = by_test (copies_end c.layout c.saved left && not (c.layout.falls && nat_eq c.layout.leave next)) stands
   where
     by_test : (t : Bool) → StandAt (site c) ((if t then epilogue c.layout c.saved else goto_items c.layout next c.layout.leave) ++ (Label next ∷ rest)) w.pc
         → Performed c f (FlatReturned fs.spent x (closed fs.memory (c.sp - c.area) (area f)))
@@ -496,17 +496,18 @@ return_value c f is r y fs k u a q is_q wants v known z so e =
     let value : operand_in c u y.value ≡ v = operand_known c fs.numbers fs.memory u y.value v is.setting a.framed a.known known in
     let leads : Leads (site c) (result_items c.layout c.layout.result y) u (Sets u 10 n) =
     subst (λ o. Leads (site c) (result_items c.layout o y) u (Sets u 10 n)) (sym is_q) (leads_result c is.setting u q y a.framed.pointer a.known) in
-    let m = leads.from (leave_items c.layout c.saved next ++ (Label next ∷ a.rest))
-    (subst (λ l. StandAt (site c) l u.pc) (append_assoc (result_items c.layout c.layout.result y) (leave_items c.layout c.saved next) (Label next ∷ a.rest)) a.stands) a.fixed in
+    let leaves : List Item = leave_items c.layout c.saved next (left_by_value a.left) in
+    let m = leads.from (leaves ++ (Label next ∷ a.rest))
+    (subst (λ l. StandAt (site c) l u.pc) (append_assoc (result_items c.layout c.layout.result y) leaves (Label next ∷ a.rest)) a.stands) a.fixed in
     let holds = with_result u m.after n m.holds in
     let few = m.few in
-    let size = result_size c.layout c.layout.result y in
+    let size = (result_size c.layout c.layout.result y).few in
     let paid = a.paid in
     let price = a.price in
     let bound = few_standing f fs.block in
     let pace = a.pace in
     subst (λ o. Performed c f o) e
-    (leave_case c f is (record fs { numbers = no_numbers }) (k + m.steps) m.after (Some z) next a.rest m.stands
+    (leave_case c f is (record fs { numbers = no_numbers }) (k + m.steps) m.after (Some z) next (left_by_value a.left) a.rest m.stands
     (record {
       place = refl;
       fixed = m.fixed;
@@ -530,7 +531,7 @@ return_nothing c f is r fs k u a e =
     let price = a.price in
     let pace = a.pace in
     subst (λ o. Performed c f o) e
-    (leave_case c f is fs k u None (fs.block + 1) a.rest a.stands
+    (leave_case c f is fs k u None (fs.block + 1) a.left a.rest a.stands
     (record {
       place = refl;
       fixed = a.fixed;
@@ -659,6 +660,7 @@ at_jump c f b fs k u a =
     let pace = a.pace in
     record {
       rest = a.rest;
+      left = left_behind 0 b.lines;
       stands = a.stands;
       fixed = a.fixed;
       framed = a.framed;

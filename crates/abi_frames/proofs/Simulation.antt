@@ -29,7 +29,7 @@ use Rattle.flat_code.specs.Flat.{FlatGiven, FlatAsked, FlatOutcome, FlatEnded, f
 use Rattle.flat_code.specs.Step.{FlatState, FlatEvent, Numbers, flat_step}
 use Rattle.abi_frames.specs.Performs.{Performs, AllPerform}
 use Rattle.abi_frames.specs.Layout.{args_on_stack, most_in_lines, is_register, writes, is_call, falls_through}
-use Rattle.abi_frames.specs.Emission.{line_items, lines_items, jump_items, epilogue}
+use Rattle.abi_frames.specs.Emission.{line_items, lines_items, jump_items, epilogue, end_items}
 use Rattle.rv_isa.specs.declared.labelled.Item.TheVariants.{Label}
 use Rattle.abi_frames.proofs.Pacing.{landing, standing}
 use Rattle.operation_code.proofs.Leading.{StandAt, Reaches, Leads}
@@ -42,7 +42,7 @@ use Rattle.abi_frames.proofs.Sizes.{line_size}
 
 pub record BlockStands (c : Setting) (b : Block Location) (i : ℕ) : Type 0 where
   pub rest : List Item
-  pub stands : StandAt (site c) ((lines_items c.layout 0 b.lines ++ jump_items c.layout c.saved (i + 1) b.jump) ++ (Label (i + 1) ∷ rest)) (c.label i)
+  pub stands : StandAt (site c) ((lines_items c.layout 0 b.lines ++ end_items c.layout c.saved i b) ++ (Label (i + 1) ∷ rest)) (c.label i)
   pub known : list_all (line_keeps (is_place c.slots)) b.lines ≡ true
   pub jump_known : jump_keeps (is_place c.slots) b.jump ≡ true
   pub paid : affords 0 b.jump b.lines ≡ true
@@ -68,7 +68,7 @@ pub record At (c : Setting) (f : Code Location) (b : Block Location) (lines : Li
   pub ahead : (i : ℕ) → slice_get b.lines (fs.next + i) ≡ slice_get lines i
   pub rest : List Item
   pub used : ℕ
-  pub stands : StandAt (site c) ((lines_items c.layout used lines ++ jump_items c.layout c.saved (fs.block + 1) b.jump) ++ (Label (fs.block + 1) ∷ rest)) u.pc
+  pub stands : StandAt (site c) ((lines_items c.layout used lines ++ end_items c.layout c.saved fs.block b) ++ (Label (fs.block + 1) ∷ rest)) u.pc
   pub fixed : Fixed c.world.memory_map u
   pub framed : Framed c fs.numbers fs.memory u
   pub comes : Comes c.start k u
@@ -88,7 +88,8 @@ pub record At (c : Setting) (f : Code Location) (b : Block Location) (lines : Li
 
 pub record AtJump (c : Setting) (f : Code Location) (j : Jump Location) (fs : FlatState) (k : ℕ) (u : State) : Type 0 where
   pub rest : List Item
-  pub stands : StandAt (site c) (jump_items c.layout c.saved (fs.block + 1) j ++ (Label (fs.block + 1) ∷ rest)) u.pc
+  pub left : ℕ
+  pub stands : StandAt (site c) (jump_items c.layout c.saved (fs.block + 1) left j ++ (Label (fs.block + 1) ∷ rest)) u.pc
   pub fixed : Fixed c.world.memory_map u
   pub framed : Framed c fs.numbers fs.memory u
   pub comes : Comes c.start k u
@@ -197,17 +198,17 @@ assoc a b d e = ap (λ l. l ++ e) (append_assoc a b d) ∙ append_assoc a (b ++ 
 pub stands_here : (c : Setting) (f : Code Location) (b : Block Location) (l : Line Location) (lines : List (Line Location)) (fs : FlatState) (k : ℕ) (u : State)
     → (a : At c f b (l ∷ lines) fs k u)
     → StandAt (site c)
-    (line_items c.layout a.used l ++ ((lines_items c.layout (a.used + alloc_bytes l) lines ++ jump_items c.layout c.saved (fs.block + 1) b.jump) ++ (Label (fs.block + 1) ∷ a.rest))) u.pc
+    (line_items c.layout a.used l ++ ((lines_items c.layout (a.used + alloc_bytes l) lines ++ end_items c.layout c.saved fs.block b) ++ (Label (fs.block + 1) ∷ a.rest))) u.pc
 stands_here c f b l lines fs k u a =
     subst (λ is. StandAt (site c) is u.pc)
-    (assoc (line_items c.layout a.used l) (lines_items c.layout (a.used + alloc_bytes l) lines) (jump_items c.layout c.saved (fs.block + 1) b.jump) (Label (fs.block + 1) ∷ a.rest)) a.stands
+    (assoc (line_items c.layout a.used l) (lines_items c.layout (a.used + alloc_bytes l) lines) (end_items c.layout c.saved fs.block b) (Label (fs.block + 1) ∷ a.rest)) a.stands
 
 pub reach : (c : Setting) (f : Code Location) (b : Block Location) (l : Line Location) (lines : List (Line Location)) (fs : FlatState) (k : ℕ) (u : State)
     (P : State → Type 0) → (a : At c f b (l ∷ lines) fs k u) → Leads (site c) (line_items c.layout a.used l) u P
     → Reaches (site c) (longest_size (line_items c.layout a.used l))
-    ((lines_items c.layout (a.used + alloc_bytes l) lines ++ jump_items c.layout c.saved (fs.block + 1) b.jump) ++ (Label (fs.block + 1) ∷ a.rest)) u P
+    ((lines_items c.layout (a.used + alloc_bytes l) lines ++ end_items c.layout c.saved fs.block b) ++ (Label (fs.block + 1) ∷ a.rest)) u P
 reach c f b l lines fs k u P a leads =
-    leads.from ((lines_items c.layout (a.used + alloc_bytes l) lines ++ jump_items c.layout c.saved (fs.block + 1) b.jump) ++ (Label (fs.block + 1) ∷ a.rest)) (stands_here c f b l lines fs k u a) a.fixed
+    leads.from ((lines_items c.layout (a.used + alloc_bytes l) lines ++ end_items c.layout c.saved fs.block b) ++ (Label (fs.block + 1) ∷ a.rest)) (stands_here c f b l lines fs k u a) a.fixed
 
 -- a block of memory is still to be made
 later_alloc : (l : Line Location) (lines : List (Line Location)) → list_any is_alloc lines ≡ true → list_any is_alloc (l ∷ lines) ≡ true
@@ -232,13 +233,13 @@ pub advance : (c : Setting) (f : Code Location) (b : Block Location) (l : Line L
     (numbers : Numbers) (memory : Spots) (used : ℕ) → (a : At c f b (l ∷ lines) fs k u) → turns_of l ≡ 0 → used ≡ fs.used + alloc_bytes l
     → (nat_le (line_cost l) a.credit && affords (a.credit - line_cost l) b.jump lines) ≡ true
     → (m : Reaches (site c) (longest_size (line_items c.layout a.used l))
-    ((lines_items c.layout (a.used + alloc_bytes l) lines ++ jump_items c.layout c.saved (fs.block + 1) b.jump) ++ (Label (fs.block + 1) ∷ a.rest)) u
+    ((lines_items c.layout (a.used + alloc_bytes l) lines ++ end_items c.layout c.saved fs.block b) ++ (Label (fs.block + 1) ∷ a.rest)) u
     (λ w. Framed c numbers memory w × (w.output ≡ u.output)))
     → At c f b lines (record fs { next = fs.next + 1; numbers = numbers; memory = memory; used = used }) (k + m.steps) m.after
 advance c f b l lines fs k u numbers memory used a calm takes pays m =
     let parts = and_parts (nat_le (line_cost l) a.credit) (affords (a.credit - line_cost l) b.jump lines) pays in
     let enough = leb-true (line_cost l) a.credit parts.0 in
-    let size = line_size c.layout a.used l in
+    let size = (line_size c.layout a.used l).few in
     let room = a.room in
     let bytes = sum_by-cons alloc_bytes l lines in
     let few = m.few in

@@ -31,7 +31,7 @@ use Rattle.abi_frames.specs.Layout.{layout, outgoing, saved_registers, frame_siz
 use Rattle.abi_frames.proofs.Saving.{can_save_all, few_saved_registers, AllMayWrite, all_params_may, line_may, call_saves}
 use Rattle.abi_frames.specs.BareWays.{leads}
 use Rattle.abi_frames.specs.declared.layout.Layout.{Layout}
-use Rattle.abi_frames.specs.Emission.{lines_items, jump_items, blocks_items, prologue, epilogue, lower_pointer, save_all}
+use Rattle.abi_frames.specs.Emission.{lines_items, blocks_items, prologue, epilogue, lower_pointer, save_all, end_items}
 use Rattle.abi_frames.specs.Functions.{entry_items, function_items}
 use Rattle.abi_frames.specs.Laws.{IsCode}
 use Rattle.operation_code.proofs.Leading.{Site, StandAt, Leads, leads_then, leads_so, longest-append}
@@ -61,7 +61,7 @@ stand_after c (i ∷ is) js a stands = stand_after c is js stands.0 stands.2
 -- the code of a block, at its label
 pub record BlockCode (c : Site) (y : Layout) (rs : List ℕ) (b : Block Location) (l : ℕ) : Type 0 where
   pub rest : List Item
-  pub stands : StandAt c ((lines_items y 0 b.lines ++ jump_items y rs (l + 1) b.jump) ++ (Label (l + 1) ∷ rest)) (c.label l)
+  pub stands : StandAt c ((lines_items y 0 b.lines ++ end_items y rs l b) ++ (Label (l + 1) ∷ rest)) (c.label l)
 
 -- code that begins with a label
 record Begins (l : ℕ) (is : List Item) : Type 0 where
@@ -73,7 +73,7 @@ begins_next : (y : Layout) (rs : List ℕ) (k : ℕ) (blocks : List (Block Locat
     → Begins k (blocks_items y rs k blocks ++ (Label y.leave ∷ tail))
 begins_next y rs k [] tail e = record { rest = tail; same = ap (λ l. Label l ∷ tail) (let last : y.leave ≡ k = omega (arith, e) in last) }
 begins_next y rs k (b ∷ blocks) tail e = record {
-  rest = ((lines_items y 0 b.lines ++ jump_items y rs (k + 1) b.jump) ++ blocks_items y rs (k + 1) blocks) ++ (Label y.leave ∷ tail);
+  rest = ((lines_items y 0 b.lines ++ end_items y rs k b) ++ blocks_items y rs (k + 1) blocks) ++ (Label y.leave ∷ tail);
   same = refl;
 }
 
@@ -83,7 +83,7 @@ pub blocks_stand : (c : Site) (y : Layout) (rs : List ℕ) (k : ℕ) (blocks : L
 unfolding Stand Stands
 blocks_stand c y rs k [] tail a leave stands i b e = absurd (let no : ⊥ = cc in no)
 blocks_stand c y rs k (d ∷ blocks) tail a leave stands zero b e =
-    let here : List Item = lines_items y 0 d.lines ++ jump_items y rs (k + 1) d.jump in
+    let here : List Item = lines_items y 0 d.lines ++ end_items y rs k d in
     let more : List Item = blocks_items y rs (k + 1) blocks in
     let next = begins_next y rs (k + 1) blocks tail (later leave) in
     let at : stands.0 ≡ c.label k = stands.1.1 ∙ sym stands.1.0 in
@@ -101,7 +101,7 @@ blocks_stand c y rs k (d ∷ blocks) tail a leave stands zero b e =
     later : y.leave ≡ k + suc (length blocks) → y.leave ≡ k + 1 + length blocks
     later h = omega (arith, h)
 blocks_stand c y rs k (d ∷ blocks) tail a leave stands (suc i) b e =
-    let here : List Item = lines_items y 0 d.lines ++ jump_items y rs (k + 1) d.jump in
+    let here : List Item = lines_items y 0 d.lines ++ end_items y rs k d in
     let more : List Item = blocks_items y rs (k + 1) blocks in
     let next = stand_after c here (more ++ (Label y.leave ∷ tail)) stands.0 (subst (λ l. StandAt c l stands.0) (append_assoc here more (Label y.leave ∷ tail)) stands.2) in
     let place : k + 1 + i ≡ k + suc i = omega arith in
@@ -234,14 +234,14 @@ never e = let no : ⊥ = cc in no
 
 -- ---- the promise
 
-abbrev pub setting : World → (label global : ℕ → ℕ) → List ℕ → Code Location → (slots : ℕ) → (copies : Bool) → (sp : ℕ) → Spots → State → Setting
-setting w label global addresses f slots copies sp before s =
+abbrev pub setting : World → (label global : ℕ → ℕ) → List ℕ → Code Location → (slots : ℕ) → (sp : ℕ) → Spots → State → Setting
+setting w label global addresses f slots sp before s =
     record {
       world = w;
       label = label;
       global = global;
       addresses = addresses;
-      layout = layout f slots copies;
+      layout = layout f slots;
       saved = saved_registers f;
       slots = slots;
       area = area f;
@@ -266,10 +266,10 @@ frame_fits f slots is = record {
   fits = let saved = few_saved_registers f in omega (arith, saved);
 }
 
-pub is_setting : (w : World) (label global : ℕ → ℕ) (addresses : List ℕ) (f : Code Location) (slots : ℕ) (copies : Bool) (sp room : ℕ) (before : Spots) (s : State) → IsCode f slots
+pub is_setting : (w : World) (label global : ℕ → ℕ) (addresses : List ℕ) (f : Code Location) (slots : ℕ) (sp room : ℕ) (before : Spots) (s : State) → IsCode f slots
     → IsWorld w → ((n a : ℕ) → slice_get addresses n ≡ Some a → global n ≡ a) → ((n : ℕ) → global n < 2 ^ 30) → GoodStack w sp (frame_bound f slots + room)
-    → IsSetting (setting w label global addresses f slots copies sp before s)
-is_setting w label global addresses f slots copies sp room before s is world globals near stack =
+    → IsSetting (setting w label global addresses f slots sp before s)
+is_setting w label global addresses f slots sp room before s is world globals near stack =
     let frame = frame_fits f slots is in
     let few = frame.few in
     let small = frame.small in
@@ -365,26 +365,26 @@ begins c f slots at j good same same_saved is clear ready =
     leads_entry c good f.params j.args u can is.apart
     (are_passed c 0 f.params j.args (λ i n a e k. ap (argument_in c c.start) (zero-add i) ∙ ready_passes c at (classes f.params) (record j { memory = c.before }) ready i n a e k)) now)
 
-pub begin_size : (f : Code Location) (slots : ℕ) (copies : Bool) → IsCode f slots → longest_size (prologue (layout f slots copies) (saved_registers f) ++ entry_items (layout f slots copies) f.params) ≤ 225
-begin_size f slots copies is =
-    let y : Layout = layout f slots copies in
+pub begin_size : (f : Code Location) (slots : ℕ) → IsCode f slots → longest_size (prologue (layout f slots) (saved_registers f) ++ entry_items (layout f slots) f.params) ≤ 225
+begin_size f slots is =
+    let y : Layout = layout f slots in
     let frame = frame_fits f slots is in
     let few = frame.few in
     let saved = few_saved_registers f in
     let all = longest-append (prologue y (saved_registers f)) (entry_items y f.params) in
-    let one = prologue_size y (saved_registers f) saved in
-    let two = entry_size y f.params (omega (arith, few, saved)) (leb-true (length f.params) 64 is.regular.few_params) is.near in
+    let one = (prologue_size y (saved_registers f) saved).few in
+    let two = (entry_size y f.params (omega (arith, few, saved)) (leb-true (length f.params) 64 is.regular.few_params) is.near).few in
     omega (arith, all, one, two)
 
 -- from the call on
-pub performs : (w : World) (at : ℕ) (label global : ℕ → ℕ) (addresses : List ℕ) (f : Code Location) (slots : ℕ) (copies : Bool) → IsCode f slots → IsWorld w
+pub performs : (w : World) (at : ℕ) (label global : ℕ → ℕ) (addresses : List ℕ) (f : Code Location) (slots : ℕ) → IsCode f slots → IsWorld w
     → ((n a : ℕ) → slice_get addresses n ≡ Some a → global n ≡ a) → ((n : ℕ) → global n < 2 ^ 30)
-    → Stand w.memory_map label global (function_items (layout f slots copies) (saved_registers f) f.params f.blocks) at
+    → Stand w.memory_map label global (function_items (layout f slots) (saved_registers f) f.params f.blocks) at
     → KeepsFrame w at (frame_bound f slots) (frame_size f slots) (area f) (map (λ d. d.class) f.params) f.result (flat_begin f) (flat_step f addresses)
-performs w at label global addresses f slots copies is world globals near stands sp j stack clear log r n goes all s ready =
-    let c : Setting = setting w label global addresses f slots copies sp j.memory s in
-    let y : Layout = layout f slots copies in
-    let good : IsSetting c = is_setting w label global addresses f slots copies sp j.room j.memory s is world globals near stack in
+performs w at label global addresses f slots is world globals near stands sp j stack clear log r n goes all s ready =
+    let c : Setting = setting w label global addresses f slots sp j.memory s in
+    let y : Layout = layout f slots in
+    let good : IsSetting c = is_setting w label global addresses f slots sp j.room j.memory s is world globals near stack in
     let rs : List ℕ = saved_registers f in
     let last : List Item = epilogue y rs in
     let body : List Item = blocks_items y rs 0 f.blocks ++ (Label y.leave ∷ last) in
@@ -414,7 +414,7 @@ performs w at label global addresses f slots copies is world globals near stands
     (subst (λ a. StandAt (site c) (begin ++ body) a) (sym ready.place) (subst (λ is. StandAt (site c) is at) (sym (append_assoc (prologue y rs) (entry_items y f.params) body)) stands))
     ready.fixed in
     let few = m.few in
-    let size = begin_size f slots copies is in
+    let size = begin_size f slots is in
     enter c f code j r n (follows c f code j r n) 0 (flat_begin f (sp - area f) j) m.steps m.after refl
     (record {
       place = first_label (site c) y rs f.blocks last m.after.pc refl m.stands;

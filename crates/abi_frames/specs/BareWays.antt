@@ -123,7 +123,6 @@ bare_layout y =
       result = y.result;
       leave = y.leave;
       falls = y.falls;
-      copies = true;
     }
 
 -- the labels in front of the frame are behind those of the function
@@ -194,10 +193,9 @@ ways_items y rs params blocks parts enter =
     ++ (fronts_items y rs (framed_items y rs parts blocks) parts enter 0 blocks
     ++ (Label (front_label y y.leave) ∷ epilogue (bare_layout y) []))
 
-abbrev pub bare_items : Code Location → (slots : ℕ) → (copies : Bool) → List Part → (enter : ℕ) →
-    List Item
-bare_items f slots copies parts enter =
-    ways_items (layout f slots copies) (saved_registers f) f.params f.blocks parts enter
+abbrev pub bare_items : Code Location → (slots : ℕ) → List Part → (enter : ℕ) → List Item
+bare_items f slots parts enter =
+    ways_items (layout f slots) (saved_registers f) f.params f.blocks parts enter
 
 -- a label for each block and for the frame's end, and as many in front
 abbrev pub bare_labels : (blocks : ℕ) → ℕ

@@ -1,7 +1,7 @@
 -- Functions whose first block tests what was passed, and which return on one of its two ways with
 -- nothing done: the test is done before the frame is made too, and this way with no frame, by what
 -- stands where arguments are passed.
-use Rattle.std.specs.Prelude.{ℕ, ◌+◌, ◌*◌, Bool, true, false, not, ◌&&◌, nat_eq, nat_lt, nat_le, if◌then◌else◌, List, [], ◌∷◌, ◌++◌, length, slice_get, Option, Some, None}
+use Rattle.std.specs.Prelude.{ℕ, ◌+◌, ◌*◌, Bool, true, false, not, ◌&&◌, nat_eq, nat_lt, nat_le, if◌then◌else◌, List, [], ◌∷◌, ◌++◌, slice_get, Option, Some, None}
 use Rattle.std.specs.List.{list_all, sum_by}
 use Rattle.std.specs.Option.{option_map, option_and_then}
 use Rattle.rv_isa.specs.declared.abi.TheConstants.{ZERO, FIRST_ARGUMENT, ARGUMENT_REGISTERS}
@@ -22,12 +22,10 @@ use Rattle.vcode.specs.declared.code.Block.{Block}
 use Rattle.vcode.specs.declared.code.Code.{Code}
 use Rattle.vcode.specs.Named.{is_place, operand_keeps}
 use Rattle.vcode.specs.Places.{same_location}
-use Rattle.rv_isa.specs.Labels.{longest_size}
 use Rattle.vcode.specs.Regular.{turns_of, code_weight}
 use Rattle.abi_frames.specs.declared.layout.Layout.{Layout}
 use Rattle.abi_frames.specs.declared.early.EarlyReturn.{EarlyReturn}
 use Rattle.abi_frames.specs.declared.pace.TheConstants.{EARLY_TURNS}
-use Rattle.abi_frames.specs.declared.price.TheConstants.{COPIED_RESTORES}
 use Rattle.abi_frames.specs.Layout.{layout, saved_registers, frame_size}
 use Rattle.abi_frames.specs.Emission.{result_items, branch_items, go_back}
 use Rattle.abi_frames.specs.Functions.{function_items}
@@ -170,10 +168,9 @@ no_frame y =
       result = y.result;
       leave = y.leave;
       falls = true;
-      copies = false;
     }
 
--- two more labels behind that of the frame's end: of the early return, and of the frame's begin
+-- two more labels behind those of the blocks and of the frame's end: of the early return, and of the frame's begin
 abbrev pub quick_label : Layout → ℕ
 quick_label y = y.leave + 1
 
@@ -206,27 +203,10 @@ abbrev pub items_by : Layout → (saved : List ℕ) → List (Destination Locati
 items_by y rs params blocks None = function_items y rs params blocks
 items_by y rs params blocks (Some e) = early_items y rs params blocks e
 
-abbrev pub items_with : Code Location → (slots : ℕ) → (copies : Bool) → Option EarlyReturn →
-    List Item
-items_with f slots copies o =
-    items_by (layout f slots copies) (saved_registers f) f.params f.blocks o
-
 -- the words that the code may have
 abbrev pub price : Code Location → ℕ
 price f = 32 * code_weight f + 256
 
--- returns have copies of the frame's end where it restores few registers, and where the code with
--- them is within its price
-unfoldable pub copies_end : Code Location → (slots : ℕ) → Option EarlyReturn → Bool
-copies_end f slots o =
-    nat_le (length (saved_registers f)) COPIED_RESTORES
-    && nat_le (longest_size (items_with f slots true o)) (price f)
-
 abbrev pub frame_items : Code Location → (slots : ℕ) → List Item
 frame_items f slots =
-    items_with f slots (copies_end f slots (early_return f slots)) (early_return f slots)
-
--- one label for each block, and one for the frame's end
-abbrev pub labels_with : (blocks : ℕ) → Option EarlyReturn → ℕ
-labels_with n None = n + 1
-labels_with n (Some e) = n + 3
+    items_by (layout f slots) (saved_registers f) f.params f.blocks (early_return f slots)

@@ -1,6 +1,6 @@
 -- The machine code of each line and jump. x2 is the stack pointer; x28 to x30 hold operands and
 -- addresses for a moment.
-use Rattle.std.specs.Prelude.{ℕ, zero, suc, ◌+◌, ◌-◌, ◌*◌, ◌/◌, ◌%◌, ◌^◌, not, ◌&&◌, nat_eq, nat_lt, nat_le, if◌then◌else◌, List, [], ◌∷◌, ◌++◌, length, Option, Some, None}
+use Rattle.std.specs.Prelude.{ℕ, zero, suc, ◌+◌, ◌-◌, ◌*◌, ◌/◌, ◌%◌, ◌^◌, Bool, not, ◌&&◌, nat_eq, nat_lt, nat_le, if◌then◌else◌, List, [], ◌∷◌, ◌++◌, length, Option, Some, None}
 use Rattle.rv_isa.specs.declared.abi.TheConstants.{ZERO, RETURN_ADDRESS, STACK_POINTER, FIRST_ARGUMENT, LAST_ARGUMENT, ARGUMENT_REGISTERS, RESULT, FIRST_SCRATCH, SECOND_SCRATCH, THIRD_SCRATCH}
 use Rattle.il_ast.specs.declared.operation.Class.{Class}
 use Rattle.il_ast.specs.declared.operation.Class.TheVariants.{W, L}
@@ -37,9 +37,10 @@ use Rattle.vcode.specs.declared.line.Jump.{Jump}
 use Rattle.vcode.specs.declared.line.Jump.TheVariants.{Goto, Branch, Return, Halt}
 use Rattle.vcode.specs.declared.code.Block.{Block}
 use Rattle.vcode.specs.Addresses.{low}
-use Rattle.vcode.specs.Cost.{is_immediate}
+use Rattle.vcode.specs.Cost.{is_immediate, line_cost}
 use Rattle.vcode.specs.Regular.{alloc_bytes}
 use Rattle.abi_frames.specs.declared.layout.Layout.{Layout}
+use Rattle.abi_frames.specs.declared.price.TheConstants.{COPIED_RESTORES}
 use Rattle.operation_code.specs.declared.immediate.Form.{Form}
 use Rattle.operation_code.specs.Fields.{reg, add_low, extend, sum_to, load_8, store_8, high, load_to, store_from, store_at, with_name, name_into}
 use Rattle.operation_code.specs.Operations.{operation_items}
@@ -397,28 +398,57 @@ branch_items y next c met otherwise =
     ++ ways_items y next c.condition (compared_source c FIRST_SCRATCH c.left)
     (compared_source c SECOND_SCRATCH c.right) met otherwise)
 
+-- what lines leave of the instructions that are paid for: ticks add to them
+abbrev pub left_by : (credit : ℕ) → Line Location → ℕ
+left_by credit (Tick turn w) = credit + 32 * w
+left_by credit l = credit - line_cost l
+
+abbrev pub left_behind : (credit : ℕ) → List (Line Location) → ℕ
+left_behind credit [] = credit
+left_behind credit (l ∷ lines) = left_behind (left_by credit l) lines
+
+-- at most so many instructions raise the stack pointer, and end a frame
+abbrev pub raise_most : (size : ℕ) → ℕ
+raise_most size = if nat_eq size 0 then 0 else if is_immediate size then 1 else 10
+
+abbrev pub end_most : Layout → (saved : List ℕ) → ℕ
+end_most y rs = length rs + (raise_most y.size + 1)
+
+-- a return has a copy of the frame's end where that restores few registers, and where what is left
+-- pays for it
+abbrev pub copies_end : Layout → (saved : List ℕ) → (left : ℕ) → Bool
+copies_end y rs left = nat_le (length rs) COPIED_RESTORES && nat_le (end_most y rs) left
+
 -- to the frame's end, or a copy of it
-abbrev pub leave_items : Layout → (saved : List ℕ) → (next : ℕ) → List Item
-leave_items y rs next =
-    if y.copies && not (y.falls && nat_eq y.leave next) then epilogue y rs
+abbrev pub leave_items : Layout → (saved : List ℕ) → (next left : ℕ) → List Item
+leave_items y rs next left =
+    if copies_end y rs left && not (y.falls && nat_eq y.leave next) then epilogue y rs
     else goto_items y next y.leave
 
-abbrev pub return_items : Layout → (saved : List ℕ) → (next : ℕ) → Option (ReturnValue Location) →
-    List Item
-return_items y rs next None = leave_items y rs next
-return_items y rs next (Some a) = result_items y y.result a ++ leave_items y rs next
+-- behind the ten instructions that a value takes at most, of which two are left at least
+abbrev pub left_by_value : (left : ℕ) → ℕ
+left_by_value left = 2 + (left - 12)
 
-abbrev pub jump_items : Layout → (saved : List ℕ) → (next : ℕ) → Jump Location → List Item
-jump_items y rs next (Goto k) = goto_items y next k
-jump_items y rs next (Branch on met otherwise) = branch_items y next on met otherwise
-jump_items y rs next (Return a) = return_items y rs next a
-jump_items y rs next Halt = Plain Ebreak ∷ []
+abbrev pub return_items : Layout → (saved : List ℕ) → (next left : ℕ) →
+    Option (ReturnValue Location) → List Item
+return_items y rs next left None = leave_items y rs next left
+return_items y rs next left (Some a) =
+    result_items y y.result a ++ leave_items y rs next (left_by_value left)
+
+abbrev pub jump_items : Layout → (saved : List ℕ) → (next left : ℕ) → Jump Location → List Item
+jump_items y rs next left (Goto k) = goto_items y next k
+jump_items y rs next left (Branch on met otherwise) = branch_items y next on met otherwise
+jump_items y rs next left (Return a) = return_items y rs next left a
+jump_items y rs next left Halt = Plain Ebreak ∷ []
 
 -- ---- blocks
 
 -- behind the k-th block stands the label k + 1: that of the next block, or of the frame's end
+abbrev pub end_items : Layout → (saved : List ℕ) → ℕ → Block Location → List Item
+end_items y rs k b = jump_items y rs (k + 1) (left_behind 0 b.lines) b.jump
+
 abbrev pub block_items : Layout → (saved : List ℕ) → ℕ → Block Location → List Item
-block_items y rs k b = Label k ∷ (lines_items y 0 b.lines ++ jump_items y rs (k + 1) b.jump)
+block_items y rs k b = Label k ∷ (lines_items y 0 b.lines ++ end_items y rs k b)
 
 abbrev pub blocks_items : Layout → (saved : List ℕ) → ℕ → List (Block Location) → List Item
 blocks_items y rs k [] = []

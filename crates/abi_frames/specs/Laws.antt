@@ -1,5 +1,5 @@
 -- What is proved of the code of frames.
-use Rattle.std.specs.Prelude.{ℕ, ◌+◌, ◌*◌, ◌<◌, ◌≤◌, Bool, List, IsTrue, nat_le, length}
+use Rattle.std.specs.Prelude.{ℕ, ◌+◌, ◌*◌, ◌<◌, ◌≤◌, List, IsTrue, nat_le, length}
 use Rattle.il_ast.specs.declared.limits.TheConstants.{FUNCTION_WEIGHT}
 use Rattle.vcode.specs.declared.limits.TheConstants.{PLACES}
 use Rattle.rv_isa.specs.Labels.{IsLabelled, longest_size}
@@ -10,7 +10,7 @@ use Rattle.vcode.specs.Named.{keeps_places, is_place, are_near, are_distinct}
 use Rattle.vcode.specs.Regular.{IsRegular, code_weight}
 use Rattle.abi_frames.specs.Frames.{IsFrameOf}
 use Rattle.abi_frames.specs.declared.ways.Part.{Part}
-use Rattle.abi_frames.specs.EarlyReturns.{early_return, frame_items, price, labels_with}
+use Rattle.abi_frames.specs.EarlyReturns.{frame_items, price}
 use Rattle.abi_frames.specs.BareWays.{are_ways, bare_items, bare_labels}
 
 -- the code of a function, with places as location code has them
@@ -26,11 +26,7 @@ pub record IsCode (f : Code Location) (slots : ℕ) : Type 0 where
 abbrev pub FramesAreLabelled : Type 0
 FramesAreLabelled =
     (f : Code Location) (slots : ℕ) → IsCode f slots
-    → IsLabelled
-    (record {
-      items = frame_items f slots;
-      labels = labels_with (length f.blocks) (early_return f slots);
-    })
+    → IsLabelled (record { items = frame_items f slots; labels = length f.blocks + 3 })
 
 abbrev pub FramesAreSmall : Type 0
 FramesAreSmall =
@@ -47,17 +43,16 @@ FramesPerform =
 
 abbrev pub WaysAreLabelled : Type 0
 WaysAreLabelled =
-    (f : Code Location) (slots : ℕ) (copies : Bool) (parts : List Part) (enter : ℕ) → IsCode f slots
-    → IsTrue (are_ways f parts enter)
-    → longest_size (bare_items f slots copies parts enter) ≤ price f
+    (f : Code Location) (slots : ℕ) (parts : List Part) (enter : ℕ) → IsCode f slots
+    → longest_size (bare_items f slots parts enter) ≤ price f
     → IsLabelled
     (record {
-      items = bare_items f slots copies parts enter;
+      items = bare_items f slots parts enter;
       labels = bare_labels (length f.blocks);
     })
 
 abbrev pub WaysPerform : Type 0
 WaysPerform =
-    (f : Code Location) (slots : ℕ) (copies : Bool) (parts : List Part) (enter : ℕ) → IsCode f slots
+    (f : Code Location) (slots : ℕ) (parts : List Part) (enter : ℕ) → IsCode f slots
     → IsTrue (are_ways f parts enter)
-    → IsFrameOf f slots (bare_items f slots copies parts enter)
+    → IsFrameOf f slots (bare_items f slots parts enter)

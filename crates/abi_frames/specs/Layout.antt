@@ -99,9 +99,8 @@ turns_in f = sum_by (λ b. sum_by turns_of b.lines) f.blocks
 abbrev pub falls_through : Code Location → Bool
 falls_through f = nat_le (turns_in f) TURN_BOUND
 
--- its returns have copies of the frame's end or go to the one behind the last block
-abbrev pub layout : Code Location → (slots : ℕ) → (copies : Bool) → Layout
-layout f slots copies =
+abbrev pub layout : Code Location → (slots : ℕ) → Layout
+layout f slots =
     record {
       saves = saves_offset f;
       slots = slots_offset f;
@@ -110,5 +109,4 @@ layout f slots copies =
       result = f.result;
       leave = length f.blocks;
       falls = falls_through f;
-      copies = copies;
     }

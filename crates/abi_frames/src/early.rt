@@ -339,7 +339,6 @@ fn no_frame(layout: &Layout) -> Layout
         result: layout.result,
         leave: layout.leave,
         falls: true,
-        copies: false,
     }
 }
 

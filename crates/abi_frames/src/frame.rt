@@ -1,13 +1,13 @@
 //! Functions with their frames.
 ghost use Rattle.il_ast.specs.declared.limits.TheConstants.{ALLOC_BYTES};
-ghost use Rattle.std.specs.Prelude.{◌≡◌, ◌+◌, ◌*◌, ◌^◌, ◌<◌, ◌≤◌, IsTrue, [], ◌∷◌, ◌++◌, false, true, length, map, nat_le, OnOk, IfOk, IfSome};
+ghost use Rattle.std.specs.Prelude.{◌≡◌, ◌+◌, ◌*◌, ◌^◌, ◌<◌, ◌≤◌, IsTrue, [], ◌∷◌, ◌++◌, false, true, length, OnOk, IfOk, IfSome};
 ghost use Rattle.rv_isa.specs.Labels.{longest_size};
 ghost use Rattle.std.specs.List.{list_all, sum_by};
 ghost use Rattle.vcode.specs.Regular.{area, alloc_bytes, passes_few, code_weight};
 ghost use Rattle.abi_frames.specs.Layout.{layout, saved_registers, frame_bound};
-ghost use Rattle.abi_frames.specs.Emission.{lines_items, jump_items, epilogue, block_items, blocks_items};
+ghost use Rattle.abi_frames.specs.Emission.{left_behind, lines_items, jump_items, epilogue, block_items, blocks_items};
 ghost use Rattle.abi_frames.specs.Functions.{function_items};
-ghost use Rattle.abi_frames.specs.EarlyReturns.{test_items, quick_items, early_items, items_by, items_with, copies_end, labels_with};
+ghost use Rattle.abi_frames.specs.EarlyReturns.{test_items, quick_items, early_items, items_by};
 ghost use Rattle.rv_isa.specs.declared.labelled.Item.TheVariants.{Label};
 ghost use Rattle.abi_frames.specs.BareWays.{are_ways, bare_items, bare_labels};
 ghost use Rattle.abi_frames.specs.Frames.{IsFrameOf};
@@ -19,7 +19,7 @@ use crate::entry::push_entry;
 use crate::jump::push_jump;
 use crate::layout::Layout;
 use crate::line::push_lines;
-use crate::price::{COPIED_RESTORES, is_within, price};
+use crate::price::{is_within, price};
 use crate::room::{area_of, outgoing_of};
 use crate::saved::saved_registers;
 use crate::turns::falls_through;
@@ -40,10 +40,17 @@ fn push_body(
     requires room { sum_by alloc_bytes block.now.lines ≤ ALLOC_BYTES }
     requires few { IsTrue (list_all passes_few block.now.lines) }
     requires few_saved { length saved.now ≤ 13 }
-    ensures { OnOk result (items.new.items ≡ items.old.items ++ (lines_items layout.now 0 block.now.lines ++ jump_items layout.now saved.now next block.now.jump)) }
+    ensures { OnOk result (items.new.items ≡ items.old.items ++ (lines_items layout.now 0 block.now.lines ++ jump_items layout.now saved.now next (left_behind 0 block.now.lines) block.now.jump)) }
 {
     push_lines(items, layout, block.lines.as_slice())?;
-    push_jump(items, layout, saved, next, &block.jump)
+    push_jump(
+        items,
+        layout,
+        saved,
+        next,
+        block.lines.as_slice(),
+        &block.jump,
+    )
 }
 
 pub(crate) fn push_block(
@@ -184,21 +191,10 @@ fn push_frame(
     }
 }
 
-/// How many labels the code has.
-fn labels(blocks: usize, early: &Option<EarlyReturn>) -> usize
-    requires { blocks < 2 ^ 63 }
-    ensures { result ≡ labels_with blocks early.now }
-{
-    match early {
-        None => blocks + 1,
-        Some(_) => blocks + 3,
-    }
-}
-
 #[tactic(auto, using(crate::proofs::Outgoing::few_outgoing, crate::proofs::Saving::few_saved_registers))]
 fn layout_of(function: &FlatFunc, saved: &[u8]) -> Layout
     requires { saved.now ≡ saved_registers function.now.located.code }
-    ensures value { result ≡ layout function.now.located.code function.now.located.slots false }
+    ensures value { result ≡ layout function.now.located.code function.now.located.slots }
 {
     let code = &function.located.code;
     let area = area_of(code);
@@ -214,7 +210,6 @@ fn layout_of(function: &FlatFunc, saved: &[u8]) -> Layout
         result: function.located.code.result,
         leave: function.located.code.blocks.len(),
         falls: falls_through(code),
-        copies: false,
     }
 }
 
@@ -228,42 +223,7 @@ pub fn frame_bound(function: &FlatFunc) -> u64
     (area_of(code) + 8 * words + 15) / 16 * 16
 }
 
-/// The same layout, with copies of the frame's end in place of jumps to it or not.
-fn layout_with(layout: &Layout, copies: bool) -> Layout
-    ensures { result ≡ record layout.now { copies = copies } }
-{
-    let mut changed = *layout;
-    changed.copies = copies;
-    changed
-}
-
-/// The code of a function, with copies of the frame's end in place of jumps to it or not.
-fn items_with(
-    alloc: Global,
-    function: &FlatFunc,
-    saved: &[u8],
-    shared: &Layout,
-    copies: bool,
-    early: &Option<EarlyReturn>,
-) -> Result<Vec<Item>, AllocError>
-    requires registers { saved.now ≡ saved_registers function.now.located.code }
-    requires plan { shared.now ≡ layout function.now.located.code function.now.located.slots false }
-    requires small { length function.now.located.code.blocks < 2 ^ 63 }
-    ensures { IfOk result (λ v. v.items ≡ items_with function.now.located.code function.now.located.slots copies early.now) }
-{
-    let mut items = Vec::new(alloc);
-    push_frame(
-        &mut items,
-        &layout_with(shared, copies),
-        saved,
-        function.located.code.params.as_slice(),
-        function.located.code.blocks.as_slice(),
-        early,
-    )?;
-    Ok(items)
-}
-
-/// The code of a function, with copies of the frame's end where this is short and they are within the price.
+/// The code of a function, which returns early on one way or on none.
 fn frame_items(
     alloc: Global,
     function: &FlatFunc,
@@ -272,19 +232,20 @@ fn frame_items(
     early: &Option<EarlyReturn>,
 ) -> Result<Vec<Item>, AllocError>
     requires registers { saved.now ≡ saved_registers function.now.located.code }
-    requires plan { shared.now ≡ layout function.now.located.code function.now.located.slots false }
+    requires plan { shared.now ≡ layout function.now.located.code function.now.located.slots }
     requires small { length function.now.located.code.blocks < 2 ^ 63 }
-    ensures { IfOk result (λ v. v.items ≡ items_with function.now.located.code function.now.located.slots (copies_end function.now.located.code function.now.located.slots early.now) early.now) }
+    ensures { IfOk result (λ v. v.items ≡ items_by (layout function.now.located.code function.now.located.slots) (saved_registers function.now.located.code) function.now.located.code.params function.now.located.code.blocks early.now) }
 {
-    if saved.len() > COPIED_RESTORES {
-        return items_with(alloc, function, saved, shared, false, early);
-    }
-    let items = items_with(alloc, function, saved, shared, true, early)?;
-    if is_within(items.as_slice(), price(&function.located.code)) {
-        Ok(items)
-    } else {
-        items_with(alloc, function, saved, shared, false, early)
-    }
+    let mut items = Vec::new(alloc);
+    push_frame(
+        &mut items,
+        shared,
+        saved,
+        function.located.code.params.as_slice(),
+        function.located.code.blocks.as_slice(),
+        early,
+    )?;
+    Ok(items)
 }
 
 /// The code of a function that begins its frame at once, or returns early on one way.
@@ -297,7 +258,7 @@ fn usual_frame(alloc: Global, function: &FlatFunc) -> Result<LabelledCode, Alloc
     let early = early_return(&function.located.code, layout.size);
     let blocks = function.located.code.blocks.as_slice();
     let items = frame_items(alloc, function, saved.as_slice(), &layout, &early)?;
-    Ok(LabelledCode::new(items, labels(blocks.len(), &early)))
+    Ok(LabelledCode::new(items, blocks.len() + 3))
 }
 
 /// The code with ways that need no frame.
@@ -309,9 +270,9 @@ fn bare_items(
     ways: &Ways,
 ) -> Result<Vec<Item>, AllocError>
     requires registers { saved.now ≡ saved_registers function.now.located.code }
-    requires plan { shared.now ≡ layout function.now.located.code function.now.located.slots shared.now.copies }
+    requires plan { shared.now ≡ layout function.now.located.code function.now.located.slots }
     requires small { length function.now.located.code.blocks + 1 < 2 ^ 62 }
-    ensures { IfOk result (λ v. v.items ≡ bare_items function.now.located.code function.now.located.slots shared.now.copies ways.now.parts.items ways.now.enter) }
+    ensures { IfOk result (λ v. v.items ≡ bare_items function.now.located.code function.now.located.slots ways.now.parts.items ways.now.enter) }
 {
     let mut items = Vec::new(alloc);
     push_ways(
@@ -343,7 +304,7 @@ fn bare_within(
     ways: &Ways,
 ) -> Result<Option<LabelledCode>, AllocError>
     requires registers { saved.now ≡ saved_registers function.now.located.code }
-    requires plan { shared.now ≡ layout function.now.located.code function.now.located.slots shared.now.copies }
+    requires plan { shared.now ≡ layout function.now.located.code function.now.located.slots }
     requires right { IsTrue (are_ways function.now.located.code ways.now.parts.items ways.now.enter) }
     ensures promise { IfOk result (λ o. IfSome o (λ c. IsFrameOf function.now.located.code function.now.located.slots c.items)) }
     ensures size { IfOk result (λ o. IfSome o (λ c. longest_size c.items ≤ 32 * code_weight function.now.located.code + 256)) }
@@ -367,7 +328,7 @@ fn bare_by(
     ways: &Ways,
 ) -> Result<Option<LabelledCode>, AllocError>
     requires registers { saved.now ≡ saved_registers function.now.located.code }
-    requires plan { shared.now ≡ layout function.now.located.code function.now.located.slots shared.now.copies }
+    requires plan { shared.now ≡ layout function.now.located.code function.now.located.slots }
     ensures promise { IfOk result (λ o. IfSome o (λ c. IsFrameOf function.now.located.code function.now.located.slots c.items)) }
     ensures size { IfOk result (λ o. IfSome o (λ c. longest_size c.items ≤ 32 * code_weight function.now.located.code + 256)) }
 {
@@ -390,13 +351,7 @@ fn bare_frame(alloc: Global, function: &FlatFunc) -> Result<Option<LabelledCode>
         return Ok(None);
     }
     match choose(alloc, code.blocks.as_slice())? {
-        Some(ways) => bare_by(
-            alloc,
-            function,
-            saved.as_slice(),
-            &layout_with(&shared, saved.len() <= COPIED_RESTORES),
-            &ways,
-        ),
+        Some(ways) => bare_by(alloc, function, saved.as_slice(), &shared, &ways),
         None => Ok(None),
     }
 }

@@ -2,19 +2,21 @@
 ghost use Rattle.std.specs.Prelude.{◌≡◌, ◌^◌, ◌<◌, ◌≤◌, ◌&&◌, nat_eq, ◌++◌, length, OnOk};
 ghost use Rattle.rv_isa.specs.declared.labelled.Item.TheVariants.{Branch};
 ghost use Rattle.operation_code.specs.Fields.{reg};
-ghost use Rattle.abi_frames.specs.Emission.{result_items, goto_items, branch_when, inverted, ways_items, branch_items, leave_items, return_items, jump_items};
+ghost use Rattle.abi_frames.specs.Emission.{result_items, goto_items, branch_when, inverted, ways_items, branch_items, left_behind, raise_most, copies_end, leave_items, left_by_value, return_items, jump_items};
 
 use crate::call::{passed_class, push_value};
 use crate::ends::push_epilogue;
 use crate::layout::Layout;
 use crate::line::{operand_source, push_operand_for};
+use crate::price::{COPIED_RESTORES, left_behind};
 use il_ast::operation::Condition;
+use operation_code::constant::has_12_bits;
 use operation_code::fields::register;
 use rv_isa::abi;
 use rv_isa::instruction::{BranchOp, Instr};
 use rv_isa::labelled::Item;
 use std::alloc::AllocError;
-use vcode::line::{Comparison, Jump, Operation};
+use vcode::line::{Comparison, Jump, Line, Operation};
 use vcode::place::{Location, ReturnValue};
 
 /// Does the label stand next, so that code may fall through to it?
@@ -151,21 +153,51 @@ pub(crate) fn push_result(
     }
 }
 
-/// To the end of the frame, or that end itself.
+/// At most so many instructions raise the stack pointer by the size of a frame.
+fn raise_most(size: u64) -> u128
+    ensures value { result ≡ raise_most size }
+    ensures small { result ≤ 10 }
+{
+    if size == 0 {
+        0
+    } else if has_12_bits(size) {
+        1
+    } else {
+        10
+    }
+}
+
+/// Has a return a copy of the frame's end, where so many instructions are paid for?
+fn copies_end(layout: &Layout, saved: &[u8], left: u128) -> bool
+    requires few { length saved.now ≤ 13 }
+    ensures { result ≡ copies_end layout.now saved.now left }
+{
+    saved.len() <= COPIED_RESTORES && saved.len() as u128 + (raise_most(layout.size) + 1) <= left
+}
+
+/// To the end of the frame, or that end itself where what is left pays for it.
 fn push_leave(
     items: &mut Vec<Item>,
     layout: &Layout,
     saved: &[u8],
     next: usize,
+    left: u128,
 ) -> Result<(), AllocError>
     requires few { length saved.now ≤ 13 }
-    ensures { OnOk result (items.new.items ≡ items.old.items ++ leave_items layout.now saved.now next) }
+    ensures { OnOk result (items.new.items ≡ items.old.items ++ leave_items layout.now saved.now next left) }
 {
-    if layout.copies && !is_next(layout, next, layout.leave) {
+    if copies_end(layout, saved, left) && !is_next(layout, next, layout.leave) {
         push_epilogue(items, layout, saved)
     } else {
         push_goto(items, layout, next, layout.leave)
     }
+}
+
+/// What a value that is returned leaves at least.
+fn left_by_value(left: u128) -> u128
+    ensures { result ≡ left_by_value left }
+{
+    if left < 12 { 2 } else { left - 10 }
 }
 
 fn push_return(
@@ -173,35 +205,41 @@ fn push_return(
     layout: &Layout,
     saved: &[u8],
     next: usize,
+    left: u128,
     value: &Option<ReturnValue<Location>>,
 ) -> Result<(), AllocError>
     requires few { length saved.now ≤ 13 }
-    ensures { OnOk result (items.new.items ≡ items.old.items ++ return_items layout.now saved.now next value.now) }
+    ensures { OnOk result (items.new.items ≡ items.old.items ++ return_items layout.now saved.now next left value.now) }
 {
     match value {
-        None => {}
-        Some(value) => push_result(items, layout, value)?,
+        None => push_leave(items, layout, saved, next, left),
+        Some(value) => {
+            push_result(items, layout, value)?;
+            push_leave(items, layout, saved, next, left_by_value(left))
+        }
     }
-    push_leave(items, layout, saved, next)
 }
 
-/// Puts the code of a jump at the end, before the label `next`.
+/// Puts the code of the jump behind these lines at the end, before the label `next`.
 pub(crate) fn push_jump(
     items: &mut Vec<Item>,
     layout: &Layout,
     saved: &[u8],
     next: usize,
+    lines: &[Line<Location>],
     jump: &Jump<Location>,
 ) -> Result<(), AllocError>
     requires few { length saved.now ≤ 13 }
-    ensures { OnOk result (items.new.items ≡ items.old.items ++ jump_items layout.now saved.now next jump.now) }
+    ensures { OnOk result (items.new.items ≡ items.old.items ++ jump_items layout.now saved.now next (left_behind 0 lines.now) jump.now) }
 {
     match jump {
         Jump::Goto(block) => push_goto(items, layout, next, *block)?,
         Jump::Branch { on, met, otherwise } => {
             push_branch(items, layout, next, on, *met, *otherwise)?
         }
-        Jump::Return(value) => push_return(items, layout, saved, next, value)?,
+        Jump::Return(value) => {
+            push_return(items, layout, saved, next, left_behind(lines), value)?
+        }
         Jump::Halt => items.push(Item::Plain(Instr::Ebreak))?,
     }
     Ok(())

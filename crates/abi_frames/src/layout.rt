@@ -18,6 +18,4 @@ pub struct Layout {
     pub leave: usize,
     /// whether a block may fall into the one behind it
     pub falls: bool,
-    /// whether a return has the frame's end in its place, and goes to none
-    pub copies: bool,
 }

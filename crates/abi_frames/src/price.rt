@@ -1,13 +1,15 @@
 //! Whether code stays within the price of its function.
 ghost use Rattle.il_ast.specs.declared.limits.TheConstants.{FUNCTION_WEIGHT};
-ghost use Rattle.std.specs.Prelude.{◌≡◌, ◌+◌, ◌*◌, ◌≤◌, nat_le};
+ghost use Rattle.std.specs.Prelude.{◌≡◌, ◌+◌, ◌*◌, ◌^◌, ◌<◌, ◌≤◌, nat_le};
 ghost use Rattle.std.specs.List.{sum_by};
 ghost use Rattle.rv_isa.specs.Labels.{longest, longest_size};
 ghost use Rattle.vcode.specs.Regular.{weight_of, code_weight};
+ghost use Rattle.abi_frames.specs.Emission.{left_by, left_behind};
 ghost use Rattle.abi_frames.specs.EarlyReturns.{price};
 
 use rv_isa::labelled::Item;
 use vcode::code::{Block, Code};
+use vcode::cost::line_cost;
 use vcode::line::Line;
 use vcode::place::Location;
 
@@ -57,6 +59,35 @@ pub(crate) fn price(code: &Code<Location>) -> u64
     ensures { result ≡ price code.now }
 {
     32 * blocks_weight(code.blocks.as_slice()) + 256
+}
+
+/// What a line leaves of so many instructions that are paid for.
+fn left_by(credit: u128, line: &Line<Location>) -> u128
+    requires { credit + 2 ^ 37 < 2 ^ 128 }
+    ensures value { result ≡ left_by credit line.now }
+    ensures small { result ≤ credit + 2 ^ 37 }
+{
+    match line {
+        Line::Tick { weight, .. } => credit + 32 * u128::from(*weight),
+        Line::Set { .. }
+        | Line::Operate { .. }
+        | Line::Load { .. }
+        | Line::Store { .. }
+        | Line::Alloc { .. }
+        | Line::Blit { .. }
+        | Line::Call { .. } => credit.saturating_sub(line_cost(line)),
+    }
+}
+
+/// How many instructions the ticks of a block pay for besides its lines.
+pub(crate) fn left_behind(lines: &[Line<Location>]) -> u128
+    ensures { result ≡ left_behind 0 lines.now }
+{
+    let mut left = 0u128;
+    for line in lines {
+        left = left_by(left, line);
+    }
+    left
 }
 
 /// At most so many words an item becomes.

@@ -185,7 +185,6 @@ fn bare_layout(layout: &Layout) -> Layout
         result: layout.result,
         leave: layout.leave,
         falls: layout.falls,
-        copies: true,
     }
 }
 

@@ -125,7 +125,7 @@ pub record Spot (g : Ground) (at : ℕ) (global : ℕ → ℕ) (far places ws : 
   pub whole : ws ≡ words_with far places global f pre items
   pub stand : WordsStand g at ws
 
--- what is asked of labels and registers
+-- what is asked of labels
 pub record Proper (labels : ℕ) (items : List Item) : Type 0 where
   pub below : list_all (has_label_below labels) items ≡ true
   pub once : (l : ℕ) → times_labelled l items ≤ 1

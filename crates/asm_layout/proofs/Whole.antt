@@ -39,28 +39,6 @@ begin c is =
       near = omega arith;
     }
 
--- ---- each label stands once, or not at all
-
-no_label : (n l : ℕ) (i : Item) → n ≤ l → has_label_below n i ≡ true → is_label l i ≡ false
-no_label n l (Plain x) le h = refl
-no_label n l (Label m) le h = grind (arith, nat_tests)
-no_label n l (Branch op rs1 rs2 m) le h = refl
-no_label n l (Goto m) le h = refl
-no_label n l (Relocated r) le h = refl
-
-none_of : (n l : ℕ) (items : List Item) → n ≤ l → list_all (has_label_below n) items ≡ true → times_labelled l items ≡ 0
-none_of n l [] le h = refl
-none_of n l (i ∷ items) le h =
-    let both = and_parts (has_label_below n i) (list_all (has_label_below n) items) h in
-    rw (no_label n l i le both.0, none_of n l items le both.1) refl
-
-one_at_most : (c : LabelledItems) → IsLabelled c → (l : ℕ) → times_labelled l c.items ≤ 1
-one_at_most c is l = by_test (nat_lt l c.labels) refl
-  where
-    by_test : (b : Bool) → nat_lt l c.labels ≡ b → times_labelled l c.items ≤ 1
-    by_test true e = let once = is.once l (grind (arith, nat_tests)) in omega arith
-    by_test false e = let none = none_of c.labels l c.items (grind (arith, nat_tests)) is.labels in omega arith
-
 -- ---- the whole
 
 pub lays_out : (c : LabelledItems) → IsLabelled c → LaysOut c.items (words_of c) (holes_of c)
@@ -74,7 +52,7 @@ lays_out c is g at global stand =
       subst (λ a. Stand g (λ l. at + 4 * slice_index (places_of c) l) global c.items a) here
           (items_stand g at global (far_of c) (places_of c) ws 0 [] (replicate c.labels 0) (replicate c.labels 0) c.labels c.items
           (record { walk = walk; whole = same; stand = stand })
-          (record { below = is.labels; once = one_at_most c is })
+          (record { below = is.labels; once = is.once })
           (length-replicate c.labels 0)),
     )
 

@@ -1,11 +1,11 @@
 -- Labelled code in which an item goes over many instructions.
-use Rattle.std.proofs.Common.{◌≡◌, ℕ, zero, suc, ◌+◌, ◌<◌, ◌≤◌, Bool, true, false, [], ◌∷◌, ◌++◌, refl, ◌∙◌, ap, subst, arith, replicate}
+use Rattle.std.proofs.Common.{◌≡◌, ℕ, zero, suc, ◌+◌, ◌<◌, ◌≤◌, Bool, true, false, [], ◌∷◌, ◌++◌, refl, arith, lit≤, replicate}
 use Rattle.std.specs.Prelude.{slice_set, if◌then◌else◌}
 use Rattle.std.specs.List.{list_all}
 use Rattle.std.proofs.lemmas.Bool.{and_from}
-use Rattle.rv_isa.specs.Labels.{IsLabelled, longest, longest_size, is_label, times_labelled, has_label_below, has_good_registers}
+use Rattle.rv_isa.specs.Labels.{IsLabelled, longest, longest_size, is_label, times_labelled, has_label_below}
 use Rattle.rv_isa.specs.declared.labelled.Item.{Item}
-use Rattle.rv_isa.specs.declared.labelled.Item.TheVariants.{Plain, Label}
+use Rattle.rv_isa.specs.declared.labelled.Item.TheVariants.{Plain, Label, Branch, Goto, Relocated}
 use Rattle.rv_isa.specs.declared.instruction.Instr.{Instr}
 
 -- ---- an item, a run of one instruction, and another item
@@ -26,46 +26,60 @@ times_in l (suc n) i b = let rest = times_in l n i b in omega arith
 record Ends (a b : Item) : Type 0 where
   below_a : has_label_below 1 a ≡ true
   below_b : has_label_below 1 b ≡ true
-  good_a : has_good_registers a ≡ true
-  good_b : has_good_registers b ≡ true
-  once : (if is_label 0 a then 1 else 0) + (if is_label 0 b then 1 else 0) ≡ 1
+  once : (l : ℕ) → (if is_label l a then 1 else 0) + (if is_label l b then 1 else 0) ≤ 1
   some : 0 < longest a + longest b
   few : longest a + longest b < 4
 
-run_is : (a b : Item) (n : ℕ) (i : Instr) → Ends a b → has_good_registers (Plain i) ≡ true → n < 2000000
-    → IsLabelled (record { items = a ∷ replicate n (Plain i) ++ b ∷ []; labels = 1 })
-run_is a b n i e good small =
+run_is : (a b : Item) (n : ℕ) (i : Instr) → Ends a b → n < 2000000 → IsLabelled (record { items = a ∷ replicate n (Plain i) ++ b ∷ []; labels = 1 })
+run_is a b n i e small =
     let sizes = sizes_in n i b in
     let some = e.some in
     let few = e.few in
     record {
       labels = and_from (has_label_below 1 a) (list_all (has_label_below 1) (replicate n (Plain i) ++ b ∷ [])) e.below_a
           (all_in (has_label_below 1) n (Plain i) b refl e.below_b);
-      once = λ l h.
-          let zero_is : 0 ≡ l = omega arith in
-          subst (λ m. times_labelled m (a ∷ replicate n (Plain i) ++ b ∷ []) ≡ 1) zero_is
-          (ap (λ t. (if is_label 0 a then 1 else 0) + t) (times_in 0 n i b) ∙ e.once);
-      registers = and_from (has_good_registers a) (list_all has_good_registers (replicate n (Plain i) ++ b ∷ [])) e.good_a
-          (all_in has_good_registers n (Plain i) b good e.good_b);
+      once = λ l. let times = times_in l n i b in let once = e.once l in omega (arith, times, once);
       not_empty = omega arith;
       near = omega arith;
     }
 
-set_first : (n : ℕ) (i : Instr) (a b : Item) → 0 < n → n < 2000000 → Ends a b → has_good_registers (Plain i) ≡ true
-    → IsLabelled (record { items = slice_set (replicate n (Plain i)) 0 a ++ b ∷ []; labels = 1 })
-set_first zero i a b some few e good = absurd (omega arith)
-set_first (suc n) i a b some few e good = run_is a b n i e good (omega arith)
+set_first : (n : ℕ) (i : Instr) (a b : Item) → 0 < n → n < 2000000 → Ends a b → IsLabelled (record { items = slice_set (replicate n (Plain i)) 0 a ++ b ∷ []; labels = 1 })
+set_first zero i a b some few e = absurd (omega arith)
+set_first (suc n) i a b some few e = run_is a b n i e (omega arith)
 
-pub goes_ahead : (n : ℕ) (i : Instr) (going : Item) → 0 < n → n < 2000000 → has_good_registers (Plain i) ≡ true
-    → has_label_below 1 going ≡ true → has_good_registers going ≡ true → is_label 0 going ≡ false → 0 < longest going → longest going ≤ 3
+-- an item that takes words is no label
+no_label : (i : Item) → 0 < longest i → (l : ℕ) → is_label l i ≡ false
+no_label (Plain i) takes l = refl
+no_label (Label m) takes l = absurd (omega arith)
+no_label (Branch op rs1 rs2 m) takes l = refl
+no_label (Goto m) takes l = refl
+no_label (Relocated r) takes l = refl
+
+one_label : (t s : Bool) → s ≡ false → (if t then 1 else 0) + (if s then 1 else 0) ≤ 1
+one_label true false e = lit≤ tt
+one_label false false e = lit≤ tt
+one_label t true e = absurd (let no : ⊥ = cc in no)
+
+pub goes_ahead : (n : ℕ) (i : Instr) (going : Item) → 0 < n → n < 2000000 → has_label_below 1 going ≡ true → 0 < longest going → longest going ≤ 3
     → IsLabelled (record { items = slice_set (replicate n (Plain i)) 0 going ++ Label 0 ∷ []; labels = 1 })
-goes_ahead n i going some few plain below good none takes short =
+goes_ahead n i going some few below takes short =
     set_first n i going (Label 0) some few
-    (record { below_a = below; below_b = refl; good_a = good; good_b = refl; once = ap (λ (t : Bool). (if t then 1 else 0) + 1) none; some = omega arith; few = omega arith }) plain
+    (record {
+      below_a = below;
+      below_b = refl;
+      once = λ l. let one = one_label (is_label l (Label 0)) (is_label l going) (no_label going takes l) in omega (arith, one);
+      some = omega arith;
+      few = omega arith;
+    })
 
-pub goes_back : (n : ℕ) (i : Instr) (going : Item) → 0 < n → n < 2000000 → has_good_registers (Plain i) ≡ true
-    → has_label_below 1 going ≡ true → has_good_registers going ≡ true → is_label 0 going ≡ false → 0 < longest going → longest going ≤ 3
+pub goes_back : (n : ℕ) (i : Instr) (going : Item) → 0 < n → n < 2000000 → has_label_below 1 going ≡ true → 0 < longest going → longest going ≤ 3
     → IsLabelled (record { items = slice_set (replicate n (Plain i)) 0 (Label 0) ++ going ∷ []; labels = 1 })
-goes_back n i going some few plain below good none takes short =
+goes_back n i going some few below takes short =
     set_first n i (Label 0) going some few
-    (record { below_a = refl; below_b = below; good_a = refl; good_b = good; once = ap (λ (t : Bool). 1 + (if t then 1 else 0)) none; some = omega arith; few = omega arith }) plain
+    (record {
+      below_a = refl;
+      below_b = below;
+      once = λ l. one_label (is_label l (Label 0)) (is_label l going) (no_label going takes l);
+      some = omega arith;
+      few = omega arith;
+    })

@@ -1,7 +1,7 @@
 //! Words at the ends of each form's range, as the GNU assembler gives them, and whole functions.
 
 ghost use Rattle.std.specs.Prelude.{◌≡◌, ◌<◌, ◌≤◌, true, false};
-ghost use Rattle.rv_isa.specs.Labels.{longest, is_label, has_label_below, has_good_registers};
+ghost use Rattle.rv_isa.specs.Labels.{longest, has_label_below};
 
 use crate::same::is_number;
 use asm_layout::layout::layout;
@@ -81,8 +81,6 @@ fn ahead(alloc: Global, going: Item, words: usize) -> Result<LabelledCode, Alloc
     requires some { 0 < words }
     requires few { words < 2_000_000 }
     requires below { has_label_below 1 going ≡ true }
-    requires good { has_good_registers going ≡ true }
-    requires other { is_label 0 going ≡ false }
     requires takes { 0 < longest going }
     requires short { longest going ≤ 3 }
 {
@@ -98,8 +96,6 @@ fn back(alloc: Global, going: Item, words: usize) -> Result<LabelledCode, AllocE
     requires some { 0 < words }
     requires few { words < 2_000_000 }
     requires below { has_label_below 1 going ≡ true }
-    requires good { has_good_registers going ≡ true }
-    requires other { is_label 0 going ≡ false }
     requires takes { 0 < longest going }
     requires short { longest going ≤ 3 }
 {

@@ -13,7 +13,7 @@ use std::marker::Model;
 pub enum Item {
     /// An instruction with known operands.
     Plain(Instr),
-    /// A place that branches and jumps of the function can name, each number once.
+    /// A place that branches and jumps of the function can name, no number twice.
     Label(usize),
     /// A branch to a label, of at most three instructions.
     Branch {
@@ -30,8 +30,8 @@ pub enum Item {
 
 /// The labelled code of a function.
 ///
-/// Its labels are the numbers below a count, and each stands in the code once. No item names x31,
-/// and the longest form of the code has a word at least and fewer than 2^28.
+/// Its labels are numbers below a count, and none stands in the code twice. The longest form of the
+/// code has a word at least and fewer than 2^28.
 #[derive(Drop)]
 pub struct LabelledCode {
     items: Vec<Item>,
@@ -49,7 +49,7 @@ impl Model for LabelledCode {
 }
 
 impl LabelledCode {
-    /// The code of these items, whose labels are the numbers below `labels`.
+    /// The code of these items, whose labels are numbers below `labels`.
     pub fn new(items: Vec<Item>, labels: usize) -> LabelledCode
         requires { IsLabelled (record { items = items.items; labels = labels }) }
         ensures { result ≡ record { items = items.items; labels = labels } }
@@ -65,7 +65,7 @@ impl LabelledCode {
         self.items.as_slice()
     }
 
-    /// How many labels the code has: they are the numbers below.
+    /// The number below which all labels are.
     pub fn labels(&self) -> usize
         ensures value { result ≡ self.now.labels }
         ensures labelled { IsLabelled self.now }

@@ -19,7 +19,7 @@ push_ways-requires-clause-can c = λ i b e.
     let small = c.requires.small in
     let low = slice_get_within l.code.blocks i b here in
     subst (λ (y : Layout). CanStand y i b) (sym c.requires.plan)
-    (can_stand l.code l.slots c.args.shared.now.copies (code_of l) small i b here (omega (arith, low, small)))
+    (can_stand l.code l.slots (code_of l) small i b here (omega (arith, low, small)))
 
 pub push_ways-requires-clause-few_saved : goal.push_ways-requires-clause-few_saved
 push_ways-requires-clause-few_saved c =
@@ -37,7 +37,6 @@ push_ways-requires-clause-all c =
 pub returns : goal.returns
 returns c =
     let l = c.args.function.now.located in
-    let copies = c.args.shared.now.copies in
-    ways_are _ _ c.args.shared.now (layout l.code l.slots copies) c.args.saved.now (saved_registers l.code) c.as_slice.result.now l.code.params c.as_slice-2.result.now l.code.blocks
+    ways_are _ _ c.args.shared.now (layout l.code l.slots) c.args.saved.now (saved_registers l.code) c.as_slice.result.now l.code.params c.as_slice-2.result.now l.code.blocks
     c.as_slice-3.result.now c.args.ways.now.parts.items c.args.ways.now.enter c.in_ok-push_ways.ensures c.new-items.ensures.items c.requires.plan c.requires.registers c.as_slice.ensures
     c.as_slice-2.ensures c.as_slice-3.ensures.value

@@ -1,31 +1,18 @@
-use Rattle.std.proofs.Common.{◌≡◌, ◌<◌, ◌≤◌, ◌∙◌, Bool, true, false, sym, ap, subst, List, ℕ}
-use Rattle.std.specs.Prelude.{nat_le, length, IfOk}
-use Rattle.rv_isa.specs.Labels.{longest_size}
-use Rattle.rv_isa.specs.declared.labelled.Item.{Item}
-use Rattle.abi_frames.specs.EarlyReturns.{items_with, price}
-use Rattle.abi_frames.proofs.Promising.{copies_where, long_end, dear_copies}
+use Rattle.std.proofs.Common.{◌<◌, ◌≤◌, ◌^◌, refl, sym, subst, List, ℕ}
+use Rattle.std.specs.Prelude.{length}
+use Rattle.abi_frames.specs.declared.layout.Layout.{Layout}
+use Rattle.abi_frames.proofs.Joining.{items_are}
+use Rattle.abi_frames.proofs.Saving.{few_saved_registers}
 use Rattle.abi_frames.proofs.frame.frame_items.Goals as goal
 
-pub returns-then-saved-gt-COPIED_RESTORES : goal.returns-then-saved-gt-COPIED_RESTORES
-returns-then-saved-gt-COPIED_RESTORES c =
-    let l = c.args.function.now.located in
-    let long = long_end l.code l.slots c.args.early.now (subst (λ (rs : List ℕ). 4 < length rs) c.requires.registers c.if-saved-gt-COPIED_RESTORES.true) in
-    subst (λ (t : Bool). IfOk c.items_with.result (λ v. v.items ≡ items_with l.code l.slots t c.args.early.now)) (sym long) c.items_with.ensures
+pub push_frame-requires-clause-few_saved : goal.push_frame-requires-clause-few_saved
+push_frame-requires-clause-few_saved c =
+    subst (λ (rs : List ℕ). length rs ≤ 13) (sym c.requires.registers) (few_saved_registers c.args.function.now.located.code)
 
-pub returns-then-is_within : goal.returns-then-is_within
-returns-then-is_within c =
-    let l = c.args.function.now.located in
-    let few = subst (λ (rs : List ℕ). length rs ≤ 4) c.requires.registers c.if-saved-gt-COPIED_RESTORES.false in
-    let test : nat_le (longest_size (items_with l.code l.slots true c.args.early.now)) (price l.code) ≡ true =
-    sym (ap (λ (is : List Item). nat_le (longest_size is) (price l.code)) (c.as_slice.ensures.value ∙ c.in_ok-items.ensures))
-    ∙ (ap (λ (n : ℕ). nat_le (longest_size c.as_slice.result.now) n) (sym c.price.ensures) ∙ (sym c.is_within.ensures ∙ c.if-is_within.true)) in
-    c.in_ok-items.ensures ∙ ap (λ (t : Bool). items_with l.code l.slots t c.args.early.now) (sym (copies_where l.code l.slots c.args.early.now few test))
+pub push_frame-requires-clause-small : goal.push_frame-requires-clause-small
+push_frame-requires-clause-small c = subst (λ (y : Layout). y.leave < 2 ^ 63) (sym c.requires.plan) c.requires.small
 
-pub returns-else-is_within : goal.returns-else-is_within
-returns-else-is_within c =
-    let l = c.args.function.now.located in
-    let test : nat_le (longest_size (items_with l.code l.slots true c.args.early.now)) (price l.code) ≡ false =
-    sym (ap (λ (is : List Item). nat_le (longest_size is) (price l.code)) (c.as_slice.ensures.value ∙ c.in_ok-items.ensures))
-    ∙ (ap (λ (n : ℕ). nat_le (longest_size c.as_slice.result.now) n) (sym c.price.ensures) ∙ (sym c.is_within.ensures ∙ c.if-is_within.false)) in
-    subst (λ (t : Bool). IfOk c.items_with-else-is_within.result (λ v. v.items ≡ items_with l.code l.slots t c.args.early.now))
-    (sym (dear_copies l.code l.slots c.args.early.now test)) c.items_with-else-is_within.ensures
+pub returns : goal.returns
+returns c =
+    items_are _ _ _ _ _ _ _ _ _ _ c.args.early.now c.args.early.now c.in_ok-push_frame.ensures c.new-items.ensures.items c.requires.plan c.requires.registers c.as_slice.ensures c.as_slice-2.ensures
+    refl

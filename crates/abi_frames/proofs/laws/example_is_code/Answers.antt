@@ -1,10 +1,10 @@
 use Rattle.std.proofs.Common.{refl, lit<}
 use Rattle.abi_frames.specs.Layout.{saved_registers}
-use Rattle.abi_frames.specs.EarlyReturns.{early_return, copies_end}
+use Rattle.abi_frames.specs.EarlyReturns.{early_return}
 use Rattle.abi_frames.proofs.laws.example_is_code.Goals as goal
 
 pub returns : goal.returns
-unfolding saved_registers early_return copies_end
+unfolding saved_registers early_return
 returns c = record {
   is_code = record {
     few = lit< tt;
