@@ -2,20 +2,14 @@
 use Rattle.std.proofs.Common.{◌≡◌, ℕ, zero, suc, ◌+◌, ◌-◌, ◌/◌, ◌%◌, ◌^◌, ◌<◌, ◌≤◌, Bool, true, [], ◌∷◌, refl, sym, ◌∙◌, ap, subst, arith, lit<}
 use Rattle.std.specs.Prelude.{nat_le, Ok}
 use Rattle.std.specs.Int.{byte_at}
-use Rattle.std.proofs.lemmas.Bool.{and_from}
-use Rattle.std.proofs.lemmas.Bool.Decides.{nat_tests}
-use Rattle.rv_isa.specs.State.{State}
-use Rattle.rv_isa.specs.Memory.{stored, each_of, allowed, can_write}
-use Rattle.rv_isa.specs.Arithmetic.{moved}
+use Rattle.abi_frames.proofs.Shared.{State, Immediate, StoreOp, and_from, nat_tests, stored, moved, low}
+use Rattle.rv_isa.specs.Memory.{each_of, allowed, can_write}
 use Rattle.rv_isa.specs.Step.{act, store, store_size}
 use Rattle.rv_isa.specs.Labelled.{Ground, Fixed}
-use Rattle.rv_isa.specs.declared.ranges.Immediate.{Immediate}
 use Rattle.rv_isa.specs.declared.permission.Permission.{Permission}
 use Rattle.rv_isa.specs.declared.instruction.Instr.TheVariants.{Store}
-use Rattle.rv_isa.specs.declared.instruction.StoreOp.{StoreOp}
 use Rattle.rv_isa.specs.declared.instruction.StoreOp.TheVariants.{Sb, Sh, Sw, Sd}
 use Rattle.rv_isa.proofs.MemoryLemmas.{updated_here, updated_elsewhere, each_from, stored_avoids}
-use Rattle.vcode.specs.Addresses.{low}
 use Rattle.operation_code.specs.Fields.{reg}
 use Rattle.operation_code.specs.Fields.{store_from, store_at}
 use Rattle.operation_code.proofs.Leading.{Site, Leads, leads_by, IsReg, register_reg, in_register}

@@ -1,27 +1,21 @@
 -- An activation of a function: where its places are, and what holds in each state of its run.
-use Rattle.std.proofs.Common.{◌≡◌, ◌≢◌, ℕ, ◌+◌, ◌-◌, ◌*◌, ◌%◌, ◌^◌, ◌<◌, ◌≤◌, Bool, true, false, List, [], ◌∷◌, refl, sym, ◌∙◌, ap, arith, lit<}
+use Rattle.std.proofs.Common.{zero, suc, ◌≡◌, ◌≢◌, ℕ, ◌+◌, ◌-◌, ◌*◌, ◌%◌, ◌^◌, ◌<◌, ◌≤◌, Bool, true, false, List, [], ◌∷◌, refl, sym, ◌∙◌, ap, arith, lit<}
 use Rattle.std.specs.Prelude.{◌&&◌, ◌||◌, not, length, nat_eq, nat_lt, nat_le, if◌then◌else◌, slice_get, Option, Some, None}
-use Rattle.std.specs.List.{list_all}
-use Rattle.std.proofs.lemmas.Bool.{and_parts, eqb-true, eqb-false}
-use Rattle.std.proofs.lemmas.Bool.Decides.{nat_tests}
-use Rattle.std.proofs.lemmas.Option.{slice_get_within, same_Some}
-use Rattle.rv_isa.specs.State.{State}
-use Rattle.rv_isa.specs.Memory.{number_at, stored}
+use Rattle.abi_frames.proofs.Shared.{State, Location, InRegister, Slot, Operand, At, Number, Name, Layout, list_all, and_parts, eqb-true, eqb-false, slice_get_within, same_Some, not_both, nat_tests, number_at, stored, is_place, operand_keeps}
 use Rattle.rv_isa.specs.Labelled.{Ground}
 use Rattle.rv_isa.proofs.MemoryLemmas.{stored_below, stored_above, read_below, read_above, read_back}
-use Rattle.vcode.specs.declared.place.Location.{Location}
-use Rattle.vcode.specs.declared.place.Location.TheVariants.{Register as InRegister, Slot}
-use Rattle.vcode.specs.declared.place.Operand.{Operand}
-use Rattle.vcode.specs.declared.place.Operand.TheVariants.{At, Number, Name}
-use Rattle.vcode.specs.Named.{is_place, operand_keeps}
 use Rattle.flat_code.specs.Spots.{Spot, NoAccess, ThisByte, Spots}
 use Rattle.flat_code.specs.Step.{Numbers, put, number_of}
 use Rattle.abi_frames.specs.Calls.{World, IsWorld, HoldsSpots, is_kept}
-use Rattle.abi_frames.specs.declared.layout.Layout.{Layout}
 use Rattle.abi_frames.specs.Emission.{slot_offset}
 use Rattle.operation_code.proofs.Leading.{Site, IsReg}
 use Rattle.abi_frames.proofs.StackAccesses.{UsableFrom}
-use Rattle.il_ast.proofs.Truth.{not_both}
+
+pub no_more : (n : ℕ) → n ≡ n + zero
+no_more n = omega arith
+
+pub next_index : (n i : ℕ) → n + 1 + i ≡ n + suc i
+next_index n i = omega arith
 
 -- registers that a frame can save
 abbrev pub can_save : ℕ → Bool
@@ -64,26 +58,33 @@ slot_at c i = bottom c + slot_offset c.layout i
 abbrev pub save_at : Setting → ℕ → ℕ
 save_at c k = bottom c + (c.layout.saves + 8 * k)
 
-pub record IsSetting (c : Setting) : Type 0 where
-  pub world : IsWorld c.world
-  pub globals : (n a : ℕ) → slice_get c.addresses n ≡ Some a → c.global n ≡ a
-  pub near : (n : ℕ) → c.global n < 2 ^ 30
-  pub above : c.world.bottom + c.layout.size ≤ c.sp
-  pub below : c.sp ≤ c.world.top
-  pub fits : c.layout.slots + 8 * c.slots + c.area ≤ c.layout.size
-  pub blocks : c.layout.area + c.area ≡ c.layout.size
-  pub saves_fit : c.layout.saves + 8 * length c.saved ≤ c.layout.slots
-  pub saves_near : c.layout.saves < 1024
-  pub slots_near : c.layout.slots < 1024
-  pub savable : list_all can_save c.saved ≡ true
-  pub small : c.layout.size < 2 ^ 21
-  pub enough : 24 ≤ c.reserve
+-- what is asked of it: of where things are alone, so that it holds whatever the rest is
+pub record Fits (w : World) (global : ℕ → ℕ) (addresses : List ℕ) (y : Layout) (saved : List ℕ) (slots area sp reserve : ℕ) : Type 0 where
+  pub world : IsWorld w
+  pub globals : (n a : ℕ) → slice_get addresses n ≡ Some a → global n ≡ a
+  pub near : (n : ℕ) → global n < 2 ^ 30
+  pub above : w.bottom + y.size ≤ sp
+  pub below : sp ≤ w.top
+  pub fits : y.slots + 8 * slots + area ≤ y.size
+  pub blocks : y.area + area ≡ y.size
+  pub saves_fit : y.saves + 8 * length saved ≤ y.slots
+  pub saves_near : y.saves < 1024
+  pub slots_near : y.slots < 1024
+  pub savable : list_all can_save saved ≡ true
+  pub small : y.size < 2 ^ 21
+  pub enough : 24 ≤ reserve
+
+abbrev pub IsSetting : Setting → Type 0
+IsSetting c = Fits c.world c.global c.addresses c.layout c.saved c.slots c.area c.sp c.reserve
 
 -- ---- places
 
+abbrev pub value_in : (sp : ℕ) → Layout → State → Location → ℕ
+value_in sp y u (InRegister r) = u.registers r
+value_in sp y u (Slot i) = number_at u.bytes (sp - y.size + slot_offset y i) 8
+
 abbrev pub value_at : Setting → State → Location → ℕ
-value_at c u (InRegister r) = u.registers r
-value_at c u (Slot i) = number_at u.bytes (slot_at c i) 8
+value_at c u p = value_in c.sp c.layout u p
 
 abbrev pub operand_in : Setting → State → Operand Location → ℕ
 operand_in c u (At p) = value_at c u p
@@ -136,16 +137,19 @@ slot_in_frame c is i h = let fits = is.fits in in_frame c is (slot_offset c.layo
 abbrev pub is_held : ℕ → Bool
 is_held n = is_kept n || nat_eq n 1
 
-pub record Framed (c : Setting) (numbers : Numbers) (memory : Spots) (u : State) : Type 0 where
-  pub pointer : u.registers 2 ≡ bottom c
-  pub places : (p : Location) (v : ℕ) → is_place c.slots p ≡ true → numbers p ≡ Some v → value_at c u p ≡ v
-  pub spots : HoldsSpots c.world.memory_map memory u
-  pub clear : (x : ℕ) → c.world.bottom ≤ x → x < c.sp - c.area → memory x ≡ NoAccess
-  pub reach : (x : ℕ) → c.sp ≤ x → c.before x ≡ NoAccess → memory x ≡ NoAccess
-  pub saved : (k r : ℕ) → slice_get c.saved k ≡ Some r → number_at u.bytes (save_at c k) 8 ≡ c.start.registers r
-  pub thread : (n : ℕ) → is_held n ≡ true → n ≢ 2 → is_among n c.saved ≡ false → u.registers n ≡ c.start.registers n
-  pub others : (x : ℕ) → c.sp ≤ x → c.before x ≡ NoAccess → u.bytes x ≡ c.start.bytes x
-  pub unset : (i : ℕ) → c.slots ≤ i → numbers (Slot i) ≡ None
+pub record Holds (w : World) (y : Layout) (rs : List ℕ) (slots area sp : ℕ) (before : Spots) (start : State) (numbers : Numbers) (memory : Spots) (u : State) : Type 0 where
+  pub pointer : u.registers 2 ≡ sp - y.size
+  pub places : (p : Location) (v : ℕ) → is_place slots p ≡ true → numbers p ≡ Some v → value_in sp y u p ≡ v
+  pub spots : HoldsSpots w.memory_map memory u
+  pub clear : (x : ℕ) → w.bottom ≤ x → x < sp - area → memory x ≡ NoAccess
+  pub reach : (x : ℕ) → sp ≤ x → before x ≡ NoAccess → memory x ≡ NoAccess
+  pub saved : (k r : ℕ) → slice_get rs k ≡ Some r → number_at u.bytes (sp - y.size + (y.saves + 8 * k)) 8 ≡ start.registers r
+  pub thread : (n : ℕ) → is_held n ≡ true → n ≢ 2 → is_among n rs ≡ false → u.registers n ≡ start.registers n
+  pub others : (x : ℕ) → sp ≤ x → before x ≡ NoAccess → u.bytes x ≡ start.bytes x
+  pub unset : (i : ℕ) → slots ≤ i → numbers (Slot i) ≡ None
+
+abbrev pub Framed : Setting → Numbers → Spots → State → Type 0
+Framed c numbers memory u = Holds c.world c.layout c.saved c.slots c.area c.sp c.before c.start numbers memory u
 
 pub operand_known : (c : Setting) (numbers : Numbers) (memory : Spots) (u : State) (a : Operand Location) (v : ℕ) → IsSetting c
     → Framed c numbers memory u → operand_keeps (is_place c.slots) a ≡ true → number_of c.addresses numbers a ≡ Some v → operand_in c u a ≡ v
@@ -209,7 +213,7 @@ register_place c numbers memory s u r v o framed h value (InRegister n) x good k
 register_place c numbers memory s u r v o framed h value (Slot i) x good known =
     ap (λ (m : ℕ → ℕ). number_at m (slot_at c i) 8) h.bytes ∙ framed.places (Slot i) x good known
 
-spots_same : (g : Ground) (f : Spots) (s u : State) → u.bytes ≡ s.bytes → HoldsSpots g f s → HoldsSpots g f u
+pub spots_same : (g : Ground) (f : Spots) (s u : State) → u.bytes ≡ s.bytes → HoldsSpots g f s → HoldsSpots g f u
 spots_same g f s u e h = record { known = λ x n k. ap (λ (m : ℕ → ℕ). m x) e ∙ h.known x n k; usable = h.usable }
 
 register_assigned : (c : Setting) (numbers : Numbers) (memory : Spots) (s u : State) (r v : ℕ) (o : Option ℕ) → Framed c numbers memory s → IsPlace r → MayWrite c.saved (InRegister r)
@@ -230,8 +234,8 @@ register_assigned c numbers memory s u r v o framed is may h value =
 
 -- a slot is written
 
-byte_has_access : (m n : Spot) (k : ℕ) → m ≡ ThisByte k → m ≡ NoAccess → ⊥
-byte_has_access m n k e f = let no : ⊥ = cc in no
+pub byte_has_access : (m : Spot) (n : ℕ) → m ≡ ThisByte n → m ≡ NoAccess → ⊥
+byte_has_access m n e f = let no : ⊥ = cc in no
 
 slot_spots : (c : Setting) → IsSetting c → (numbers : Numbers) (memory : Spots) (s u : State) (i v : ℕ) → i < c.slots → Framed c numbers memory s
     → OnStack s (slot_at c i) v u → (x n : ℕ) → memory x ≡ ThisByte n → u.bytes x ≡ n
@@ -248,7 +252,7 @@ slot_spots c is numbers memory s u i v few framed h x n known = by_test (nat_lt 
         let to : x < slot_at c i + 8 = grind (arith, nat_tests) in
         let fits = is.fits in
         let above = is.above in
-        absurd (byte_has_access (memory x) NoAccess n known (framed.clear x (omega (arith, from, above)) (omega (arith, to, fits, above, few))))
+        absurd (byte_has_access (memory x) n known (framed.clear x (omega (arith, from, above)) (omega (arith, to, fits, above, few))))
 
 slot_place : (c : Setting) (numbers : Numbers) (memory : Spots) (s u : State) (i v : ℕ) (o : Option ℕ) → v < 2 ^ 64 → Framed c numbers memory s
     → OnStack s (slot_at c i) v u → ((x : ℕ) → o ≡ Some x → v ≡ x)

@@ -1,21 +1,14 @@
 -- Where an address leads, by what its base holds.
 use Rattle.std.proofs.Common.{◌≡◌, ℕ, ◌+◌, ◌%◌, ◌^◌, ◌<◌, Bool, true, false, Option, Some, None, refl, ◌∙◌, ap, arith}
 use Rattle.std.specs.Prelude.{nat_eq, if◌then◌else◌}
-use Rattle.std.proofs.lemmas.Bool.Decides.{nat_tests}
-use Rattle.rv_isa.specs.State.{State}
-use Rattle.rv_isa.specs.Arithmetic.{moved}
+use Rattle.abi_frames.proofs.Shared.{State, Location, Operand, Immediate, same_Some, nat_tests, moved, is_place, operand_keeps}
 use Rattle.rv_isa.specs.declared.instruction.RegOp.TheVariants.{Add}
-use Rattle.vcode.specs.declared.place.Location.{Location}
-use Rattle.vcode.specs.declared.place.Operand.{Operand}
 use Rattle.vcode.specs.declared.place.Address.{Address}
-use Rattle.rv_isa.specs.declared.ranges.Immediate.{Immediate}
 use Rattle.vcode.specs.declared.line.Operation.TheVariants.{Reg}
 use Rattle.vcode.specs.Addresses.{distance}
-use Rattle.vcode.specs.Named.{is_place, operand_keeps}
 use Rattle.flat_code.specs.Spots.{Spots}
 use Rattle.flat_code.specs.Step.{Numbers, number_of, computed, operated, address_of}
 use Rattle.abi_frames.proofs.Activations.{Setting, IsSetting, operand_in, Framed, operand_known}
-use Rattle.std.proofs.lemmas.Option.{same_Some}
 
 -- the offset from the operand leads to p
 abbrev pub IsBeyond : Setting → State → Operand Location → Immediate → ℕ → Type 0

@@ -1,36 +1,26 @@
 -- What the moves up do: whatever an argument is passed as, it still is from where it then stands, and none stands in the register of an earlier one.
 use Rattle.std.proofs.Common.{nat_le, ◌≡◌, ◌≢◌, ℕ, zero, suc, ◌+◌, ◌<◌, ◌≤◌, Bool, true, false, List, [], ◌∷◌, refl, sym, ◌∙◌, ap, arith, lit<, zero-add}
 use Rattle.std.specs.Prelude.{◌&&◌, ◌||◌, nat_eq, nat_lt, if◌then◌else◌, map, length, slice_get, Option, Some, None}
-use Rattle.std.specs.Option.{option_map}
-use Rattle.std.specs.List.{list_all}
-use Rattle.std.proofs.lemmas.Bool.{and_parts, and_from, eqb-true, eqb-false, or_parts}
-use Rattle.std.proofs.lemmas.Bool.Decides.{nat_tests}
-use Rattle.std.proofs.lemmas.Option.{slice_get-map, slice_get_within, same_Some, none-some}
-use Rattle.rv_isa.specs.State.{State}
-use Rattle.vcode.specs.declared.place.Location.{Location}
-use Rattle.vcode.specs.declared.place.Location.TheVariants.{Register as InRegister, Slot}
-use Rattle.vcode.specs.declared.place.Operand.{Operand}
-use Rattle.vcode.specs.declared.place.Operand.TheVariants.{At, Number, Name}
-use Rattle.vcode.specs.declared.place.Argument.{Argument}
-use Rattle.vcode.specs.Named.{is_place, operand_keeps}
+use Rattle.std.proofs.lemmas.Option.{slice_get-map}
+use Rattle.abi_frames.proofs.Shared.{State, Location, InRegister, Slot, Operand, At, Number, Name, Argument, option_map, list_all, and_parts, and_from, eqb-true, eqb-false, or_parts, both_ways, slice_get_within, same_Some, none-some, nat_tests, is_place, operand_keeps}
 use Rattle.flat_code.specs.Step.{taken}
 use Rattle.abi_frames.specs.Calls.{passed}
 use Rattle.operation_code.specs.Fields.{add_low}
 use Rattle.abi_frames.specs.Moves.{exchanged, operand_exchanged, argument_exchanged, exchange, is_in, is_read, settled, arrived, earlier, earlier_in, earlier_at, move_up, moves_up, moved_up, all_move_up, all_moved_up}
-use Rattle.abi_frames.specs.Emission.{passed_class, register_all, passed_items}
+use Rattle.abi_frames.specs.Emission.{passed_class, passed_items}
 use Rattle.operation_code.proofs.ConstantNumbers.{near_moves}
-use Rattle.operation_code.proofs.Leading.{Site, Leads, leads_nowhere, leads_then, leads_so, leads_fixed, Sets, IsReg, register_reg}
+use Rattle.operation_code.proofs.Leading.{Site, Leads, leads_nowhere, Sets, IsReg, register_reg}
+use Rattle.abi_frames.proofs.Leads.{leads_on, leads_as, leads_where}
 use Rattle.operation_code.proofs.Instructions.{leads_add_low}
 use Rattle.abi_frames.proofs.Activations.{Setting, IsSetting, site, bottom, value_at, operand_in, place_is}
-use Rattle.abi_frames.proofs.Passing.{sent, in_place, is_behind, InOrder, Registered, leads_registers}
+use Rattle.abi_frames.proofs.Passing.{sent, in_place, is_behind, InOrder, leads_registers}
 use Rattle.il_ast.proofs.Wrapping.{same_low}
 
 -- ---- one move
 
 pub leads_copy : (c : Site) (s : State) (d a : ℕ) → IsReg d → IsReg a → Leads c (add_low d a 0 ∷ []) s (Sets s d (s.registers a))
 leads_copy c s d a is is_a =
-    leads_fixed c (add_low d a 0 ∷ []) s (Sets s d (s.registers a))
-    (λ fixed.
+    leads_where (λ fixed.
     leads_add_low c s d a 0 (s.registers a) (s.registers a) is (register_reg s a is_a)
     (near_moves (s.registers a) 0 (lit< tt) ∙ same_low (s.registers a) (fixed.words a)))
 
@@ -59,14 +49,11 @@ leads_move_up : (c : Site) (s : State) (k r : ℕ) → k < 8 → 10 ≤ r → r 
 leads_move_up c s k r few lo hi =
     let to : IsReg (10 + k) = record { some = omega arith; small = omega (arith, few) } in
     let from : IsReg r = record { some = omega (arith, lo); small = omega (arith, hi, few) } in
-    leads_then c (add_low 29 (10 + k) 0 ∷ []) (add_low (10 + k) r 0 ∷ add_low r 29 0 ∷ []) s (Sets s 29 (s.registers (10 + k))) (Exchanged s (10 + k) r)
-    (leads_copy c s 29 (10 + k) is_29 to)
+    leads_on (leads_copy c s 29 (10 + k) is_29 to)
     (λ t f one.
-    leads_then c (add_low (10 + k) r 0 ∷ []) (add_low r 29 0 ∷ []) t (Sets t (10 + k) (t.registers r)) (Exchanged s (10 + k) r)
-    (leads_copy c t (10 + k) r to from)
+    leads_on (leads_copy c t (10 + k) r to from)
     (λ u g two.
-    leads_so c (add_low r 29 0 ∷ []) u (Sets u r (u.registers 29)) (Exchanged s (10 + k) r)
-    (leads_copy c u r 29 from is_29)
+    leads_as (leads_copy c u r 29 from is_29)
     (λ w h three.
     changed s t u w (10 + k) r (λ e. absurd (omega (arith, e, few))) (λ e. absurd (omega (arith, e, hi, few))) (λ e. absurd (omega (arith, e, hi))) one two three)))
 
@@ -101,10 +88,7 @@ arguments_moved c s u a b (x ∷ args) h good =
 
 -- one argument comes to its register, which no one reads
 operand_unread : (c : Setting) (s u : State) (to v : ℕ) (x : Operand Location) → Sets s to v u → is_in to x ≡ false → operand_in c u x ≡ operand_in c s x
-operand_unread c s u to v (At (InRegister r)) h unread = h.others r (λ e. absurd (two_ways (nat_eq to r) unread (eq_self r to e)))
-  where
-    two_ways : (b : Bool) → b ≡ false → b ≡ true → ⊥
-    two_ways b e d = let no : ⊥ = cc in no
+operand_unread c s u to v (At (InRegister r)) h unread = h.others r (λ e. absurd (both_ways (nat_eq to r) unread (eq_self r to e)))
 operand_unread c s u to v (At (Slot i)) h unread = ap (λ (m : ℕ → ℕ). value_at c (record s { bytes = m }) (Slot i)) h.bytes
 operand_unread c s u to v (Number n) h unread = refl
 operand_unread c s u to v (Name g) h unread = refl
@@ -411,8 +395,7 @@ leads_exchange c s k args r it good =
     let few = it.few in
     let from = it.from in
     let below = it.below in
-    leads_so (site c) (move_up k r true) s (Exchanged s (10 + k) r) (Arranged c s args (exchange (10 + k) r args))
-    (leads_move_up (site c) s k r few from below)
+    leads_as (leads_move_up (site c) s k r few from below)
     (λ u f h. record {
       same = arguments_moved c s u (10 + k) r args h good;
       low = λ n lo. h.others n (λ g. absurd (omega (arith, g, lo))) (λ g. absurd (omega (arith, g, lo, from))) (λ g. absurd (omega (arith, g, lo)));
@@ -429,8 +412,7 @@ leads_settled c s k args r it unread =
     let hi = it.below in
     let to : IsReg (10 + k) = record { some = omega arith; small = omega (arith, few) } in
     let from : IsReg r = record { some = omega (arith, lo); small = omega (arith, hi, few) } in
-    leads_so (site c) (add_low (10 + k) r 0 ∷ []) s (Sets s (10 + k) (s.registers r)) (Arranged c s args (settled (10 + k) k args))
-    (leads_copy (site c) s (10 + k) r to from)
+    leads_as (leads_copy (site c) s (10 + k) r to from)
     (λ u f h. record {
       same = arguments_settled c s u (10 + k) r k args it.argument h unread it.is it.there;
       low = λ n low. h.others n (λ g. absurd (omega (arith, g, low)));
@@ -461,11 +443,9 @@ leads_all c s zero args good =
 leads_all c s (suc k) args good =
     let o : Option ℕ = earlier_at k args in
     let now : List (Argument Location) = moved_up k args o in
-    leads_then (site c) (moves_up k args o) (all_move_up k now) s (Arranged c s args now) (Arranged c s args (all_moved_up k now))
-    (leads_one c s k args o refl good)
+    leads_on (leads_one c s k args o refl good)
     (λ u f one.
-    leads_so (site c) (all_move_up k now) u (Arranged c u now (all_moved_up k now)) (Arranged c s args (all_moved_up k now))
-    (leads_all c u k now (one_stands c.slots k args o refl good))
+    leads_as (leads_all c u k now (one_stands c.slots k args o refl good))
     (λ w g two. record {
       same = two.same ∙ one.same;
       low = λ n lo. two.low n lo ∙ one.low n lo;
@@ -504,11 +484,9 @@ pub leads_passed : (c : Setting) → IsSetting c → (s : State) (args : List (A
     → list_all (in_place c.slots) args ≡ true → Leads (site c) (passed_items c.layout args) s (InRegisters c s args)
 leads_passed c is s args pointer good =
     let now : List (Argument Location) = all_moved_up (length args) args in
-    leads_then (site c) (all_move_up (length args) args) (register_all c.layout 0 now) s (Arranged c s args now) (InRegisters c s args)
-    (leads_all c s (length args) args good)
+    leads_on (leads_all c s (length args) args good)
     (λ u f one.
-    leads_so (site c) (register_all c.layout 0 now) u (Registered c u 0 now) (InRegisters c s args)
-    (leads_registers c is u 0 now (one.low 2 (lit< tt) ∙ pointer) (all_stand c.slots (length args) args good) (in_order args))
+    leads_as (leads_registers c is u 0 now (one.low 2 (lit< tt) ∙ pointer) (all_stand c.slots (length args) args good) (in_order args))
     (λ w g two. record {
       in_registers = λ i a few e.
           let there = stands_now c s u args now i a one.same e in

@@ -1,60 +1,18 @@
 -- What the tests of ways without a frame say.
 use Rattle.std.proofs.Common.{◌≡◌, ℕ, zero, suc, ◌+◌, ◌≤◌, Bool, true, false, List, [], ◌∷◌, refl, sym, ◌∙◌, ap, subst, arith}
 use Rattle.std.specs.Prelude.{not, ◌&&◌, ◌||◌, max, nat_eq, nat_lt, nat_le, length, slice_get, Option, Some, None}
-use Rattle.std.specs.List.{list_all, list_any}
-use Rattle.std.proofs.lemmas.Bool.{and_parts, not-true}
-use Rattle.std.proofs.lemmas.Bool.Decides.{nat_tests}
-use Rattle.vcode.specs.declared.place.Location.{Location}
-use Rattle.vcode.specs.declared.place.Location.TheVariants.{Register as InRegister, Slot}
-use Rattle.vcode.specs.declared.place.Destination.{Destination}
-use Rattle.vcode.specs.declared.line.Line.{Line}
+use Rattle.abi_frames.proofs.Shared.{Location, InRegister, Slot, Destination, Line, Block, Code, Part, list_all, list_any, and_parts, not-true, and_from, eqb-true, same_Some, all_at, not_both, nat_tests, is_place, line_keeps, jump_keeps}
 use Rattle.vcode.specs.declared.line.Line.TheVariants.{Tick, Set, Operate, Load, Store, Alloc, Blit, Call}
-use Rattle.vcode.specs.declared.code.Block.{Block}
-use Rattle.vcode.specs.declared.code.Code.{Code}
-use Rattle.vcode.specs.Named.{is_place, line_keeps, jump_keeps}
 use Rattle.vcode.specs.Regular.{area}
 use Rattle.abi_frames.specs.Calls.{is_kept}
 use Rattle.abi_frames.specs.declared.ways.Front.{Front}
 use Rattle.abi_frames.specs.declared.ways.Front.TheVariants.{Copied, Begin, Nothing}
-use Rattle.abi_frames.specs.declared.ways.Part.{Part}
 use Rattle.abi_frames.specs.Layout.{args_on_stack, most_in_lines, is_register, writes, callee_saved, is_call}
 use Rattle.abi_frames.specs.BareWays.{is_bare_place, touches_no_slot, is_bare_line, is_bare_block, leads, is_something, part_passes, is_fronted, is_kept_block, begins_frame, is_front_right, is_kept_right, is_part_right, are_parts_right, is_entry_right}
-use Rattle.abi_frames.proofs.Activations.{place_is, MayWrite}
+use Rattle.abi_frames.proofs.Activations.{place_is, MayWrite, no_more}
 use Rattle.abi_frames.proofs.Saving.{AllMayWrite}
-use Rattle.il_ast.proofs.Listed.{all_at}
-use Rattle.il_ast.proofs.Truth.{not_both}
 
 -- ---- bare lines
-
-line_known : (l : Line Location) → touches_no_slot l ≡ true → line_keeps (is_place 0) l ≡ true
-line_known (Tick turn w) h = refl
-line_known (Set to a) h = h
-line_known (Operate to op a b) h = h
-line_known (Load to op at) h = h
-line_known (Store size a at) h = h
-line_known (Alloc to size) h = absurd (let no : ⊥ = cc in no)
-line_known (Blit from to count) h = h
-line_known (Call to callee args) h = absurd (let no : ⊥ = cc in no)
-
-no_call : (l : Line Location) → touches_no_slot l ≡ true → is_call l ≡ false
-no_call (Tick turn w) h = refl
-no_call (Set to a) h = refl
-no_call (Operate to op a b) h = refl
-no_call (Load to op at) h = refl
-no_call (Store size a at) h = refl
-no_call (Alloc to size) h = refl
-no_call (Blit from to count) h = refl
-no_call (Call to callee args) h = absurd (let no : ⊥ = cc in no)
-
-no_arguments : (l : Line Location) → touches_no_slot l ≡ true → args_on_stack l ≡ 0
-no_arguments (Tick turn w) h = refl
-no_arguments (Set to a) h = refl
-no_arguments (Operate to op a b) h = refl
-no_arguments (Load to op at) h = refl
-no_arguments (Store size a at) h = refl
-no_arguments (Alloc to size) h = refl
-no_arguments (Blit from to count) h = refl
-no_arguments (Call to callee args) h = absurd (let no : ⊥ = cc in no)
 
 -- a register that a callee keeps is among those that it saves
 kept_among : (r : ℕ) → 5 ≤ r → is_kept r ≡ true → list_any (λ n. nat_eq n r) callee_saved ≡ true
@@ -78,29 +36,37 @@ pub record IsBare (b : Block Location) : Type 0 where
   pub passes : most_in_lines b.lines ≡ 0
 
 record LineBare (l : Line Location) : Type 0 where
-  pub touches : touches_no_slot l ≡ true
+  pub known : line_keeps (is_place 0) l ≡ true
+  pub no_call : is_call l ≡ false
+  pub no_arguments : args_on_stack l ≡ 0
   pub writes_none : list_any (λ r. writes r l) callee_saved ≡ false
 
 line_bare : (l : Line Location) → is_bare_line l ≡ true → LineBare l
 line_bare l h =
     let parts = and_parts (touches_no_slot l) (not (list_any (λ r. writes r l) callee_saved)) h in
-    record { touches = parts.0; writes_none = not-true (list_any (λ r. writes r l) callee_saved) parts.1 }
+    by_line l parts.0 (not-true (list_any (λ r. writes r l) callee_saved) parts.1)
+  where
+    by_line : (l : Line Location) → touches_no_slot l ≡ true → list_any (λ r. writes r l) callee_saved ≡ false → LineBare l
+    by_line (Tick turn w) h none = record { known = refl; no_call = refl; no_arguments = refl; writes_none = none }
+    by_line (Set to a) h none = record { known = h; no_call = refl; no_arguments = refl; writes_none = none }
+    by_line (Operate to op a b) h none = record { known = h; no_call = refl; no_arguments = refl; writes_none = none }
+    by_line (Load to op at) h none = record { known = h; no_call = refl; no_arguments = refl; writes_none = none }
+    by_line (Store size a at) h none = record { known = h; no_call = refl; no_arguments = refl; writes_none = none }
+    by_line (Alloc to size) h none = absurd (let no : ⊥ = cc in no)
+    by_line (Blit from to count) h none = record { known = h; no_call = refl; no_arguments = refl; writes_none = none }
+    by_line (Call to callee args) h none = absurd (let no : ⊥ = cc in no)
 
 all_known : (lines : List (Line Location)) → list_all is_bare_line lines ≡ true → list_all (line_keeps (is_place 0)) lines ≡ true
 all_known [] h = refl
 all_known (l ∷ lines) h =
     let parts = and_parts (is_bare_line l) (list_all is_bare_line lines) h in
-    both (line_keeps (is_place 0) l) (list_all (line_keeps (is_place 0)) lines) (line_known l (line_bare l parts.0).touches) (all_known lines parts.1)
-  where
-    both : (a b : Bool) → a ≡ true → b ≡ true → (a && b) ≡ true
-    both true b e d = d
-    both false b e d = absurd (let no : ⊥ = cc in no)
+    and_from (line_keeps (is_place 0) l) (list_all (line_keeps (is_place 0)) lines) (line_bare l parts.0).known (all_known lines parts.1)
 
 none_passed : (lines : List (Line Location)) → list_all is_bare_line lines ≡ true → most_in_lines lines ≡ 0
 none_passed [] h = refl
 none_passed (l ∷ lines) h =
     let parts = and_parts (is_bare_line l) (list_all is_bare_line lines) h in
-    let here = no_arguments l (line_bare l parts.0).touches in
+    let here = (line_bare l parts.0).no_arguments in
     let rest = none_passed lines parts.1 in
     ap (λ n. max n (most_in_lines lines)) here ∙ ap (max 0) rest
 
@@ -112,7 +78,7 @@ bare_is b h =
       jump_known = parts.1;
       may = λ q l e to good it.
           place_may 0 to good (any_same (λ n. is_register n to) (λ n. writes n l) callee_saved it ∙ (line_bare l (all_at is_bare_line b.lines q l parts.0 e)).writes_none);
-      calls = λ q l e call. not_both (is_call l) call (no_call l (line_bare l (all_at is_bare_line b.lines q l parts.0 e)).touches);
+      calls = λ q l e call. not_both (is_call l) call (line_bare l (all_at is_bare_line b.lines q l parts.0 e)).no_call;
       passes = none_passed b.lines parts.0;
     }
 
@@ -125,13 +91,9 @@ params_bare (d ∷ ds) h =
     let parts = and_parts (is_bare_place d.place) (list_all (λ (e : Destination Location). is_bare_place e.place) ds) h in
     let here = and_parts (is_place 0 d.place) (not (list_any (λ r. is_register r d.place) callee_saved)) parts.0 in
     let rest = params_bare ds parts.1 in (
-      both (is_place 0 d.place) (list_all (λ (e : Destination Location). is_place 0 e.place) ds) here.0 rest.0,
+      and_from (is_place 0 d.place) (list_all (λ (e : Destination Location). is_place 0 e.place) ds) here.0 rest.0,
       (place_may 0 d.place here.0 (not-true (list_any (λ r. is_register r d.place) callee_saved) here.1), rest.1),
     )
-  where
-    both : (a b : Bool) → a ≡ true → b ≡ true → (a && b) ≡ true
-    both true b e d = d
-    both false b e d = absurd (let no : ⊥ = cc in no)
 
 -- ---- parts
 
@@ -152,10 +114,7 @@ entry_right f parts enter h =
     let two = and_parts c2 (c3 && (c4 && c5)) one.1 in
     let three = and_parts c3 (c4 && c5) two.1 in
     let four = and_parts c4 c5 three.1 in
-    record { no_area = is_zero (area f) one.0; params = two.0; first = three.0; inside = four.0; begins = four.1 }
-  where
-    is_zero : (n : ℕ) → nat_eq n 0 ≡ true → n ≡ 0
-    is_zero n e = grind (arith, nat_tests)
+    record { no_area = eqb-true (area f) 0 one.0; params = two.0; first = three.0; inside = four.0; begins = four.1 }
 
 -- the part of a block, and what is right of it
 pub record PartRight (parts : List Part) (enter i : ℕ) (b : Block Location) : Type 0 where
@@ -177,13 +136,7 @@ part_right parts enter k [] h i b e = absurd (let no : ⊥ = cc in no)
 part_right parts enter k (d ∷ blocks) h zero b e =
     let both = and_parts (part_passes (is_part_right parts enter k d) (slice_get parts k)) (are_parts_right parts enter (k + 1) blocks) h in
     let here : PartRight parts enter k d = part_of parts enter k d (slice_get parts k) refl both.0 in
-    subst (λ x. PartRight parts enter (k + zero) x) (some_block d b e) (subst (λ n. PartRight parts enter n d) (no_more k) here)
-  where
-    some_block : (x y : Block Location) → Some x ≡ Some y → x ≡ y
-    some_block x y q = cc
-
-    no_more : (n : ℕ) → n ≡ n + zero
-    no_more n = omega arith
+    subst (λ x. PartRight parts enter (k + zero) x) (same_Some d b e) (subst (λ n. PartRight parts enter n d) (no_more k) here)
 part_right parts enter k (d ∷ blocks) h (suc i) b e =
     let both = and_parts (part_passes (is_part_right parts enter k d) (slice_get parts k)) (are_parts_right parts enter (k + 1) blocks) h in
     let place : k + 1 + i ≡ k + suc i = omega arith in

@@ -1,31 +1,22 @@
 -- The labelled code of a function with ways without a frame keeps the invariants of such code.
-use Rattle.std.proofs.Common.{◌≡◌, ℕ, ◌+◌, ◌*◌, ◌^◌, ◌<◌, ◌≤◌, Bool, true, false, List, [], ◌∷◌, ◌++◌, refl, ◌∙◌, ap, arith, lit<, lit≤}
+use Rattle.std.proofs.Common.{◌≡◌, ℕ, ◌+◌, ◌*◌, ◌^◌, ◌<◌, ◌≤◌, Bool, true, false, List, [], ◌∷◌, refl, ◌∙◌, ap, arith, lit<, lit≤}
 use Rattle.std.specs.Prelude.{◌&&◌, nat_eq, nat_le, nat_lt, if◌then◌else◌, map, length, slice_get, Some}
-use Rattle.std.specs.List.{list_all}
-use Rattle.std.proofs.lemmas.Bool.{and_parts, and_from, leb-true}
-use Rattle.std.proofs.lemmas.Bool.Decides.{nat_tests}
 use Rattle.il_ast.specs.declared.limits.TheConstants.{ALLOC_BYTES}
-use Rattle.rv_isa.specs.Labels.{IsLabelled, is_label, times_labelled, has_label_below, longest_size}
-use Rattle.rv_isa.specs.declared.labelled.Item.{Item}
-use Rattle.rv_isa.specs.declared.labelled.Item.TheVariants.{Plain, Label, Branch as BranchTo, Goto as GoTo, Relocated}
-use Rattle.vcode.specs.declared.place.Location.{Location}
-use Rattle.vcode.specs.declared.code.Block.{Block}
-use Rattle.vcode.specs.declared.code.Code.{Code}
+use Rattle.rv_isa.specs.Labels.{IsLabelled, is_label, times_labelled, has_label_below}
+use Rattle.abi_frames.proofs.Shared.{Item, Plain, Label, Location, Block, Code, Layout, Part, list_all, and_parts, and_from, leb-true, longest_size, all_at, nat_tests}
+use Rattle.rv_isa.specs.declared.labelled.Item.TheVariants.{Branch as BranchTo, Goto as GoTo, Relocated}
 use Rattle.vcode.specs.Regular.{leads_inside, passes_few}
 use Rattle.abi_frames.specs.Layout.{layout, saved_registers}
-use Rattle.abi_frames.specs.declared.layout.Layout.{Layout}
 use Rattle.abi_frames.specs.declared.ways.Front.{Front}
 use Rattle.abi_frames.specs.declared.ways.Front.TheVariants.{Copied, Begin, Nothing}
-use Rattle.abi_frames.specs.declared.ways.Part.{Part}
-use Rattle.abi_frames.specs.Emission.{lines_items, end_items}
+use Rattle.abi_frames.specs.Emission.{body_items}
 use Rattle.abi_frames.specs.Functions.{entry_items}
-use Rattle.abi_frames.specs.BareWays.{is_kept_block, bare_layout, fronts_from, front_label, raised, front_items, front_of, fronts_items, kept_block_items, kept_items, framed_items, bare_items, bare_labels, CanStand}
+use Rattle.abi_frames.specs.BareWays.{is_kept_block, bare_layout, fronts_from, front_label, raised, front_items, front_of, fronts_items, framed_items, bare_items, bare_labels, CanStand, kept_body}
 use Rattle.abi_frames.specs.Laws.{IsCode}
 use Rattle.abi_frames.proofs.Saving.{few_saved_registers}
 use Rattle.abi_frames.proofs.Sizes.{epilogue_size}
-use Rattle.abi_frames.proofs.Labelling.{Labelled, none, only, numbered, no_items, labelled_then, at_most, plainly, label_then, alone_labelled, instructions_labelled, goto_labelled, body_labelled, one_more, some_size, some_behind, prologue_labelled, epilogue_labelled, entry_labelled, itself}
+use Rattle.abi_frames.proofs.Labelling.{rows_labelled, either_labelled, Labelled, none, only, numbered, no_items, labelled_then, at_most, plainly, label_then, alone_labelled, instructions_labelled, goto_labelled, body_labelled, one_more, some_size, some_behind, prologue_labelled, epilogue_labelled, entry_labelled, itself}
 use Rattle.abi_frames.proofs.Starting.{block_within}
-use Rattle.il_ast.proofs.Listed.{all_at}
 
 -- ---- labels that are higher
 
@@ -58,25 +49,13 @@ raised_labelled o m n (Relocated r ∷ is) few h =
 
 -- ---- behind the frame's begin
 
-kept_block_labelled : (n : ℕ) (y : Layout) (rs : List ℕ) (all k : ℕ) (b : Block Location) (kept : Bool) → length rs ≤ 13 → y.leave < n → all < n → k < n
-    → leads_inside all b.jump ≡ true → Labelled n (only k) (kept_block_items y rs k b kept)
-kept_block_labelled n y rs all k b true saved leave more low inside = label_then low (body_labelled n y rs all k b saved leave more inside)
-kept_block_labelled n y rs all k b false saved leave more low inside = label_then low no_items
-
-kept_labelled : (n : ℕ) (y : Layout) (rs : List ℕ) (parts : List Part) (all k : ℕ) (blocks : List (Block Location)) → length rs ≤ 13 → y.leave < n → all < n
-    → k + length blocks ≤ all → list_all (λ (b : Block Location). leads_inside all b.jump) blocks ≡ true → Labelled n (numbered k (length blocks)) (kept_items y rs parts k blocks)
-kept_labelled n y rs parts all k [] saved leave more few inside = no_items
-kept_labelled n y rs parts all k (b ∷ blocks) saved leave more few inside =
-    let each = and_parts (leads_inside all b.jump) (list_all (λ (d : Block Location). leads_inside all d.jump) blocks) inside in
-    at_most (λ l. one_more k l b blocks)
-    (labelled_then (kept_block_labelled n y rs all k b (is_kept_block parts k) saved leave more (omega (arith, few, more)) each.0)
-    (kept_labelled n y rs parts all (k + 1) blocks saved leave more (omega (arith, few)) each.1))
-
 framed_labelled : (m : ℕ) (f : Code Location) (slots : ℕ) (parts : List Part) → IsCode f slots → length f.blocks < m
     → Labelled m (itself (length f.blocks)) (framed_items (layout f slots) (saved_registers f) parts f.blocks)
 framed_labelled m f slots parts is low =
     let y : Layout = layout f slots in
-    labelled_then (kept_labelled m y (saved_registers f) parts (length f.blocks) 0 f.blocks (few_saved_registers f) low low (omega arith) is.regular.inside)
+    labelled_then
+    (rows_labelled m (kept_body y (saved_registers f) parts) (length f.blocks) 0 f.blocks (omega (arith, low)) is.regular.inside
+    (λ i b inside. either_labelled (is_kept_block parts i) (body_labelled m y (saved_registers f) (length f.blocks) i b (few_saved_registers f) low low inside) no_items))
     (label_then low (epilogue_labelled m f y))
 
 -- ---- in front of it
@@ -101,7 +80,7 @@ front_labelled m f y framed own first k b Begin low below room h inside =
     by_test true = h
     by_test false = goto_labelled m k below
 front_labelled m f y framed own first k b Copied low below room h inside =
-    let body : List Item = lines_items (bare_layout y) 0 b.lines ++ end_items (bare_layout y) [] k b in
+    let body : List Item = body_items (bare_layout y) [] k b in
     let plain = body_labelled (y.leave + 1) (bare_layout y) [] y.leave k b (lit≤ tt) (omega arith) (omega arith) inside in
     at_most (λ l. omega arith) (label_then {l = front_label y k} low (raised_labelled (fronts_from y) (y.leave + 1) m body room plain))
 front_labelled m f y framed own first k b Nothing low below room h inside = at_most (λ l. omega arith) (label_then {l = front_label y k} low no_items)

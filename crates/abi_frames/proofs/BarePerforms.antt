@@ -1,220 +1,48 @@
 -- A function with ways without a frame keeps its promise: copies of blocks do what the blocks do, with no frame, until the frame begins.
 use Rattle.std.proofs.Common.{◌≡◌, ℕ, zero, suc, ◌+◌, ◌-◌, ◌%◌, ◌^◌, ◌<◌, ◌≤◌, Bool, true, false, List, [], ◌∷◌, ◌++◌, refl, sym, ◌∙◌, ap, subst, arith, lit<, lit≤, zero-add, append_assoc, append-nil}
 use Rattle.std.specs.Prelude.{nat_eq, nat_le, if◌then◌else◌, map, length, slice_get, Option, Some, None}
-use Rattle.std.specs.List.{list_all, sum_by}
-use Rattle.std.proofs.lemmas.Bool.{and_parts, ltb-true, leb-true}
-use Rattle.std.proofs.lemmas.Bool.Decides.{nat_tests}
 use Rattle.il_ast.specs.declared.limits.TheConstants.{FUNCTION_WEIGHT}
-use Rattle.rv_isa.specs.State.{State}
-use Rattle.rv_isa.specs.Labels.{longest_size}
+use Rattle.abi_frames.proofs.Shared.{State, Item, Label, Location, Block, Code, Layout, Part, list_all, sum_by, and_parts, ltb-true, leb-true, longest_size, equals_itself, all_at, nat_tests}
 use Rattle.rv_isa.specs.Labelled.{Fixed, Moves, Stand, Stands}
-use Rattle.rv_isa.specs.declared.labelled.Item.{Item}
-use Rattle.rv_isa.specs.declared.labelled.Item.TheVariants.{Label, Goto}
+use Rattle.rv_isa.specs.declared.labelled.Item.TheVariants.{Goto}
 use Rattle.rv_isa.proofs.RunLemmas.{comes_then}
-use Rattle.vcode.specs.declared.place.Location.{Location}
-use Rattle.vcode.specs.declared.place.Location.TheVariants.{Register as InRegister, Slot}
-use Rattle.vcode.specs.declared.code.Block.{Block}
-use Rattle.vcode.specs.declared.code.Code.{Code}
-use Rattle.vcode.specs.Named.{is_place}
 use Rattle.vcode.specs.Cost.{is_paid}
 use Rattle.vcode.specs.Regular.{area, turns_of, leads_inside}
-use Rattle.flat_code.specs.Spots.{Spots, Clear}
-use Rattle.flat_code.specs.Flat.{FlatGiven}
-use Rattle.flat_code.specs.Step.{FlatState, Numbers, bound, flat_begin, flat_step}
-use Rattle.abi_frames.specs.Calls.{World, IsWorld, HoldsSpots}
+use Rattle.flat_code.specs.Step.{FlatState, flat_begin, flat_step}
+use Rattle.abi_frames.specs.Calls.{World, IsWorld}
 use Rattle.abi_frames.specs.Performs.{KeepsFrame}
-use Rattle.abi_frames.specs.declared.layout.Layout.{Layout}
 use Rattle.abi_frames.specs.declared.ways.Front.{Front}
 use Rattle.abi_frames.specs.declared.ways.Front.TheVariants.{Copied, Begin, Nothing}
-use Rattle.abi_frames.specs.declared.ways.Part.{Part}
 use Rattle.abi_frames.specs.Layout.{layout, saved_registers, frame_size, frame_bound}
-use Rattle.abi_frames.specs.Emission.{prologue, epilogue, lower_pointer, save_all}
+use Rattle.abi_frames.specs.Emission.{prologue, epilogue}
 use Rattle.abi_frames.specs.Functions.{entry_items}
-use Rattle.abi_frames.specs.BareWays.{leads, part_passes, is_fronted, is_kept_block, begins_frame, are_ways, is_entry_right, are_parts_right, bare_layout, fronts_from, front_label, begin_items, front_items, front_of, fronts_items, kept_items, framed_items, ways_items}
+use Rattle.abi_frames.specs.BareWays.{leads, part_passes, is_fronted, is_kept_block, begins_frame, are_ways, is_entry_right, are_parts_right, bare_layout, fronts_from, front_label, begin_items, front_of, fronts_items, kept_items, framed_items, ways_items, front_part, front_body}
 use Rattle.abi_frames.specs.Laws.{IsCode}
-use Rattle.operation_code.proofs.Leading.{Site, StandAt, Reaches, Leads, leads_then, leads_so}
-use Rattle.abi_frames.proofs.Activations.{Setting, IsSetting, site, bottom, value_at, place_is, is_held, held_below, Framed}
+use Rattle.operation_code.proofs.Leading.{Site, StandAt, Reaches}
+use Rattle.abi_frames.proofs.Activations.{Setting, IsSetting, site, bottom, is_held, Framed}
 use Rattle.abi_frames.proofs.Saving.{held_all, few_saved_registers}
-use Rattle.abi_frames.proofs.FrameEnds.{savable, PointerMoved, leads_lower, AllSaved, leads_save_all}
-use Rattle.abi_frames.proofs.JumpCode.{moved_scratched, label_place}
+use Rattle.abi_frames.proofs.Begins.{unframed, unframed_is, Kept, frame_begins, nothing_done, comes_in}
+use Rattle.abi_frames.proofs.JumpCode.{moved_scratched}
 use Rattle.abi_frames.proofs.Pacing.{landing}
 use Rattle.abi_frames.proofs.Sizes.{prologue_size, entry_size}
-use Rattle.abi_frames.proofs.Entering.{Entering, ArePassed, CanTake, argument_in, leads_entry}
+use Rattle.abi_frames.proofs.Entering.{CanTake, leads_entry}
 use Rattle.abi_frames.proofs.Simulation.{BlockStands, CodeStands, Landed, Handed, framed_same}
 use Rattle.abi_frames.proofs.Simulating.{follows, enter}
-use Rattle.abi_frames.proofs.Starting.{stand_after, BlockCode, begun_spots, block_within, made_first, block_stands, classes, length-classes, are_passed, ready_passes, setting, is_setting, never}
-use Rattle.abi_frames.proofs.BareStanding.{lowered, at_label, fronts_begin, FrontCode, fronts_stand, copy_stands, kept_stand, first_kept}
+use Rattle.abi_frames.proofs.Starting.{block_within, made_first, block_stands, classes, length-classes, all_passed, setting, is_setting, never}
+use Rattle.abi_frames.proofs.Rows.{stand_after, at_label, Row, BlockCode, rows_stand, first_label}
+use Rattle.abi_frames.proofs.BareStanding.{lowered, copy_stands, kept_stand, first_kept}
 use Rattle.abi_frames.proofs.BareFacts.{IsBare, params_bare, EntryRight, entry_right, PartRight, part_right, has_copy, CopyRight, copy_right, begin_right, kept_right}
-use Rattle.il_ast.proofs.Truth.{equals_itself}
-use Rattle.il_ast.proofs.Listed.{all_at}
-use Rattle.il_ast.proofs.Chosen.{none_is_not}
 
 -- ---- behind the frame's begin, and in front of it
 
 abbrev kept_setting : Setting → List Part → Setting
 kept_setting c parts = record c { reached = is_kept_block parts }
 
--- instructions are kept for the begin of a frame
+-- labels are others
 abbrev fronted : Setting → List Part → Setting
-fronted c parts =
-    record c {
-      label = λ l. c.label (fronts_from c.layout + l);
-      layout = bare_layout c.layout;
-      saved = [];
-      slots = 0;
-      reserve = 49;
-      reached = is_fronted parts;
-    }
-
-kept_is : (c : Setting) (parts : List Part) → IsSetting c → IsSetting (kept_setting c parts)
-kept_is c parts is = record {
-  world = is.world;
-  globals = is.globals;
-  near = is.near;
-  above = is.above;
-  below = is.below;
-  fits = is.fits;
-  blocks = is.blocks;
-  saves_fit = is.saves_fit;
-  saves_near = is.saves_near;
-  slots_near = is.slots_near;
-  savable = is.savable;
-  small = is.small;
-  enough = is.enough;
-}
-
-fronted_is : (c : Setting) (parts : List Part) → c.area ≡ 0 → IsSetting c → IsSetting (fronted c parts)
-fronted_is c parts none is =
-    let above = is.above in
-    record {
-      world = is.world;
-      globals = is.globals;
-      near = is.near;
-      above = omega (arith, above);
-      below = is.below;
-      fits = omega (arith, none);
-      blocks = omega (arith, none);
-      saves_fit = lit≤ tt;
-      saves_near = lit< tt;
-      slots_near = lit< tt;
-      savable = refl;
-      small = lit< tt;
-      enough = lit≤ tt;
-    }
-
--- the same labels as behind the frame's begin
-abbrev entered : Setting → List Part → Setting
-entered c parts = record (fronted c parts) { label = c.label }
-
-entered_is : (c : Setting) (parts : List Part) → IsSetting (fronted c parts) → IsSetting (entered c parts)
-entered_is c parts is = record {
-  world = is.world;
-  globals = is.globals;
-  near = is.near;
-  above = is.above;
-  below = is.below;
-  fits = is.fits;
-  blocks = is.blocks;
-  saves_fit = is.saves_fit;
-  saves_near = is.saves_near;
-  slots_near = is.slots_near;
-  savable = is.savable;
-  small = is.small;
-  enough = is.enough;
-}
-
-entered_framed : (c : Setting) (parts : List Part) (numbers : Numbers) (memory : Spots) (u : State) → Framed (entered c parts) numbers memory u → Framed (fronted c parts) numbers memory u
-entered_framed c parts numbers memory u h = record {
-  pointer = h.pointer;
-  places = h.places;
-  spots = h.spots;
-  clear = h.clear;
-  reach = h.reach;
-  saved = h.saved;
-  thread = h.thread;
-  others = h.others;
-  unset = h.unset;
-}
+fronted c parts = record (unframed c) { label = λ l. c.label (fronts_from c.layout + l); reached = is_fronted parts }
 
 -- ---- the frame begins
-
--- from this state and memory on
-abbrev late : Setting → Spots → State → Setting
-late c memory u = record c { before = memory; start = u }
-
-late_is : (c : Setting) (memory : Spots) (u : State) → IsSetting c → IsSetting (late c memory u)
-late_is c memory u is = record {
-  world = is.world;
-  globals = is.globals;
-  near = is.near;
-  above = is.above;
-  below = is.below;
-  fits = is.fits;
-  blocks = is.blocks;
-  saves_fit = is.saves_fit;
-  saves_near = is.saves_near;
-  slots_near = is.slots_near;
-  savable = is.savable;
-  small = is.small;
-  enough = is.enough;
-}
-
-moved_down : (x sp size : ℕ) → x ≡ sp → size ≤ sp → sp < 2 ^ 63 → (x + (2 ^ 64 - size)) % 2 ^ 64 ≡ sp - size
-moved_down x sp size e h small = omega (arith, e, h, small)
-
--- places are as they were: those that have a value are registers
-late_places : (c : Setting) (parts : List Part) (numbers : Numbers) (memory : Spots) (u v w : State) → Framed (fronted c parts) numbers memory u
-    → PointerMoved u (bottom c) v → ((n : ℕ) → n < 28 → w.registers n ≡ v.registers n)
-    → (p : Location) (x : ℕ) → is_place c.slots p ≡ true → numbers p ≡ Some x → value_at c w p ≡ x
-late_places c parts numbers memory u v w framed one two (InRegister r) x good known =
-    let place = place_is c.slots r good in
-    let from = place.from_5 in
-    let to = place.to_27 in
-    two r (omega (arith, to)) ∙ (one.others r (omega (arith, to)) (λ e. absurd (omega (arith, e, from))) ∙ framed.places (InRegister r) x good known)
-late_places c parts numbers memory u v w framed one two (Slot i) x good known = absurd (none_is_not x (numbers (Slot i)) (framed.unset i (omega arith)) known)
-
-begins_late : (c : Setting) (parts : List Part) → IsSetting c → c.area ≡ 0 → list_all is_held c.saved ≡ true → (numbers : Numbers) (memory : Spots) (u : State)
-    → Framed (fronted c parts) numbers memory u
-    → Leads (site c) (prologue c.layout c.saved) u (λ w. Framed (kept_setting c parts) numbers memory w × (w.output ≡ u.output))
-begins_late c parts is none held numbers memory u framed =
-    let Q : State → Type 0 = λ w. Framed (kept_setting c parts) numbers memory w × (w.output ≡ u.output) in
-    let l : Setting = late c memory u in
-    let good : IsSetting l = late_is c memory u is in
-    let n : ℕ = 2 ^ 64 - c.layout.size in
-    let above = is.above in
-    let below = is.below in
-    let top = is.world.small in
-    let fits = is.fits in
-    let saves = is.saves_fit in
-    let level : c.sp - 0 ≡ c.sp = omega arith in
-    let pointer : u.registers 2 ≡ c.sp = framed.pointer ∙ level in
-    leads_then (site c) (lower_pointer c.layout.size) (save_all c.layout.saves c.saved) u (PointerMoved u ((u.registers 2 + n) % 2 ^ 64)) Q
-    (leads_lower (site c) u c.layout.size)
-    (λ v fixed one.
-    let down : (u.registers 2 + n) % 2 ^ 64 ≡ bottom c = moved_down (u.registers 2) c.sp c.layout.size pointer (omega (arith, above)) (omega (arith, below, top)) in
-    let at_v : v.registers 2 ≡ bottom c = one.value ∙ down in
-    leads_so (site c) (save_all c.layout.saves c.saved) v (AllSaved l c.layout.saves c.saved v) Q
-    (leads_save_all l good v c.layout.saves c.saved at_v is.savable saves)
-    (λ w g two. (
-      record {
-        pointer = two.registers 2 (lit< tt) ∙ at_v;
-        places = late_places c parts numbers memory u v w framed (record { value = at_v; others = one.others; bytes = one.bytes; output = one.output }) two.registers;
-        spots = record {
-          known = begun_spots l good v w (λ x lo hi. framed.clear x lo (omega (arith, hi, none))) framed.spots one.bytes two;
-          usable = framed.spots.usable;
-        };
-        clear = λ x lo hi. framed.clear x lo hi;
-        reach = λ x hi away. framed.reach x hi away;
-        saved = λ k r e.
-            let ok = savable r (all_at _ c.saved k r is.savable e) in
-            two.saved k r e ∙ (one.others r ok.below ok.not_pointer ∙ framed.thread r (all_at is_held c.saved k r held e) ok.not_pointer refl);
-        thread = λ m kept other out. two.registers m (held_below m kept) ∙ (one.others m (held_below m kept) other ∙ framed.thread m kept other refl);
-        others = λ x hi away.
-            two.above x (omega (arith, hi, above, fits, saves)) ∙ (ap (λ (m : ℕ → ℕ). m x) one.bytes ∙ framed.others x hi away);
-        unset = λ i far. framed.unset i (omega arith);
-      },
-      two.output ∙ one.output,
-    )))
 
 -- the machine has come to the block that the frame was begun for
 record Begun (c : Setting) (to extra : ℕ) (fs : FlatState) (k : ℕ) : Type 0 where
@@ -226,19 +54,19 @@ goes_on : (c : Site) (l : ℕ) (rest : List Item) (w : State) → StandAt c (Got
 unfolding Stand Stands
 goes_on c l rest w stands fixed = stands.1 w fixed refl
 
-begin_goes : (c : Setting) (parts : List Part) (itself : List Item) (enter i extra : ℕ) (rest : List Item) (fs : FlatState) (k : ℕ) (u : State) → IsSetting c → c.area ≡ 0
+begin_goes : (c : Setting) (parts : List Part) (itself : List Item) (enter i extra : ℕ) (rest : List Item) (fs : FlatState) (k : ℕ) (u : State) → IsSetting c
     → list_all is_held c.saved ≡ true → length c.saved ≤ 13 → c.reserve ≡ 24 → StandAt (site c) (begin_items c.layout c.saved itself enter i ++ rest) (c.label (front_label c.layout i))
     → ((a : ℕ) → i ≡ enter → StandAt (site c) (itself ++ rest) a → a ≡ c.label i)
     → Landed (fronted c parts) (c.label (front_label c.layout i)) extra fs k u → Begun (kept_setting c parts) (c.label i) extra fs k
-begin_goes c parts itself enter i extra rest fs k u is none held few kept stands falls a =
+begin_goes c parts itself enter i extra rest fs k u is held few kept stands falls a =
     by_test (nat_eq i enter) refl
-    ((begins_late c parts is none held fs.numbers fs.memory u a.framed).from ((if nat_eq i enter then itself else Goto i ∷ []) ++ rest)
+    ((frame_begins c is held fs.numbers fs.memory u a.framed).from ((if nat_eq i enter then itself else Goto i ∷ []) ++ rest)
     (subst (λ x. StandAt (site c) (prologue c.layout c.saved ++ ((if nat_eq i enter then itself else Goto i ∷ []) ++ rest)) x) (sym a.place)
     (subst (λ is. StandAt (site c) is (c.label (front_label c.layout i))) (append_assoc (prologue c.layout c.saved) (if nat_eq i enter then itself else Goto i ∷ []) rest) stands))
     a.fixed)
   where
     Q : State → Type 0
-    Q w = Framed (kept_setting c parts) fs.numbers fs.memory w × (w.output ≡ u.output)
+    Q w = Framed c fs.numbers fs.memory w × Kept c.sp u w
 
     by_test : (t : Bool) → nat_eq i enter ≡ t
         → Reaches (site c) (longest_size (prologue c.layout c.saved)) ((if t then itself else Goto i ∷ []) ++ rest) u Q
@@ -256,7 +84,7 @@ begin_goes c parts itself enter i extra rest fs k u is none held few kept stands
             fixed = m.fixed;
             framed = m.holds.0;
             comes = comes_then a.comes m.comes;
-            output = m.holds.1 ∙ a.output;
+            output = m.holds.1.output ∙ a.output;
             price = omega (arith, size, steps, price, kept);
             pace = omega (arith, pace);
           };
@@ -274,9 +102,9 @@ begin_goes c parts itself enter i extra rest fs k u is none held few kept stands
           landed = record {
             place = g.place;
             fixed = g.fixed;
-            framed = framed_same (kept_setting c parts) fs.numbers fs.memory m.after g.after m.holds.0 (moved_scratched c.world.memory_map 2 (c.label i) m.after g);
+            framed = framed_same c fs.numbers fs.memory m.after g.after m.holds.0 (moved_scratched c.world.memory_map 2 (c.label i) m.after g);
             comes = comes_then a.comes (comes_then m.comes g.comes);
-            output = g.output ∙ (m.holds.1 ∙ a.output);
+            output = g.output ∙ (m.holds.1.output ∙ a.output);
             price = omega (arith, size, steps, more, price, kept);
             pace = omega (arith, pace);
           };
@@ -338,19 +166,15 @@ itself_assoc c f parts rest = append_assoc (kept_items c.layout c.saved parts 0 
 
 -- what stands in front for a block
 front_code : (c : Setting) (f : Code Location) (slots : ℕ) (parts : List Part) (first : ℕ) → WaysCode c f slots parts first → (i : ℕ) (b : Block Location) → slice_get f.blocks i ≡ Some b
-    → FrontCode (site c) c.layout c.saved (framed_items c.layout c.saved parts f.blocks) parts first b i
-front_code c f slots parts first w i b e =
-    subst (λ k. FrontCode (site c) c.layout c.saved (framed_items c.layout c.saved parts f.blocks) parts first b k) (zero-add i)
-    (fronts_stand (site c) c.layout c.saved (framed_items c.layout c.saved parts f.blocks) parts first 0 f.blocks (epilogue (bare_layout c.layout) []) w.at
-    (w.same_leave ∙ sym (zero-add (length f.blocks))) w.fronts i b e)
-
--- the begin of the frame for a block
-begin_stands : (c : Site) (y : Layout) (rs : List ℕ) (itself : List Item) (parts : List Part) (first i : ℕ) (b : Block Location) → (code : FrontCode c y rs itself parts first b i)
-    → front_of (slice_get parts i) ≡ Begin → StandAt c (begin_items y rs itself first i ++ (Label (front_label y (i + 1)) ∷ code.rest)) (c.label (front_label y i))
-begin_stands c y rs itself parts first i b code is =
-    let more : List Item = Label (front_label y (i + 1)) ∷ code.rest in
-    at_label c (front_label y i) (begin_items y rs itself first i ++ more) code.place
-    (subst (λ x. StandAt c (front_items y rs itself first i b x ++ more) code.place) is code.stands)
+    → (x : Front) → front_of (slice_get parts i) ≡ x
+    → Row (site c) (front_part c.layout c.saved (framed_items c.layout c.saved parts f.blocks) first i b x) (front_label c.layout i) (front_label c.layout (i + 1))
+front_code c f slots parts first w i b e x is =
+    let y : Layout = c.layout in
+    let itself : List Item = framed_items y c.saved parts f.blocks in
+    subst (λ z. Row (site c) (front_part y c.saved itself first i b z) (front_label y i) (front_label y (i + 1))) is
+    (subst (λ k. Row (site c) (front_body y c.saved itself parts first k b) (front_label y k) (front_label y (k + 1))) (zero-add i)
+    (rows_stand (site c) (front_label y) (front_body y c.saved itself parts first) 0 f.blocks y.leave (epilogue (bare_layout y) []) w.at
+    (w.same_leave ∙ sym (zero-add (length f.blocks))) w.fronts i b e))
 
 -- the front of the block `first`
 first_front : (parts : List Part) (o : Option Part) → part_passes (λ p. begins_frame p.front) o ≡ true → front_of o ≡ Begin
@@ -367,12 +191,11 @@ itself_at c f slots parts first w =
     some_at f.blocks first (Itself c f parts) (ltb-true first (length f.blocks) w.entry.inside)
     (λ b e.
     let itself : List Item = framed_items c.layout c.saved parts f.blocks in
-    let code = front_code c f slots parts first w first b e in
+    let code = front_code c f slots parts first w first b e Begin (first_front parts (slice_get parts first) w.entry.begins) in
     let more : List Item = Label (front_label c.layout (first + 1)) ∷ code.rest in
-    let here = begin_stands (site c) c.layout c.saved itself parts first first b code (first_front parts (slice_get parts first) w.entry.begins) in
     let split = append_assoc (prologue c.layout c.saved) (if nat_eq first first then itself else Goto first ∷ []) more in
     let s = stand_after (site c) (prologue c.layout c.saved) ((if nat_eq first first then itself else Goto first ∷ []) ++ more) (c.label (front_label c.layout first))
-    (subst (λ is. StandAt (site c) is (c.label (front_label c.layout first))) split here) in
+    (subst (λ is. StandAt (site c) is (c.label (front_label c.layout first))) split code.stands) in
     let stands : StandAt (site c) (itself ++ more) s.place =
     subst (λ (t : Bool). StandAt (site c) ((if t then itself else Goto first ∷ []) ++ more) s.place) (equals_itself first) s.stands in
     record { rest = more; at = s.place; stands = subst (λ is. StandAt (site c) is s.place) (itself_assoc c f parts more) stands })
@@ -385,14 +208,12 @@ kept_code c f slots parts first w =
     let tail : List Item = epilogue c.layout c.saved ++ s.rest in
     let leave = stand_after (site c) (kept_items c.layout c.saved parts 0 f.blocks) (Label c.layout.leave ∷ tail) s.at s.stands in
     record {
-      setting = kept_is c parts w.setting;
+      setting = w.setting;
       own = λ i. true;
       handed = λ i b e there other. absurd (never other);
       blocks = λ i b e there own.
           block_stands k f slots w.same_slots w.same_area w.same_saves w.same_saved w.level w.is b i e (kept_right parts first i b (w.right i b e) there).goes
-          (subst (λ n. BlockCode (site c) c.layout c.saved b n) (zero-add i)
-          (kept_stand (site c) c.layout c.saved parts 0 f.blocks tail s.at (w.same_leave ∙ sym (zero-add (length f.blocks))) s.stands i b e
-          (ap (is_kept_block parts) (zero-add i) ∙ there)));
+          (kept_stand (site c) c.layout c.saved parts f.blocks tail s.at w.same_leave s.stands i b e there);
       result = w.same_result;
       falls = w.falls;
       rest = s.rest;
@@ -408,14 +229,13 @@ hands_on : (c : Setting) (f : Code Location) (slots : ℕ) (parts : List Part) (
     → is_fronted parts i ≡ true → has_copy parts i ≡ false → Handed (fronted c parts) f i
 hands_on c f slots parts first w i b e some none j r n fs k u a new log goes all =
     let itself : List Item = framed_items c.layout c.saved parts f.blocks in
-    let code = front_code c f slots parts first w i b e in
-    let more : List Item = Label (front_label c.layout (i + 1)) ∷ code.rest in
     let begin = begin_right parts first i b (w.right i b e) some none in
-    let here = begin_stands (site c) c.layout c.saved itself parts first i b code (ap front_of begin.there ∙ begin.front) in
+    let code = front_code c f slots parts first w i b e Begin (ap front_of begin.there ∙ begin.front) in
+    let more : List Item = Label (front_label c.layout (i + 1)) ∷ code.rest in
     let inside : first < length f.blocks = ltb-true first (length f.blocks) w.entry.inside in
     let stands = kept_code c f slots parts first w in
-    let begun = begin_goes c parts itself first i (landing f i) more fs k u w.setting (w.same_area ∙ w.entry.no_area)
-    (subst (λ rs. list_all is_held rs ≡ true) (sym w.same_saved) (held_all f)) stands.few_saved w.reserve here
+    let begun = begin_goes c parts itself first i (landing f i) more fs k u w.setting
+    (subst (λ rs. list_all is_held rs ≡ true) (sym w.same_saved) (held_all f)) stands.few_saved w.reserve code.stands
     (λ x same at.
     sym
     (ap c.label (same ∙ sym (zero-add first))
@@ -461,7 +281,7 @@ fronts_code c f slots parts first w =
     let leave = stand_after (site c) (fronts_items y c.saved itself parts first 0 f.blocks) (Label (front_label y y.leave) ∷ end) w.at w.fronts in
     let at_end : StandAt (site c) end (c.label (front_label y y.leave)) = at_label (site c) (front_label y y.leave) end leave.place leave.stands in
     record {
-      setting = fronted_is c parts (w.same_area ∙ w.entry.no_area) w.setting;
+      setting = unframed_is c (w.same_area ∙ w.entry.no_area) w.setting;
       own = has_copy parts;
       handed = λ i b e there other. hands_on c f slots parts first w i b e there other;
       blocks = λ i b e there own. copied i b e (copy_right parts first i b (w.right i b e) own);
@@ -477,36 +297,10 @@ fronts_code c f slots parts first w =
   where
     copied : (i : ℕ) (b : Block Location) → slice_get f.blocks i ≡ Some b → CopyRight parts i b → BlockStands (fronted c parts) b i
     copied i b e copy =
-        let code = front_code c f slots parts first w i b e in
-        let more : List Item = Label (front_label c.layout (i + 1)) ∷ code.rest in
-        let low = copy_stands (site c) c.layout b i code.rest code.place
-        (subst (λ x. StandAt (site c) (front_items c.layout c.saved (framed_items c.layout c.saved parts f.blocks) first i b x ++ more) code.place) (ap front_of copy.there ∙ copy.front) code.stands) in
+        let low = copy_stands (site c) c.layout b i (front_code c f slots parts first w i b e Copied (ap front_of copy.there ∙ copy.front)) in
         bare_stands c f slots parts w.is w.same_area b i e copy.bare copy.goes low
 
 -- ---- from the call on
-
--- before an argument is taken
-comes_in : (c : Setting) (parts : List Part) (j : FlatGiven) → c.area ≡ 0 → c.before ≡ j.memory → c.start.registers 2 ≡ c.sp → HoldsSpots c.world.memory_map j.memory c.start
-    → Clear c.world.bottom c.sp j.memory → Entering (entered c parts) 0 0 (λ p. None) c.start
-comes_in c parts j none same pointer memory clear =
-    let level : c.sp ≡ c.sp - 0 = omega arith in
-    record {
-      framed = record {
-        pointer = pointer ∙ level;
-        places = λ p v good known. absurd (none_is_not v None refl known);
-        spots = subst (λ (q : Spots). HoldsSpots c.world.memory_map q c.start) (sym same) memory;
-        clear = λ x lo hi. ap (λ (q : Spots). q x) same ∙ clear x lo (omega (arith, hi));
-        reach = λ x hi away. away;
-        saved = λ k r e. absurd (let no : ⊥ = cc in no);
-        thread = λ n kept other out. refl;
-        others = λ x hi away. refl;
-        unset = λ i far. refl;
-      };
-      output = refl;
-      registers = λ i from few. refl;
-      stack = λ x above. refl;
-      caller = λ some. absurd (let no : ⊥ = omega (arith, some) in no);
-    }
 
 pub performs_bare : (w : World) (at : ℕ) (label global : ℕ → ℕ) (addresses : List ℕ) (f : Code Location) (slots : ℕ) (parts : List Part) (first : ℕ)
     → are_ways f parts first ≡ true → IsCode f slots → IsWorld w
@@ -546,33 +340,29 @@ performs_bare w at label global addresses f slots parts first ways is world glob
       fronts = at_fronts.stands;
     } in
     let z : Setting = fronted c parts in
-    let in_front : IsSetting z = fronted_is c parts entry.no_area good in
+    let e : Setting = unframed c in
+    let in_front : IsSetting e = unframed_is c entry.no_area good in
     let bare = params_bare f.params entry.params in
     let below = ready.below_top in
     let count = length-classes f.params in
-    let can : CanTake (entered c parts) (length f.params) 0 f.params = record {
+    let can : CanTake e (length f.params) 0 f.params = record {
       count = omega arith;
       few = leb-true (length f.params) 64 is.regular.few_params;
       fits = omega (arith, below, count);
       places = bare.0;
       may = bare.1;
     } in
-    let numbers : Numbers = bound (λ p. None) f.params j.args in
-    let passed : ArePassed (entered c parts) 0 f.params j.args =
-    are_passed (entered c parts) 0 f.params j.args
-    (λ i x a e k. ap (argument_in (entered c parts) s) (zero-add i) ∙ ready_passes (entered c parts) at (classes f.params) j ready i x a e k) in
-    let m = (leads_entry (entered c parts) (entered_is c parts in_front) f.params j.args s can is.apart passed
-    (comes_in c parts j entry.no_area refl ready.stack_pointer ready.memory clear)).from body
+    let m = (leads_entry e in_front f.params j.args s can is.apart (all_passed e at f j ready) (comes_in c at (classes f.params) j clear ready s (nothing_done s))).from body
     (subst (λ a. StandAt (site c) (entries ++ body) a) (sym ready.place) stands) ready.fixed in
     let few = m.few in
     let size = (entry_size (bare_layout y) f.params (lit< tt) (leb-true (length f.params) 64 is.regular.few_params) is.near).few in
-    let begins = fronts_begin y rs (framed_items y rs parts f.blocks) parts first 0 f.blocks end (sym (zero-add (length f.blocks))) in
     let in_code = fronts_code c f slots parts first code in
     enter z f in_code j r n (follows z f in_code j r n) 0 (flat_begin f (sp - area f) j) m.steps m.after entry.first
     (record {
-      place = sym (label_place (site c) (front_label y 0) begins.rest m.after.pc (subst (λ l. StandAt (site c) l m.after.pc) begins.same m.stands));
+      place = sym (first_label (site c) (front_label y) (front_body y rs (framed_items y rs parts f.blocks) parts first) 0 f.blocks y.leave end m.after.pc
+          (sym (zero-add (length f.blocks))) m.stands);
       fixed = m.fixed;
-      framed = entered_framed c parts numbers j.memory m.after m.holds.framed;
+      framed = m.holds.framed;
       comes = m.comes;
       output = m.holds.output ∙ sym (append-nil s.output);
       price = omega (arith, few, size);

@@ -2,18 +2,12 @@
 use Rattle.std.proofs.Common.{◌≡◌, ℕ, ◌+◌, ◌%◌, ◌^◌, Bool, List, ◌∷◌, refl, sym, ◌∙◌, ap, subst, arith, lit<, mod-lt}
 use Rattle.std.specs.Prelude.{◌==◌, not, nat_eq, nat_lt, int_lt, if◌then◌else◌}
 use Rattle.std.specs.Int.{cast_signed, w64}
-use Rattle.std.proofs.lemmas.Bool.Decides.{nat_tests}
-use Rattle.il_ast.specs.declared.operation.Class.{Class}
-use Rattle.il_ast.specs.declared.operation.Class.TheVariants.{W, L}
-use Rattle.il_ast.specs.declared.operation.Condition.{Condition}
+use Rattle.abi_frames.proofs.Shared.{Class, W, L, Condition, State, Item, longest_size, nat_tests}
 use Rattle.il_ast.specs.declared.operation.Condition.TheVariants.{Equal, NotEqual, SignedLessEqual, SignedLess, SignedGreaterEqual, SignedGreater, UnsignedLessEqual, UnsignedLess, UnsignedGreaterEqual, UnsignedGreater}
 use Rattle.il_ast.specs.Operations.{holds}
-use Rattle.rv_isa.specs.State.{State}
-use Rattle.rv_isa.specs.Labels.{longest_size}
 use Rattle.rv_isa.specs.declared.ranges.Register.{Register}
 use Rattle.rv_isa.specs.declared.instruction.BranchOp.{BranchOp}
 use Rattle.rv_isa.specs.declared.instruction.BranchOp.TheVariants.{Beq, Bne, Blt, Bge, Bltu, Bgeu}
-use Rattle.rv_isa.specs.declared.labelled.Item.{Item}
 use Rattle.rv_isa.specs.declared.labelled.Item.TheVariants.{Branch}
 use Rattle.operation_code.specs.Fields.{reg}
 use Rattle.rv_isa.specs.Labelled.{Fixed, Stands, Moves}

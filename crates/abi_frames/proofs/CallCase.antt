@@ -1,32 +1,15 @@
 -- The machine follows a call: up to the callee, and from there as the call goes.
 use Rattle.std.proofs.Common.{◌≡◌, ℕ, suc, ◌+◌, ◌-◌, ◌*◌, ◌%◌, ◌<◌, ◌≤◌, true, List, [], ◌∷◌, ◌++◌, refl, sym, ◌∙◌, ap, subst, arith, append_assoc}
 use Rattle.std.specs.Prelude.{◌&&◌, nat_le, length, map, max, slice_get, Option, Some, None}
-use Rattle.std.specs.Option.{option_map}
-use Rattle.std.specs.List.{list_all}
-use Rattle.std.proofs.lemmas.Bool.{and_parts, leb-true}
-use Rattle.std.proofs.lemmas.List.Sums.{sum_by-cons}
-use Rattle.il_ast.specs.declared.operation.Class.{Class}
-use Rattle.il_ast.specs.declared.operation.Class.TheVariants.{W, L}
+use Rattle.abi_frames.proofs.Shared.{Class, W, L, State, Item, Location, InRegister, Operand, Destination, Argument, Line, Block, Code, Label, option_map, list_all, and_parts, leb-true, longest_size, same_Some, sum_by-cons, Comes, is_place, operand_keeps, line_keeps}
 use Rattle.il_ast.specs.declared.value.End.TheVariants.{Exit, Halt as Halted, Undefined, Stack, Turns}
 use Rattle.il_ast.specs.Run.{Spent, one_call, both}
 use Rattle.il_ast.specs.Logged.{LoggedNext, Logged}
-use Rattle.rv_isa.specs.State.{State}
 use Rattle.rv_isa.specs.Step.{Stop, Exited, Broken}
-use Rattle.rv_isa.specs.Runs.{Comes}
-use Rattle.rv_isa.specs.Labels.{longest_size}
-use Rattle.rv_isa.specs.declared.labelled.Item.{Item}
 use Rattle.rv_isa.proofs.RunLemmas.{comes_then}
-use Rattle.vcode.specs.declared.place.Location.{Location}
-use Rattle.vcode.specs.declared.place.Location.TheVariants.{Register as InRegister}
-use Rattle.vcode.specs.declared.place.Operand.{Operand}
 use Rattle.vcode.specs.declared.place.Operand.TheVariants.{At as In}
-use Rattle.vcode.specs.declared.place.Destination.{Destination}
-use Rattle.vcode.specs.declared.place.Argument.{Argument}
-use Rattle.vcode.specs.declared.line.Line.{Line}
 use Rattle.vcode.specs.declared.line.Line.TheVariants.{Call}
-use Rattle.vcode.specs.declared.code.Block.{Block}
-use Rattle.vcode.specs.declared.code.Code.{Code}
-use Rattle.vcode.specs.Named.{is_place, operand_keeps, wanted_keeps, line_keeps}
+use Rattle.vcode.specs.Named.{wanted_keeps}
 use Rattle.vcode.specs.Regular.{turns_of, alloc_bytes}
 use Rattle.vcode.specs.Cost.{affords}
 use Rattle.flat_code.specs.Spots.{Spots, SameReach}
@@ -36,16 +19,15 @@ use Rattle.abi_frames.specs.Calls.{Ready, passed}
 use Rattle.abi_frames.specs.Performs.{Returns, Stops, KeepsOn, Performs, PerformsAt, ReachStays, AllPerform}
 use Rattle.abi_frames.specs.Layout.{most_in_lines}
 use Rattle.abi_frames.specs.Emission.{prepare_items, call_through, receive_items, lines_items, end_items}
-use Rattle.operation_code.proofs.Leading.{StandAt, Reaches, Leads, leads_nowhere, leads_so}
-use Rattle.abi_frames.proofs.Activations.{Setting, IsSetting, site, bottom, operand_in, Framed, operand_known, Assigned, MayWrite, assigned, assigned_output, is_among}
+use Rattle.operation_code.proofs.Leading.{StandAt, Reaches, Leads, leads_nowhere}
+use Rattle.abi_frames.proofs.Leads.{leads_as}
+use Rattle.abi_frames.proofs.Activations.{Setting, IsSetting, site, bottom, operand_in, Framed, operand_known, MayWrite, assigned, assigned_output, is_among, next_index}
 use Rattle.abi_frames.proofs.Pacing.{few_standing}
-use Rattle.rv_isa.specs.declared.labelled.Item.TheVariants.{Label}
 use Rattle.abi_frames.proofs.LineCode.{leads_set_line}
 use Rattle.abi_frames.proofs.Sizes.{call_parts}
 use Rattle.abi_frames.proofs.Passing.{in_place}
 use Rattle.abi_frames.proofs.Calling.{leads_prepared, goes_to, ready, SameFrame, same_frame, framed_back}
-use Rattle.abi_frames.proofs.Simulation.{CodeStands, At, Performed, step_of, Log, Follows, Then, undefined, stands_here, nothing_taken, later_fits, next_index, may_write}
-use Rattle.std.proofs.lemmas.Option.{same_Some}
+use Rattle.abi_frames.proofs.Simulation.{CodeStands, At, Performed, step_of, Log, Follows, Then, undefined, stands_here, nothing_taken, later_fits, may_write}
 
 -- ---- what is known of the line
 
@@ -194,9 +176,7 @@ received : (c : Setting) → IsSetting c → (numbers : Numbers) (now : Spots) (
     (λ z. Framed c (put d.place (Some (held d.class n)) numbers) now z × (z.output ≡ w.output))
 received c is numbers now w d n framed good may result =
     let v : ℕ = w.registers 10 in
-    leads_so (site c) (receive_items c.layout (Some d)) w (Assigned c w d.place v)
-    (λ z. Framed c (put d.place (Some (held d.class n)) numbers) now z × (z.output ≡ w.output))
-    (leads_set_line c is w d.place (In (InRegister 10)) framed.pointer good refl)
+    leads_as (leads_set_line c is w d.place (In (InRegister 10)) framed.pointer good refl)
     (λ z fixed made. (
       assigned c is numbers now w z d.place v (Some (held d.class n)) good may framed made
           (λ y e. result ∙ (held_is_passed d.class n ∙ same_Some (held d.class n) y e)),

@@ -1,51 +1,33 @@
 -- A call, and the return from it: the machine is ready for the callee, and what a frame keeps is there again afterwards.
 use Rattle.std.proofs.Common.{◌≡◌, ◌≢◌, ℕ, zero, suc, ◌+◌, ◌-◌, ◌*◌, ◌%◌, ◌^◌, ◌<◌, ◌≤◌, Bool, true, false, List, [], ◌∷◌, ◌++◌, refl, sym, ◌∙◌, ap, subst, arith, lit<, lit≤}
 use Rattle.std.specs.Prelude.{◌&&◌, nat_eq, nat_le, if◌then◌else◌, length, map, slice_get, Option, Some, None, Ok}
-use Rattle.std.specs.Option.{option_map, option_and_then}
-use Rattle.std.specs.List.{list_all}
-use Rattle.std.proofs.lemmas.Bool.{and_parts}
-use Rattle.std.proofs.lemmas.Bool.Decides.{nat_tests}
-use Rattle.std.proofs.lemmas.Option.{slice_get_within, same_Some, none-some}
 use Rattle.bits.specs.Words.{sign_extended}
-use Rattle.il_ast.specs.declared.operation.Class.{Class}
-use Rattle.il_ast.specs.declared.operation.Class.TheVariants.{W, L}
-use Rattle.rv_isa.specs.State.{State, register, written}
-use Rattle.rv_isa.specs.Memory.{number_at}
+use Rattle.abi_frames.proofs.Shared.{Class, W, L, State, Immediate, Plain, Item, Location, InRegister, Slot, Operand, At, Number, Name, Argument, option_map, option_and_then, list_all, and_parts, slice_get_within, same_Some, none-some, not_both, none_is_not, nat_tests, number_at, moved, Comes, is_place, operand_keeps, low}
+use Rattle.rv_isa.specs.State.{register, written}
 use Rattle.rv_isa.specs.Step.{act, jump, even_below}
-use Rattle.rv_isa.specs.Arithmetic.{moved}
 use Rattle.rv_isa.specs.Relocations.{lower_part}
-use Rattle.rv_isa.specs.declared.ranges.Immediate.{Immediate}
 use Rattle.rv_isa.specs.declared.relocation.Partial.TheVariants.{Jump as JumpBy}
-use Rattle.rv_isa.specs.declared.labelled.Item.TheVariants.{Plain}
-use Rattle.rv_isa.specs.Runs.{Comes}
 use Rattle.rv_isa.specs.Labelled.{Fixed, Stand, Stands}
 use Rattle.rv_isa.specs.declared.instruction.Instr.TheVariants.{Jalr}
-use Rattle.rv_isa.specs.declared.labelled.Item.{Item}
 use Rattle.rv_isa.proofs.MemoryLemmas.{number_same, updated_elsewhere}
 use Rattle.rv_isa.proofs.RunLemmas.{comes_by_step, comes_then}
-use Rattle.vcode.specs.declared.place.Location.{Location}
-use Rattle.vcode.specs.declared.place.Location.TheVariants.{Register as InRegister, Slot}
-use Rattle.vcode.specs.declared.place.Operand.{Operand}
-use Rattle.vcode.specs.declared.place.Operand.TheVariants.{At, Number, Name}
-use Rattle.vcode.specs.declared.place.Argument.{Argument}
 use Rattle.vcode.specs.declared.place.Extension.{Extension}
 use Rattle.vcode.specs.declared.place.Extension.TheVariants.{Made, Claimed}
 use Rattle.vcode.specs.Operations.{is_extended}
 use Rattle.vcode.specs.Places.{is_callers}
-use Rattle.vcode.specs.Named.{is_place, operand_keeps}
-use Rattle.flat_code.specs.Spots.{Spot, NoAccess, ThisByte, Spots, SameReach}
+use Rattle.flat_code.specs.Spots.{NoAccess, ThisByte, Spots, SameReach}
 use Rattle.flat_code.specs.Step.{Numbers, kept, number_of, read_all, taken, passed as read_passed}
 use Rattle.abi_frames.specs.Calls.{Ready, Back, is_kept, passed}
-use Rattle.vcode.specs.Addresses.{low}
 use Rattle.operation_code.specs.Fields.{reg, add_low}
 use Rattle.operation_code.specs.Fields.{with_name}
-use Rattle.abi_frames.specs.Emission.{fetch, source, passed_class, stack_all, passed_items, callee_items, callee_source, prepare_items, call_through}
+use Rattle.abi_frames.specs.Emission.{fetch, source, passed_class, callee_items, callee_source, prepare_items, call_through}
 use Rattle.operation_code.proofs.ConstantNumbers.{parts_made}
-use Rattle.operation_code.proofs.Leading.{Site, StandAt, Leads, leads_nowhere, leads_then, leads_so, Sets, IsReg, register_reg, stepped, in_register, in_register_small, same_in_register}
+use Rattle.operation_code.proofs.Leading.{Site, StandAt, Leads, leads_nowhere, IsReg, register_reg, stepped, in_register, in_register_small, same_in_register}
+use Rattle.abi_frames.proofs.Leads.{leads_on, leads_as}
 use Rattle.abi_frames.proofs.StackAccesses.{is_28, same_address}
 use Rattle.operation_code.proofs.Instructions.{leads_upper, name_is}
-use Rattle.abi_frames.proofs.Activations.{Setting, IsSetting, site, bottom, slot_at, save_at, value_at, operand_in, place_is, place_reg, slot_is, is_among, is_held, Framed, operand_known}
-use Rattle.abi_frames.proofs.LineCode.{Fetched, leads_fetch}
+use Rattle.abi_frames.proofs.Activations.{Setting, IsSetting, site, bottom, slot_at, save_at, value_at, operand_in, place_is, place_reg, slot_is, is_among, is_held, Framed, operand_known, byte_has_access}
+use Rattle.abi_frames.proofs.LineCode.{leads_fetch}
 use Rattle.abi_frames.proofs.Passing.{sent, in_place, Kept, operand_kept, sent_kept, each, Stacked, stacked_keeps, leads_stack}
 use Rattle.abi_frames.proofs.Arranging.{InRegisters, leads_copy, leads_passed}
 
@@ -83,8 +65,7 @@ leads_fetched : (c : Setting) → IsSetting c → (s : State) (a : Operand Locat
     → ((u : State) → in_register u (callee_source a) ≡ operand_in c s a → HasAddress c s u a) → Leads (site c) (callee_items c.layout a) s (HasCallee c s a)
 leads_fetched c is s a pointer known items there has =
     subst (λ l. Leads (site c) l s (HasCallee c s a)) (sym items)
-    (leads_so (site c) (fetch c.layout 28 a) s (Fetched c s 28 a) (HasCallee c s a)
-    (leads_fetch c is s 28 a is_28 (λ e. absurd (omega (arith, e))) pointer known)
+    (leads_as (leads_fetch c is s 28 a is_28 (λ e. absurd (omega (arith, e))) pointer known)
     (λ u f h. record { value = has u (ap (in_register u) there ∙ h.value); others = h.others; bytes = h.bytes; output = h.output }))
 
 leads_callee : (c : Setting) → IsSetting c → (s : State) (callee : Operand Location) → s.registers 2 ≡ bottom c → operand_keeps (is_place c.slots) callee ≡ true
@@ -98,8 +79,7 @@ leads_callee c is s (At (InRegister r)) pointer known = by_test (nat_le 10 r && 
         → Leads (site c) (if t then add_low 28 r 0 ∷ [] else []) s (HasCallee c s (At (InRegister r)))
     by_test true e =
         let there : callee_source (At (InRegister r)) ≡ 28 = ap (λ (t : Bool). if t then 28 else r) e in
-        leads_so (site c) (add_low 28 r 0 ∷ []) s (Sets s 28 (s.registers r)) (HasCallee c s (At (InRegister r)))
-        (leads_copy (site c) s 28 r is_28 reg)
+        leads_as (leads_copy (site c) s 28 r is_28 reg)
         (λ u f h. record {
           value = ap (in_register u) there ∙ (register_reg u 28 is_28 ∙ h.value);
           others = h.others;
@@ -175,16 +155,13 @@ pub leads_prepared : (c : Setting) → IsSetting c → (s : State) (callee : Ope
     → Leads (site c) (prepare_items c.layout callee args) s (Prepared c s callee args)
 leads_prepared c is s callee args pointer known good fits =
     let room : 8 * (0 + length args - 8) ≤ c.layout.saves = omega (arith, fits) in
-    leads_then (site c) (stack_all c.layout 0 args) (callee_items c.layout callee ++ passed_items c.layout args) s (Stacked c s 0 args) (Prepared c s callee args)
-    (leads_stack c is s 0 args pointer good room)
+    leads_on (leads_stack c is s 0 args pointer good room)
     (λ t f one.
     let kept = stacked_keeps c s 0 args t room one in
     let at_t : t.registers 2 ≡ bottom c = kept.registers 2 (lit≤ tt) ∙ pointer in
-    leads_then (site c) (callee_items c.layout callee) (passed_items c.layout args) t (HasCallee c t callee) (Prepared c s callee args)
-    (leads_callee c is t callee at_t known)
+    leads_on (leads_callee c is t callee at_t known)
     (λ u g two.
-    leads_so (site c) (passed_items c.layout args) u (InRegisters c u args) (Prepared c s callee args)
-    (leads_passed c is u args (two.others 2 (λ e. absurd (omega (arith, e))) ∙ at_t) good)
+    leads_as (leads_passed c is u args (two.others 2 (λ e. absurd (omega (arith, e))) ∙ at_t) good)
     (λ w h three. record {
       passed = passed_all c is s t u w callee args good one kept two three;
       address = address_of c s t w callee (callee_stays c t u w callee args known two three) (operand_kept c is s t callee kept known);
@@ -332,9 +309,6 @@ pub record ReadMore (c : Setting) (numbers : Numbers) (a : Argument Location) (a
   pub stands : passed (passed_class a.extension a.class) (taken (passed_class a.extension a.class) first) ≡ passed a.class (taken a.class first)
   pub all : xs ≡ taken a.class first ∷ others
 
-none_is : (xs : List ℕ) (o : Option (List ℕ)) → o ≡ None → o ≡ Some xs → ⊥
-none_is xs o e f = let no : ⊥ = cc in no
-
 list_is : (xs ys : List ℕ) → Some xs ≡ Some ys → ys ≡ xs
 list_is xs ys e = cc
 
@@ -344,15 +318,15 @@ read_more c numbers a args xs h = by_parts (number_of c.addresses numbers a.valu
   where
     by_value : (x : ℕ) → number_of c.addresses numbers a.value ≡ Some x → (q : Option (List ℕ)) → read_all c.addresses numbers args ≡ q
         → (p : Option ℕ) → read_passed a.extension a.class x ≡ p → option_and_then (λ y. option_map (λ ys. y ∷ ys) q) p ≡ Some xs → ReadMore c numbers a args xs
-    by_value x e q d None g f = absurd (none_is xs None refl f)
-    by_value x e None d (Some y) g f = absurd (none_is xs None refl f)
+    by_value x e q d None g f = absurd (none_is_not xs None refl f)
+    by_value x e None d (Some y) g f = absurd (none_is_not xs None refl f)
     by_value x e (Some ys) d (Some y) g f =
         let so = passed_so a.extension a.class x y g in
         record { first = x; others = ys; is_first = e; is_others = d; stands = so.stands; all = list_is (y ∷ ys) xs f ∙ ap (λ n. n ∷ ys) (sym so.is) }
 
     by_parts : (o : Option ℕ) → number_of c.addresses numbers a.value ≡ o → (q : Option (List ℕ)) → read_all c.addresses numbers args ≡ q
         → option_and_then (λ y. option_map (λ ys. y ∷ ys) q) (option_and_then (read_passed a.extension a.class) o) ≡ Some xs → ReadMore c numbers a args xs
-    by_parts None e q d f = absurd (none_is xs None refl f)
+    by_parts None e q d f = absurd (none_is_not xs None refl f)
     by_parts (Some x) e q d f = by_value x e q d (read_passed a.extension a.class x) refl f
 
 -- the i-th argument, of class k, is the number n
@@ -392,9 +366,6 @@ sends c is numbers memory s framed (a ∷ args) good xs known (suc i) k n e d =
     record { argument = next.argument; is = next.is; value = next.value }
 
 -- ---- the machine is ready for the callee
-
-pub byte_has_access : (m : Spot) (n : ℕ) → m ≡ ThisByte n → m ≡ NoAccess → ⊥
-byte_has_access m n e f = let no : ⊥ = cc in no
 
 spots_then : (c : Setting) → IsSetting c → (numbers : Numbers) (memory : Spots) (s u v : State) (args : List (Argument Location)) → Framed c numbers memory s
     → Passed c s args u → 8 * (length args - 8) ≤ c.layout.saves → v.bytes ≡ u.bytes → (x n : ℕ) → memory x ≡ ThisByte n → v.bytes x ≡ n
@@ -534,13 +505,10 @@ framed_back c is numbers memory now s v w framed same back stays address =
       unset = λ i far. framed.unset i far;
     }
   where
-    two_ways : (b : Bool) → b ≡ true → b ≡ false → ⊥
-    two_ways b e d = cc
-
     -- only the return address is not, and that is saved
     by_test : (n : ℕ) → is_held n ≡ true → is_among n c.saved ≡ false → (b : Bool) → is_kept n ≡ b → is_kept n ≡ true
     by_test n held out true e = e
-    by_test n held out false e = absurd (two_ways (is_among 1 c.saved) address (ap (λ m. is_among m c.saved) (sym (one_is n held e)) ∙ out))
+    by_test n held out false e = absurd (not_both (is_among 1 c.saved) address (ap (λ m. is_among m c.saved) (sym (one_is n held e)) ∙ out))
 
     still_kept : (n : ℕ) → is_held n ≡ true → is_among n c.saved ≡ false → is_kept n ≡ true
     still_kept n held out = by_test n held out (is_kept n) refl

@@ -2,34 +2,23 @@
 use Rattle.std.proofs.Common.{inl, inr, ◌≡◌, ◌≢◌, ℕ, zero, suc, ◌+◌, ◌-◌, ◌*◌, ◌/◌, ◌%◌, ◌^◌, ◌<◌, ◌≤◌, ◌⊎◌, Bool, true, false, List, [], ◌∷◌, ◌++◌, refl, sym, ◌∙◌, ap, subst, arith, lit<, append_assoc}
 use Rattle.std.specs.Prelude.{nat_lt, if◌then◌else◌}
 use Rattle.std.specs.Int.{byte_at}
-use Rattle.std.proofs.lemmas.Bool.Decides.{nat_tests}
-use Rattle.rv_isa.specs.State.{State}
-use Rattle.rv_isa.specs.Memory.{number_at, stored}
-use Rattle.rv_isa.specs.Arithmetic.{moved}
+use Rattle.abi_frames.proofs.Shared.{State, LoadOp, StoreOp, Item, Plain, Location, Operand, nat_tests, number_at, stored, moved, is_place, operand_keeps, low}
 use Rattle.rv_isa.specs.Step.{load, load_size, load_value, store_size}
 use Rattle.rv_isa.specs.Labelled.{Ground, Fixed}
 use Rattle.rv_isa.specs.declared.instruction.Instr.TheVariants.{Load}
-use Rattle.rv_isa.specs.declared.instruction.LoadOp.{LoadOp}
 use Rattle.rv_isa.specs.declared.instruction.LoadOp.TheVariants.{Ld, Lwu, Lhu, Lbu}
-use Rattle.rv_isa.specs.declared.instruction.StoreOp.{StoreOp}
 use Rattle.rv_isa.specs.declared.instruction.StoreOp.TheVariants.{Sb, Sh, Sw, Sd}
-use Rattle.rv_isa.specs.declared.labelled.Item.{Item}
-use Rattle.rv_isa.specs.declared.labelled.Item.TheVariants.{Plain}
 use Rattle.rv_isa.proofs.MemoryLemmas.{stored_below, stored_above}
-use Rattle.vcode.specs.declared.place.Location.{Location}
-use Rattle.vcode.specs.declared.place.Operand.{Operand}
-use Rattle.vcode.specs.Named.{is_place, operand_keeps}
-use Rattle.vcode.specs.Addresses.{low}
-use Rattle.operation_code.specs.Fields.{reg, add_low}
+use Rattle.operation_code.specs.Fields.{reg}
 use Rattle.abi_frames.specs.Emission.{into, copy_at, copy_eight, copy_eights, copy_rest, blit_items}
-use Rattle.operation_code.specs.Fields.{store_at}
 use Rattle.operation_code.proofs.ConstantNumbers.{near_moves}
-use Rattle.operation_code.proofs.Leading.{Site, Leads, leads_nowhere, leads_then, leads_so, Sets, IsReg, register_reg}
+use Rattle.operation_code.proofs.Leading.{Site, Leads, leads_nowhere, Sets, IsReg, register_reg}
+use Rattle.abi_frames.proofs.Leads.{leads_on, leads_as}
 use Rattle.abi_frames.proofs.StackAccesses.{leads_load_at, UsableFrom, is_28, is_29}
 use Rattle.operation_code.proofs.Instructions.{leads_add_low}
 use Rattle.abi_frames.proofs.Activations.{Setting, IsSetting, site, bottom, operand_in}
 use Rattle.abi_frames.proofs.LineCode.{Scratched, leads_into, operand_same}
-use Rattle.abi_frames.proofs.Accesses.{Written, leads_store_any, stored_byte}
+use Rattle.abi_frames.proofs.Accesses.{leads_store_any, stored_byte}
 use Rattle.flat_code.proofs.Storing.{byte_later}
 
 -- ---- bytes that were copied
@@ -137,11 +126,9 @@ leads_copy_at c s load store n o from to alike fixed at_from at_to usable_from u
     let m : ℕ = load_size load in
     let v : ℕ = load_value load (number_at s.bytes from m) in
     let value : v ≡ number_at s.bytes from n = alike.plain (number_at s.bytes from m) ∙ ap (number_at s.bytes from) alike.loads in
-    leads_then c (Plain (Load load (reg 30) (reg 28) (low o)) ∷ []) (store_at store 30 29 o ∷ []) s (Sets s 30 v) (Piece s n from to)
-    (leads_load_any c s load 30 28 o from is_30 is_28 fixed at_from (subst (UsableFrom c.ground from) (sym alike.loads) usable_from))
+    leads_on (leads_load_any c s load 30 28 o from is_30 is_28 fixed at_from (subst (UsableFrom c.ground from) (sym alike.loads) usable_from))
     (λ t f one.
-    leads_so c (store_at store 30 29 o ∷ []) t (Written t to (store_size store) (t.registers 30)) (Piece s n from to)
-    (leads_store_any c t store 30 29 o to is_30 is_29 f
+    leads_as (leads_store_any c t store 30 29 o to is_30 is_29 f
     (ap (λ x. moved x (low o).value) (one.others 29 (λ e. absurd (omega (arith, e)))) ∙ at_to)
     (subst (UsableFrom c.ground to) (sym alike.stores) usable_to))
     (λ u g two. record {
@@ -193,15 +180,12 @@ leads_eight c s from to fixed at_from at_to usable_from usable_to =
     let small_to = (usable_to to (omega arith) (omega arith)).small in
     let there_from = offset_address (s.registers 28) from 0 from at_from (lit< tt) (omega arith) small_from in
     let there_to = offset_address (s.registers 29) to 0 to at_to (lit< tt) (omega arith) small_to in
-    leads_then c (copy_at Ld Sd 0) (add_low 28 28 8 ∷ add_low 29 29 8 ∷ []) s (Piece s 8 from to) (Onward s 8 from to)
-    (leads_copy_at c s Ld Sd 8 0 from to longs fixed there_from there_to usable_from usable_to)
+    leads_on (leads_copy_at c s Ld Sd 8 0 from to longs fixed there_from there_to usable_from usable_to)
     (λ t f one.
-    leads_then c (add_low 28 28 8 ∷ []) (add_low 29 29 8 ∷ []) t (Sets t 28 ((from + 8) % 2 ^ 64)) (Onward s 8 from to)
-    (leads_add_low c t 28 28 8 (t.registers 28) ((from + 8) % 2 ^ 64) is_28 (register_reg t 28 is_28)
+    leads_on (leads_add_low c t 28 28 8 (t.registers 28) ((from + 8) % 2 ^ 64) is_28 (register_reg t 28 is_28)
     (next_address (t.registers 28) from 8 (one.registers 28 (λ e. absurd (omega (arith, e))) ∙ at_from) (lit< tt)))
     (λ u g two.
-    leads_so c (add_low 29 29 8 ∷ []) u (Sets u 29 ((to + 8) % 2 ^ 64)) (Onward s 8 from to)
-    (leads_add_low c u 29 29 8 (u.registers 29) ((to + 8) % 2 ^ 64) is_29 (register_reg u 29 is_29)
+    leads_as (leads_add_low c u 29 29 8 (u.registers 29) ((to + 8) % 2 ^ 64) is_29 (register_reg u 29 is_29)
     (next_address (u.registers 29) to 8
     (two.others 29 (λ e. absurd (omega (arith, e))) ∙ (one.registers 29 (λ e. absurd (omega (arith, e))) ∙ at_to)) (lit< tt)))
     (λ w h three. record {
@@ -264,11 +248,9 @@ leads_eights c s (suc k) from to apart fixed at_from at_to usable_from usable_to
     let apart_n : Apart (8 + 8 * k) from to = subst (λ n. Apart n from to) whole apart in
     let from_n : UsableFrom c.ground from (8 + 8 * k) = subst (UsableFrom c.ground from) whole usable_from in
     let to_n : UsableFrom c.ground to (8 + 8 * k) = subst (UsableFrom c.ground to) whole usable_to in
-    leads_then c copy_eight (copy_eights k) s (Onward s 8 from to) (Onward s (8 * suc k) from to)
-    (leads_eight c s from to fixed at_from at_to (usable_before c.ground from 8 (8 * k) from_n) (usable_before c.ground to 8 (8 * k) to_n))
+    leads_on (leads_eight c s from to fixed at_from at_to (usable_before c.ground from 8 (8 * k) from_n) (usable_before c.ground to 8 (8 * k) to_n))
     (λ u f one.
-    leads_so c (copy_eights k) u (Onward u (8 * k) (from + 8) (to + 8)) (Onward s (8 * suc k) from to)
-    (leads_eights c u k (from + 8) (to + 8) (apart_after 8 (8 * k) from to apart_n) f one.from_at one.to_at
+    leads_as (leads_eights c u k (from + 8) (to + 8) (apart_after 8 (8 * k) from to apart_n) f one.from_at one.to_at
     (usable_after c.ground from 8 (8 * k) from_n) (usable_after c.ground to 8 (8 * k) to_n))
     (λ w g two. subst (λ n. Onward s n from to w) (sym whole) (onward_on s u w 8 (8 * k) from to apart_n one two)))
 
@@ -315,8 +297,7 @@ leads_last c s n from to few fixed at_from at_to usable_from usable_to =
     let o : ℕ = n / 2 * 2 in
     let m : ℕ = n % 2 in
     let bits = one_of n in
-    leads_so c (if nat_lt (n % 2) 1 then [] else copy_at Lbu Sb o) s (Piece s m (from + o) (to + o)) (Copied s m (from + o) (to + o))
-    (leads_piece c s Lbu Sb 1 o from to m (nat_lt (n % 2) 1) single bits.0 bits.1 fixed at_from at_to (omega (arith, few)) usable_from usable_to)
+    leads_as (leads_piece c s Lbu Sb 1 o from to m (nat_lt (n % 2) 1) single bits.0 bits.1 fixed at_from at_to (omega (arith, few)) usable_from usable_to)
     (λ u f h. piece_copied s u m (from + o) (to + o) h)
 
 -- the two before it, and the last
@@ -338,13 +319,10 @@ leads_pair c s n from to few apart fixed at_from at_to usable_from usable_to =
     let to_n : UsableFrom c.ground (to + o) (m + n % 2) = subst (UsableFrom c.ground (to + o)) whole usable_to in
     let last_from : UsableFrom c.ground (from + q) (n % 2) = subst (λ x. UsableFrom c.ground x (n % 2)) next_from (usable_after c.ground (from + o) m (n % 2) from_n) in
     let last_to : UsableFrom c.ground (to + q) (n % 2) = subst (λ x. UsableFrom c.ground x (n % 2)) next_to (usable_after c.ground (to + o) m (n % 2) to_n) in
-    leads_then c (if nat_lt (n % 4) 2 then [] else copy_at Lhu Sh o) (if nat_lt (n % 2) 1 then [] else copy_at Lbu Sb q) s (Piece s m (from + o) (to + o))
-    (Copied s (n % 4) (from + o) (to + o))
-    (leads_piece c s Lhu Sh 2 o from to m (nat_lt (n % 4) 2) halves bits.0 bits.1 fixed at_from at_to (omega (arith, few))
+    leads_on (leads_piece c s Lhu Sh 2 o from to m (nat_lt (n % 4) 2) halves bits.0 bits.1 fixed at_from at_to (omega (arith, few))
     (usable_before c.ground (from + o) m (n % 2) from_n) (usable_before c.ground (to + o) m (n % 2) to_n))
     (λ u f one.
-    leads_so c (if nat_lt (n % 2) 1 then [] else copy_at Lbu Sb q) u (Copied u (n % 2) (from + q) (to + q)) (Copied s (n % 4) (from + o) (to + o))
-    (leads_last c u n from to few f (one.registers 28 (λ e. absurd (omega (arith, e))) ∙ at_from) (one.registers 29 (λ e. absurd (omega (arith, e))) ∙ at_to)
+    leads_as (leads_last c u n from to few f (one.registers 28 (λ e. absurd (omega (arith, e))) ∙ at_from) (one.registers 29 (λ e. absurd (omega (arith, e))) ∙ at_to)
     last_from last_to)
     (λ w g two.
     let two_there : Copied u (n % 2) (from + o + m) (to + o + m) w =
@@ -363,18 +341,13 @@ leads_rest c s n from to few apart fixed at_from at_to usable_from usable_to =
     let apart_n : Apart (m + n % 4) from to = subst (λ k. Apart k from to) whole apart in
     let from_n : UsableFrom c.ground from (m + n % 4) = subst (UsableFrom c.ground from) whole usable_from in
     let to_n : UsableFrom c.ground to (m + n % 4) = subst (UsableFrom c.ground to) whole usable_to in
-    leads_then c (if nat_lt n 4 then [] else copy_at Lwu Sw 0)
-    ((if nat_lt (n % 4) 2 then [] else copy_at Lhu Sh m) ++ (if nat_lt (n % 2) 1 then [] else copy_at Lbu Sb (n / 2 * 2))) s
-    (Piece s m (from + 0) (to + 0)) (Copied s n from to)
-    (leads_piece c s Lwu Sw 4 0 from to m (nat_lt n 4) words bits.0 bits.1 fixed at_from at_to (lit< tt)
+    leads_on (leads_piece c s Lwu Sw 4 0 from to m (nat_lt n 4) words bits.0 bits.1 fixed at_from at_to (lit< tt)
     (subst (λ x. UsableFrom c.ground x m) (sym here_from) (usable_before c.ground from m (n % 4) from_n))
     (subst (λ x. UsableFrom c.ground x m) (sym here_to) (usable_before c.ground to m (n % 4) to_n)))
     (λ u f one.
     let first : Copied s m from to u =
     subst (λ x. Copied s m x to u) here_from (subst (λ x. Copied s m (from + 0) x u) here_to (piece_copied s u m (from + 0) (to + 0) one)) in
-    leads_so c ((if nat_lt (n % 4) 2 then [] else copy_at Lhu Sh m) ++ (if nat_lt (n % 2) 1 then [] else copy_at Lbu Sb (n / 2 * 2))) u
-    (Copied u (n % 4) (from + m) (to + m)) (Copied s n from to)
-    (leads_pair c u n from to few (apart_after m (n % 4) from to apart_n) f (one.registers 28 (λ e. absurd (omega (arith, e))) ∙ at_from)
+    leads_as (leads_pair c u n from to few (apart_after m (n % 4) from to apart_n) f (one.registers 28 (λ e. absurd (omega (arith, e))) ∙ at_from)
     (one.registers 29 (λ e. absurd (omega (arith, e))) ∙ at_to) (usable_after c.ground from m (n % 4) from_n) (usable_after c.ground to m (n % 4) to_n))
     (λ w g two. subst (λ k. Copied s k from to w) (sym whole) (copied_on s u w m (n % 4) from to apart_n first two)))
 
@@ -390,12 +363,10 @@ leads_addresses : (c : Setting) → IsSetting c → (s : State) (from to : Opera
     → operand_keeps (is_place c.slots) from ≡ true → operand_keeps (is_place c.slots) to ≡ true
     → Leads (site c) (into c.layout 28 from ++ into c.layout 29 to) s (Addressed s (operand_in c s from) (operand_in c s to))
 leads_addresses c is s from to pointer known_from known_to =
-    leads_then (site c) (into c.layout 28 from) (into c.layout 29 to) s (Sets s 28 (operand_in c s from)) (Addressed s (operand_in c s from) (operand_in c s to))
-    (leads_into c is s 28 from is_28 (λ e. absurd (omega (arith, e))) pointer known_from)
+    leads_on (leads_into c is s 28 from is_28 (λ e. absurd (omega (arith, e))) pointer known_from)
     (λ u f one.
     let same : Scratched s u = record { registers = λ m lo. one.others m (not_scratch m 28 (omega arith) lo); bytes = one.bytes; output = one.output } in
-    leads_so (site c) (into c.layout 29 to) u (Sets u 29 (operand_in c u to)) (Addressed s (operand_in c s from) (operand_in c s to))
-    (leads_into c is u 29 to is_29 (λ e. absurd (omega (arith, e))) (same.registers 2 (lit< tt) ∙ pointer) known_to)
+    leads_as (leads_into c is u 29 to is_29 (λ e. absurd (omega (arith, e))) (same.registers 2 (lit< tt) ∙ pointer) known_to)
     (λ w g two. record {
       from_at = two.others 28 (λ e. absurd (omega (arith, e))) ∙ one.value;
       to_at = two.value ∙ operand_same c s u to known_to same;
@@ -420,12 +391,10 @@ leads_bytes c s n from to apart fixed at_from at_to usable_from usable_to =
     let apart_n : Apart (8 * k + r) from to = subst (λ x. Apart x from to) whole apart in
     let from_n : UsableFrom c.ground from (8 * k + r) = subst (UsableFrom c.ground from) whole usable_from in
     let to_n : UsableFrom c.ground to (8 * k + r) = subst (UsableFrom c.ground to) whole usable_to in
-    leads_then c (copy_eights k) (copy_rest r) s (Onward s (8 * k) from to) (Copied s n from to)
-    (leads_eights c s k from to (apart_before (8 * k) r from to apart_n) fixed here_from here_to (usable_before c.ground from (8 * k) r from_n)
+    leads_on (leads_eights c s k from to (apart_before (8 * k) r from to apart_n) fixed here_from here_to (usable_before c.ground from (8 * k) r from_n)
     (usable_before c.ground to (8 * k) r to_n))
     (λ u f one.
-    leads_so c (copy_rest r) u (Copied u r (from + 8 * k) (to + 8 * k)) (Copied s n from to)
-    (leads_rest c u r (from + 8 * k) (to + 8 * k) few (apart_after (8 * k) r from to apart_n) f one.from_at one.to_at
+    leads_as (leads_rest c u r (from + 8 * k) (to + 8 * k) few (apart_after (8 * k) r from to apart_n) f one.from_at one.to_at
     (usable_after c.ground from (8 * k) r from_n) (usable_after c.ground to (8 * k) r to_n))
     (λ w g two. subst (λ x. Copied s x from to w) (sym whole) (copied_on s u w (8 * k) r from to apart_n one.copied two)))
 
@@ -439,11 +408,9 @@ leads_blit_line c is s from to count pointer known_from known_to apart usable_fr
     let q : ℕ = operand_in c s to in
     let bytes : List Item = copy_eights (count / 8) ++ copy_rest (count % 8) in
     subst (λ l. Leads (site c) l s (Copied s count p q)) (append_assoc (into c.layout 28 from) (into c.layout 29 to) bytes)
-    (leads_then (site c) (into c.layout 28 from ++ into c.layout 29 to) bytes s (Addressed s p q) (Copied s count p q)
-    (leads_addresses c is s from to pointer known_from known_to)
+    (leads_on (leads_addresses c is s from to pointer known_from known_to)
     (λ u f one.
-    leads_so (site c) bytes u (Copied u count p q) (Copied s count p q)
-    (leads_bytes (site c) u count p q apart f one.from_at one.to_at usable_from usable_to)
+    leads_as (leads_bytes (site c) u count p q apart f one.from_at one.to_at usable_from usable_to)
     (λ w g two. record {
       bytes = subst (λ (b : ℕ → ℕ). CopiedBytes b w.bytes count p q) one.same.bytes two.bytes;
       registers = λ m lo. two.registers m lo ∙ one.same.registers m lo;

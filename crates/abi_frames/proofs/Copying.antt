@@ -1,27 +1,16 @@
 -- Bytes are copied, and the machine follows the code on bytes over it.
 use Rattle.std.proofs.Common.{inl, inr, ◌≡◌, ℕ, zero, suc, ◌+◌, ◌-◌, ◌<◌, ◌≤◌, Bool, true, false, List, ◌∷◌, refl, sym, ◌∙◌, ap, subst, arith}
 use Rattle.std.specs.Prelude.{◌&&◌, ◌||◌, nat_eq, nat_le, if◌then◌else◌, Option, Some, None}
-use Rattle.std.specs.List.{list_all}
-use Rattle.std.specs.Option.{option_and_then}
-use Rattle.std.proofs.lemmas.Bool.{and_parts, eqb-true, leb-true}
-use Rattle.std.proofs.lemmas.Bool.Decides.{nat_tests}
-use Rattle.rv_isa.specs.State.{State}
-use Rattle.vcode.specs.declared.place.Location.{Location}
-use Rattle.vcode.specs.declared.place.Operand.{Operand}
-use Rattle.vcode.specs.declared.line.Line.{Line}
+use Rattle.abi_frames.proofs.Shared.{State, Location, Operand, Line, Block, Code, list_all, option_and_then, and_parts, eqb-true, leb-true, nat_tests, is_place, operand_keeps, line_keeps}
 use Rattle.vcode.specs.declared.line.Line.TheVariants.{Blit}
-use Rattle.vcode.specs.declared.code.Block.{Block}
-use Rattle.vcode.specs.declared.code.Code.{Code}
-use Rattle.vcode.specs.Named.{is_place, operand_keeps, line_keeps}
 use Rattle.flat_code.specs.Spots.{NoAccess, ThisByte, Spots}
 use Rattle.flat_code.specs.Flat.{FlatGiven, FlatOutcome}
 use Rattle.flat_code.specs.Step.{all_there, apart_or_same, is_in, with_copy, copied, FlatState, number_of, changes, goes_on}
 use Rattle.abi_frames.specs.Calls.{HoldsSpots}
 use Rattle.abi_frames.specs.Performs.{AllPerform}
-use Rattle.abi_frames.specs.Emission.{line_items}
-use Rattle.operation_code.proofs.Leading.{leads_so}
+use Rattle.abi_frames.proofs.Leads.{leads_as}
 use Rattle.abi_frames.proofs.StackAccesses.{UsableFrom}
-use Rattle.abi_frames.proofs.Activations.{Setting, site, operand_in, Framed, operand_known}
+use Rattle.abi_frames.proofs.Activations.{Setting, operand_in, Framed, operand_known}
 use Rattle.abi_frames.proofs.MemoryChanges.{Changed, changed, there_at, usable_from, inside_is, outside_is}
 use Rattle.abi_frames.proofs.CopyCode.{Apart, Copied, leads_blit_line}
 use Rattle.abi_frames.proofs.Simulation.{CodeStands, At, Performed, Log, Follows, Then, undefined, reach, advance, nothing_taken}
@@ -102,9 +91,7 @@ copies c f is j r n go b x y count lines fs k u a log all p q now is_x is_y apar
     let usable_x = subst (λ z. UsableFrom c.world.memory_map z count) (sym at_x) usable_p in
     let usable_y = subst (λ z. UsableFrom c.world.memory_map z count) (sym at_y) usable_q in
     let reached = reach c f b (Blit x y count) lines fs k u (λ t. Framed c fs.numbers now t × (t.output ≡ u.output)) a
-    (leads_so (site c) (line_items c.layout a.used (Blit x y count)) u (Copied u count (operand_in c u x) (operand_in c u y))
-    (λ t. Framed c fs.numbers now t × (t.output ≡ u.output))
-    (leads_blit_line c is.setting u x y count a.framed.pointer known.0 known.1 apart_there usable_x usable_y)
+    (leads_as (leads_blit_line c is.setting u x y count a.framed.pointer known.0 known.1 apart_there usable_x usable_y)
     (λ t fixed made. (
       changed c is.setting fs.numbers fs.memory now u t a.framed
           (changes t (subst (λ z. Copied u count p z t) at_y (subst (λ z. Copied u count z (operand_in c u y) t) at_x made))),

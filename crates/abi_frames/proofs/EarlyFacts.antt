@@ -1,17 +1,8 @@
 -- What is known where a function returns early on one way.
 use Rattle.std.proofs.Common.{◌≡◌, ℕ, Bool, true, false, List, ◌++◌, refl, ◌∙◌, ap, subst, append_assoc}
 use Rattle.std.specs.Prelude.{◌&&◌, nat_eq, if◌then◌else◌, slice_get, Option, Some, None}
-use Rattle.std.specs.Option.{option_map, option_and_then}
-use Rattle.std.proofs.lemmas.Bool.{and_parts}
-use Rattle.rv_isa.specs.declared.labelled.Item.{Item}
-use Rattle.vcode.specs.declared.place.Location.{Location}
-use Rattle.vcode.specs.declared.place.ReturnValue.{ReturnValue}
-use Rattle.vcode.specs.declared.line.Comparison.{Comparison}
-use Rattle.vcode.specs.declared.line.Jump.{Jump}
+use Rattle.abi_frames.proofs.Shared.{Item, Location, ReturnValue, Comparison, Jump, Block, Code, EarlyReturn, option_map, option_and_then, and_parts}
 use Rattle.vcode.specs.declared.line.Jump.TheVariants.{Goto, Branch, Return, Halt}
-use Rattle.vcode.specs.declared.code.Block.{Block}
-use Rattle.vcode.specs.declared.code.Code.{Code}
-use Rattle.abi_frames.specs.declared.early.EarlyReturn.{EarlyReturn}
 use Rattle.abi_frames.specs.Layout.{frame_size}
 use Rattle.abi_frames.specs.EarlyReturns.{begins_few, only_ticks, is_passed, value_is_passed, comparison_origin, value_origin, jump_returns, block_returns, early_with, early_to, else_early, early_on, early_in, early_return}
 

@@ -1,21 +1,14 @@
 -- Where the numbers of operands stand on entry, and that the operands of an early return are found there.
-use Rattle.std.proofs.Common.{◌≡◌, ℕ, ◌+◌, ◌-◌, ◌*◌, ◌%◌, ◌^◌, Bool, true, false, List, [], ◌∷◌, refl, sym, ◌∙◌, ap, arith, lit<, lit≤}
+use Rattle.std.proofs.Common.{◌≡◌, ℕ, ◌+◌, ◌-◌, ◌*◌, ◌%◌, ◌^◌, Bool, true, false, List, [], ◌∷◌, refl, sym, ◌∙◌, ap}
 use Rattle.std.specs.Prelude.{not, ◌||◌, nat_lt, if◌then◌else◌, Some, None}
-use Rattle.std.specs.List.{list_any}
-use Rattle.std.proofs.lemmas.Bool.{and_parts}
-use Rattle.rv_isa.specs.Memory.{number_at}
-use Rattle.vcode.specs.declared.place.Location.{Location}
-use Rattle.vcode.specs.declared.place.Location.TheVariants.{Register as InRegister}
-use Rattle.vcode.specs.declared.place.Destination.{Destination}
-use Rattle.vcode.specs.declared.place.Operand.{Operand}
-use Rattle.vcode.specs.declared.place.Operand.TheVariants.{At, Number, Name}
+use Rattle.abi_frames.proofs.Shared.{Location, InRegister, Destination, Operand, At, Number, Name, list_any, and_parts, same_Some, none-some, number_at, is_place}
 use Rattle.vcode.specs.Places.{same_location, located}
-use Rattle.vcode.specs.Named.{is_place, are_distinct}
+use Rattle.vcode.specs.Named.{are_distinct}
 use Rattle.flat_code.specs.Step.{Numbers, put, bound, held, number_of}
 use Rattle.abi_frames.specs.EarlyReturns.{argument_register, origin, operand_origin, is_bare, no_frame}
 use Rattle.abi_frames.proofs.Activations.{Setting, IsSetting, value_at, operand_in}
 use Rattle.abi_frames.proofs.Entering.{argument_in, ArePassed, same_is}
-use Rattle.std.proofs.lemmas.Option.{same_Some, none-some}
+use Rattle.abi_frames.proofs.Begins.{empty_fits}
 
 -- ---- where there is no frame
 
@@ -23,23 +16,7 @@ abbrev pub bare : Setting → Setting
 bare c = record c { layout = no_frame c.layout; saved = []; slots = 0; area = 0 }
 
 pub bare_setting : (c : Setting) → IsSetting c → IsSetting (bare c)
-bare_setting c is =
-    let above = is.above in
-    record {
-      world = is.world;
-      globals = is.globals;
-      near = is.near;
-      above = omega (arith, above);
-      below = is.below;
-      fits = lit≤ tt;
-      blocks = refl;
-      saves_fit = lit≤ tt;
-      saves_near = lit< tt;
-      slots_near = lit< tt;
-      savable = refl;
-      small = lit< tt;
-      enough = is.enough;
-    }
+bare_setting c is = empty_fits c true c.reserve is.enough is
 
 -- ---- numbers of parameters
 

@@ -1,66 +1,45 @@
 -- A function that returns early on one way keeps its promise.
 use Rattle.std.proofs.Common.{◌≡◌, ℕ, ◌+◌, ◌-◌, ◌*◌, ◌^◌, ◌<◌, ◌≤◌, Bool, true, false, List, [], ◌∷◌, ◌++◌, refl, sym, ◌∙◌, ap, subst, arith, zero-add, append_assoc, append-nil}
 use Rattle.std.specs.Prelude.{◌&&◌, nat_eq, nat_le, if◌then◌else◌, map, length, slice_get, Option, Some, None}
-use Rattle.std.specs.Option.{option_map, option_and_then}
-use Rattle.std.specs.List.{list_all, sum_by}
-use Rattle.std.proofs.lemmas.Bool.{and_parts, leb-true}
 use Rattle.il_ast.specs.declared.limits.TheConstants.{FUNCTION_WEIGHT}
-use Rattle.il_ast.specs.declared.operation.Class.{Class}
+use Rattle.abi_frames.proofs.Shared.{Class, State, Item, Label, Location, Operand, ReturnValue, Comparison, Line, Jump, Code, Number, Layout, EarlyReturn, option_map, option_and_then, list_all, sum_by, and_parts, leb-true, longest_size, Comes}
 use Rattle.il_ast.specs.Operations.{holds, truth}
 use Rattle.il_ast.specs.declared.value.End.TheVariants.{Turns}
 use Rattle.il_ast.specs.Run.{Spent}
 use Rattle.il_ast.specs.Logged.{Logged}
-use Rattle.rv_isa.specs.State.{State}
-use Rattle.rv_isa.specs.Labels.{longest_size}
-use Rattle.rv_isa.specs.Labelled.{Fixed, Stand, Stands}
-use Rattle.rv_isa.specs.declared.labelled.Item.{Item}
-use Rattle.rv_isa.specs.declared.labelled.Item.TheVariants.{Label}
-use Rattle.rv_isa.specs.Runs.{Comes}
+use Rattle.rv_isa.specs.Labelled.{Fixed, Stand}
 use Rattle.rv_isa.proofs.RunLemmas.{comes_here, comes_then}
-use Rattle.vcode.specs.declared.place.Location.{Location}
-use Rattle.vcode.specs.declared.place.Operand.{Operand}
-use Rattle.vcode.specs.declared.place.ReturnValue.{ReturnValue}
 use Rattle.vcode.specs.declared.line.Operation.TheVariants.{Compare}
-use Rattle.vcode.specs.declared.line.Comparison.{Comparison}
-use Rattle.vcode.specs.declared.line.Line.{Line}
-use Rattle.vcode.specs.declared.line.Jump.{Jump}
 use Rattle.vcode.specs.declared.line.Jump.TheVariants.{Return}
-use Rattle.vcode.specs.declared.code.Code.{Code}
 use Rattle.vcode.specs.Regular.{area, turns_of}
-use Rattle.vcode.specs.declared.place.Operand.TheVariants.{Number}
 use Rattle.flat_code.specs.Spots.{Spots, Clear}
 use Rattle.flat_code.specs.Flat.{FlatGiven, FlatOutcome, FlatReturned, FlatEnded}
 use Rattle.flat_code.specs.Step.{FlatState, Numbers, bound, number_of, taken, passed as read_passed, computed, closed, branches, returns, returns_as, flat_begin, flat_jump, flat_step}
 use Rattle.abi_frames.specs.Calls.{World, IsWorld, HoldsSpots, Ready, ResultIn, passed}
 use Rattle.abi_frames.specs.Performs.{KeepsFrame, AllPerform}
-use Rattle.abi_frames.specs.declared.layout.Layout.{Layout}
-use Rattle.abi_frames.specs.declared.early.EarlyReturn.{EarlyReturn}
 use Rattle.abi_frames.specs.Layout.{layout, saved_registers, frame_size, frame_bound}
-use Rattle.abi_frames.specs.Emission.{passed_class, result_items, go_back, blocks_items, prologue, epilogue}
+use Rattle.abi_frames.specs.Emission.{passed_class, result_items, go_back, body_items, blocks_items, prologue, epilogue}
 use Rattle.abi_frames.specs.Functions.{entry_items}
 use Rattle.abi_frames.specs.EarlyReturns.{spares, is_tick, is_passed, value_is_passed, no_frame, operand_origin, value_origin, is_bare, is_short, quick_label, begin_label, test_items, quick_items, early_items}
 use Rattle.abi_frames.specs.Laws.{IsCode}
-use Rattle.operation_code.proofs.Leading.{Site, StandAt}
-use Rattle.abi_frames.proofs.Saving.{few_saved_registers}
-use Rattle.abi_frames.proofs.Activations.{Setting, IsSetting, site, operand_in, can_save, Framed}
+use Rattle.operation_code.proofs.Leading.{StandAt}
+use Rattle.abi_frames.proofs.Activations.{Setting, IsSetting, site, operand_in, Framed}
 use Rattle.abi_frames.proofs.LineCode.{Scratched, operand_same}
 use Rattle.abi_frames.proofs.FrameEnds.{Ends}
 use Rattle.abi_frames.proofs.JumpCode.{Arrives, jumps_branch, way_by, meets}
 use Rattle.abi_frames.proofs.Calling.{PassedSo, passed_so}
 use Rattle.abi_frames.proofs.Sizes.{ValueShort, quick_size, test_size}
 use Rattle.abi_frames.proofs.Entering.{ArePassed, argument_in}
+use Rattle.abi_frames.proofs.Begins.{nothing_done}
+use Rattle.abi_frames.proofs.Rows.{stand_after, at_label, first_label}
 use Rattle.abi_frames.proofs.Simulation.{CodeStands, Performed, step_of, Log, Then, undefined}
-use Rattle.abi_frames.proofs.Simulating.{closed_known, closed_there, follows, enter}
-use Rattle.abi_frames.proofs.Starting.{stand_after, blocks_stand, first_label, BlockCode, classes, are_passed, ready_passes, setting, is_setting, all_lead, never, block_stands, begins, begin_size}
+use Rattle.abi_frames.proofs.Simulating.{closed_spots, no_result, follows, enter}
+use Rattle.abi_frames.proofs.Starting.{framed_code, classes, are_passed, ready_passes, setting, is_setting, begins, begin_size}
 use Rattle.abi_frames.proofs.EarlyOrigins.{bare, bare_setting, operand_origin_known}
 use Rattle.abi_frames.proofs.EarlyFacts.{Ways, IsEarly, around}
-use Rattle.abi_frames.proofs.EarlyWays.{AllSame, silent_run, ticks_spare, QuickBack, quick_result, ends_nothing, ends_value, later_framed, later_ready}
+use Rattle.abi_frames.proofs.EarlyWays.{AllSame, silent_run, ticks_spare, QuickBack, quick_result, ends_nothing, ends_value}
 
 -- ---- where the parts stand
-
-after_label : (c : Site) (l : ℕ) (is : List Item) (a : ℕ) → StandAt c (Label l ∷ is) a → StandAt c is (c.label l)
-unfolding Stand Stands
-after_label c l is a stands = subst (λ x. StandAt c is x) (stands.1.1 ∙ sym stands.1.0) stands.2
 
 -- what the proof needs to know of the code
 pub record EarlyCode (c : Setting) (f : Code Location) (e : EarlyReturn) : Type 0 where
@@ -117,18 +96,10 @@ came_back c f j e most a t x wanted z stands memory price turns output result =
         fixed = m.fixed;
         place = back.place;
         kept = back.kept;
-        memory = record {
-          known = λ y n q.
-              ap (λ (g : ℕ → ℕ). g y) back.bytes ∙ memory.known y n (closed_known j.memory (c.sp - c.area) (area f) y n q);
-          usable = λ y there. memory.usable y (closed_there j.memory (c.sp - c.area) (area f) y there);
-        };
+        memory = closed_spots c j.memory (c.sp - c.area) (area f) c.start m.after back.bytes memory;
         others = λ y high away. ap (λ (g : ℕ → ℕ). g y) back.bytes;
       };
     }
-
-no_result : (k : Option Class) (t : State) → ResultIn k None t
-no_result None t = tt
-no_result (Some k) t = tt
 
 -- what both ways know of the call
 pub record EarlyCall (c : Setting) (f : Code Location) (slots : ℕ) (j : FlatGiven) (e : EarlyReturn) (r : FlatOutcome) (log : Log) : Type 0 where
@@ -300,49 +271,28 @@ quick_way c f slots j e r log call a m before t same_before turns output goes =
 
 -- ---- the other way
 
-starts_later : (c : Setting) (u : State) → IsSetting c → IsSetting (record c { start = u })
-starts_later c u is = record {
-  world = is.world;
-  globals = is.globals;
-  near = is.near;
-  above = is.above;
-  below = is.below;
-  fits = is.fits;
-  blocks = is.blocks;
-  saves_fit = is.saves_fit;
-  saves_near = is.saves_near;
-  slots_near = is.slots_near;
-  savable = is.savable;
-  small = is.small;
-  enough = is.enough;
-}
-
 -- the function with its frame
 other_way : (c : Setting) (f : Code Location) (slots : ℕ) (j : FlatGiven) (e : EarlyReturn) (r : FlatOutcome) (log : Log) → (call : EarlyCall c f slots j e r log)
     → CameTo c 5 (begin_label c.layout) → (n : ℕ) → Logged (step_of c f j) n (flat_begin f (c.sp - c.area) j) log r → Performed c f r
 other_way c f slots j e r log call a n goes =
-    let later : Setting = record c { start = a.after } in
-    let good : IsSetting later = starts_later c a.after call.stands.code.setting in
-    let saved : list_all can_save c.saved ≡ true = call.stands.code.setting.savable in
-    let ready = later_ready c.world c.start.pc c.sp (classes f.params) j c.start a.after call.ready a.same a.fixed in
-    let ready_there = subst (λ (q : Spots). Ready c.world a.after.pc c.sp (classes f.params) (record j { memory = q }) a.after) (sym call.before) ready in
+    let ready = subst (λ (q : Spots). Ready c.world c.start.pc c.sp (classes f.params) (record j { memory = q }) c.start) (sym call.before) call.ready in
     let rest : List Item = blocks_items c.layout c.saved 0 f.blocks ++ (Label c.layout.leave ∷ call.stands.rest) in
     let begin : List Item = prologue c.layout c.saved ++ entry_items c.layout f.params in
-    let m = (begins later f slots a.after.pc j good call.same_slots call.same_saved call.is call.clear ready_there).from rest
+    let m = (begins c f slots c.start.pc j a.after call.stands.code.setting call.same_slots call.same_saved call.is call.clear ready a.same).from rest
     (subst (λ q. StandAt (site c) (begin ++ rest) q) (sym a.place)
     (subst (λ q. StandAt (site c) q (c.label (begin_label c.layout))) (sym (append_assoc (prologue c.layout c.saved) (entry_items c.layout f.params) rest)) call.stands.begin)) a.fixed in
-    let framed = later_framed c a.after m.after (length f.params) 8 (passed_numbers f j) saved a.same m.holds in
     let few_a = a.few in
     let few_b = m.few in
     let size = call.size in
     let kept = call.reserve in
     enter c f call.stands.code j r n (follows c f call.stands.code j r n) 0 (flat_begin f (c.sp - c.area) j) (a.steps + m.steps) m.after (call.reached 0)
     (record {
-      place = first_label (site c) c.layout c.saved f.blocks call.stands.rest m.after.pc call.stands.leave m.stands;
+      place = sym (first_label (site c) (λ l. l) (body_items c.layout c.saved) 0 f.blocks c.layout.leave call.stands.rest m.after.pc
+          (call.stands.leave ∙ sym (zero-add (length f.blocks))) m.stands);
       fixed = m.fixed;
-      framed = subst (λ (q : Spots). Framed c (passed_numbers f j) q m.after) call.before framed.0;
+      framed = subst (λ (q : Spots). Framed c (passed_numbers f j) q m.after) call.before m.holds.framed;
       comes = comes_then a.comes m.comes;
-      output = framed.1 ∙ sym (append-nil c.start.output);
+      output = m.holds.output ∙ sym (append-nil c.start.output);
       price = omega (arith, few_a, few_b, size, kept);
       pace = omega arith;
     })
@@ -365,9 +315,8 @@ same_test c f slots j e r log call v w is_v is_w =
     let on : Comparison Location = early.on in
     let left_good = (passed_parts f early.block.lines on.left early.left).bare in
     let right_good = (passed_parts f early.block.lines on.right early.right).bare in
-    let nothing_done : Scratched c.start c.start = record { registers = λ n lo. refl; bytes = refl; output = refl } in
-    let left = found c f slots j e r log call c.start nothing_done on.left v is_v left_good in
-    let right = found c f slots j e r log call c.start nothing_done on.right w is_w right_good in
+    let left = found c f slots j e r log call c.start (nothing_done c.start) on.left v is_v left_good in
+    let right = found c f slots j e r log call c.start (nothing_done c.start) on.right w is_w right_good in
     ap (λ (q : Comparison Location). meets (bare c) c.start q) early.test_is
     ∙ (ap (λ x. holds on.condition on.class (taken on.class x) (taken on.class (operand_in (bare c) c.start (operand_origin f.params on.right)))) left
     ∙ ap (λ y. holds on.condition on.class (taken on.class v) (taken on.class y)) right)
@@ -451,30 +400,14 @@ performs_early w at label global addresses f slots e early is world globals near
     subst (λ (q : List Item). StandAt (site c) (test_items y e ++ (Label (begin_label y) ∷ q)) at)
     (around (prologue y rs) (entry_items y f.params) (blocks_items y rs 0 f.blocks) (Label y.leave ∷ epilogue y rs) p_quick) stands in
     let at_begin = stand_after (site c) (test_items y e) (Label (begin_label y) ∷ p_begin) at test in
-    let begin = after_label (site c) (begin_label y) p_begin at_begin.place at_begin.stands in
+    let begin = at_label (site c) (begin_label y) p_begin at_begin.place at_begin.stands in
     let at_entry = stand_after (site c) (prologue y rs) p_entry (c.label (begin_label y)) begin in
     let at_blocks = stand_after (site c) (entry_items y f.params) p_blocks at_entry.place at_entry.stands in
     let at_leave = stand_after (site c) (blocks_items y rs 0 f.blocks) (Label y.leave ∷ p_end) at_blocks.place at_blocks.stands in
-    let leave = after_label (site c) y.leave p_end at_leave.place at_leave.stands in
+    let leave = at_label (site c) y.leave p_end at_leave.place at_leave.stands in
     let at_quick = stand_after (site c) (epilogue y rs) p_quick (c.label y.leave) leave in
-    let quick = after_label (site c) (quick_label y) (quick_items y e.value) at_quick.place at_quick.stands in
-    let code : CodeStands c f = record {
-      setting = good;
-      own = λ i. true;
-      handed = λ i b h there other. absurd (never other);
-      blocks = λ i b h there own.
-          block_stands c f slots refl refl refl refl refl is b i h (all_lead b.jump)
-          (subst (λ k. BlockCode (site c) y rs b k) (zero-add i)
-          (blocks_stand (site c) y rs 0 f.blocks p_end at_blocks.place (sym (zero-add (length f.blocks))) at_blocks.stands i b h));
-      result = refl;
-      falls = refl;
-      rest = p_quick;
-      leave = leave;
-      few_saved = few_saved_registers f;
-      area = refl;
-      pointer = ready.stack_pointer;
-      aligned = ready.return_address;
-    } in
+    let quick = at_label (site c) (quick_label y) (quick_items y e.value) at_quick.place at_quick.stands in
+    let code = framed_code w label global addresses f slots sp j.memory s p_quick at_blocks.place is good ready.stack_pointer ready.return_address at_blocks.stands in
     let call : EarlyCall c f slots j e r log = record {
       early = early;
       is = is;

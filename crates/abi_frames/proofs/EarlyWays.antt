@@ -1,45 +1,25 @@
 -- A function that returns early on one way: its first block, its test, the early return, and the frame's begin on the other way.
-use Rattle.std.proofs.Common.{◌≡◌, ℕ, zero, suc, ◌+◌, ◌-◌, ◌*◌, ◌%◌, ◌≤◌, Bool, true, false, List, [], ◌∷◌, ◌++◌, refl, ◌∙◌, ap, subst, arith, lit<, append-nil}
+use Rattle.std.proofs.Common.{◌≡◌, ℕ, zero, suc, ◌+◌, ◌-◌, ◌%◌, ◌≤◌, Bool, true, false, List, [], ◌∷◌, ◌++◌, refl, ◌∙◌, ap, subst, arith, lit<, append-nil}
 use Rattle.std.specs.Prelude.{not, nat_lt, if◌then◌else◌, slice_get, Option, Some, None}
-use Rattle.std.specs.List.{list_all, sum_by}
-use Rattle.std.proofs.lemmas.Bool.{and_parts}
-use Rattle.std.proofs.lemmas.Bool.Decides.{nat_tests}
-use Rattle.std.proofs.lemmas.List.Sums.{sum_by-cons}
-use Rattle.il_ast.specs.declared.operation.Class.{Class}
+use Rattle.abi_frames.proofs.Shared.{Class, State, Location, Operand, At, Number, Name, ReturnValue, Line, Block, Code, Layout, list_all, sum_by, and_parts, same_Some, none-some, sum_by-cons}
 use Rattle.il_ast.specs.declared.value.End.TheVariants.{Turns}
 use Rattle.il_ast.specs.Run.{Spent, one_turn, both}
 use Rattle.il_ast.specs.Logged.{Over, Does, Logged}
-use Rattle.rv_isa.specs.State.{State}
-use Rattle.rv_isa.specs.Memory.{number_at}
-use Rattle.rv_isa.specs.Labelled.{Fixed}
-use Rattle.rv_isa.specs.declared.labelled.Item.{Item}
-use Rattle.vcode.specs.declared.place.Location.{Location}
-use Rattle.vcode.specs.declared.place.Operand.{Operand}
-use Rattle.vcode.specs.declared.place.Operand.TheVariants.{At, Number, Name}
-use Rattle.vcode.specs.declared.place.ReturnValue.{ReturnValue}
-use Rattle.vcode.specs.declared.line.Line.{Line}
 use Rattle.vcode.specs.declared.line.Line.TheVariants.{Tick, Set, Operate, Load, Store, Alloc, Blit, Call}
-use Rattle.vcode.specs.declared.code.Block.{Block}
-use Rattle.vcode.specs.declared.code.Code.{Code}
 use Rattle.vcode.specs.Places.{same_location}
 use Rattle.vcode.specs.Regular.{turns_of, weight_of}
 use Rattle.vcode.specs.Step.{weighs}
 use Rattle.flat_code.specs.Flat.{FlatGiven, FlatOutcome, FlatEnded}
 use Rattle.flat_code.specs.Step.{FlatState, Numbers, put, number_of, taken, goes_on, flat_line, flat_jump, flat_step, block_step, step_in}
-use Rattle.abi_frames.specs.Calls.{World, Ready, passed, is_kept}
-use Rattle.abi_frames.specs.declared.layout.Layout.{Layout}
+use Rattle.abi_frames.specs.Calls.{passed, is_kept}
 use Rattle.abi_frames.specs.Emission.{passed_class, result_items, go_back}
 use Rattle.abi_frames.specs.EarlyReturns.{is_at, spares, is_tick, no_frame, is_bare, quick_items}
-use Rattle.operation_code.proofs.Leading.{Site, Sets}
-use Rattle.abi_frames.proofs.Activations.{Setting, IsSetting, site, operand_in, can_save, is_held, held_below, held_not_10, Framed}
+use Rattle.abi_frames.proofs.Activations.{Setting, IsSetting, site, operand_in, held_below, held_not_10, next_index}
 use Rattle.abi_frames.proofs.LineCode.{Scratched}
-use Rattle.abi_frames.proofs.FrameEnds.{savable, Ends, ends_then, Jumped, ends_go_back}
+use Rattle.abi_frames.proofs.FrameEnds.{Ends, ends_then, ends_go_back, ends_so, kept_held}
 use Rattle.abi_frames.proofs.JumpCode.{leads_result}
-use Rattle.abi_frames.proofs.Entering.{Entering}
-use Rattle.abi_frames.proofs.Simulation.{step_of, Log, Then, next_index}
+use Rattle.abi_frames.proofs.Simulation.{step_of, Log, Then}
 use Rattle.abi_frames.proofs.EarlyOrigins.{bare, bare_setting}
-use Rattle.std.proofs.lemmas.Option.{same_Some, none-some}
-use Rattle.il_ast.proofs.Listed.{all_at}
 
 -- ---- blocks that only tick
 
@@ -170,21 +150,10 @@ pub record QuickBack (c : Setting) (wanted : Option ℕ) (u : State) : Type 0 wh
   pub bytes : u.bytes ≡ c.start.bytes
   pub output : u.output ≡ c.start.output
 
-ends_so : (c : Site) (is : List Item) (s : State) (P Q : State → Type 0) → Ends c is s P → ((t : State) → P t → Q t) → Ends c is s Q
-ends_so c is s P Q first so = record {
-  from = λ rest stands fixed.
-      let one = first.from rest stands fixed in
-      record { steps = one.steps; after = one.after; comes = one.comes; some = one.some; few = one.few; fixed = one.fixed; holds = so one.after one.holds };
-}
-
-kept_held : (n : ℕ) → is_kept n ≡ true → is_held n ≡ true
-kept_held n k = grind (arith, nat_tests)
-
 pub ends_nothing : (c : Setting) (y : Layout) (u : State) → Scratched c.start u → c.start.registers 1 % 4 ≡ 0
     → Ends (site c) (quick_items y None) u (QuickBack c None)
 ends_nothing c y u same aligned =
-    ends_so (site c) (go_back ∷ []) u (Jumped u (c.start.registers 1)) (QuickBack c None)
-    (ends_go_back (site c) u (c.start.registers 1) (same.registers 1 (lit< tt)) aligned)
+    ends_so (ends_go_back (site c) u (c.start.registers 1) (same.registers 1 (lit< tt)) aligned)
     (λ t h. record {
       place = h.place;
       kept = λ n k. let low = held_below n (kept_held n k) in h.registers n low ∙ same.registers n low;
@@ -203,11 +172,9 @@ pub ends_value : (c : Setting) → IsSetting c → (u : State) (k : Class) (a : 
 ends_value c is u k a same pointer aligned known =
     let n : ℕ = quick_result c u k a in
     let level : c.sp ≡ c.sp - 0 = omega arith in
-    ends_then (site c) (result_items (no_frame c.layout) (Some k) a) (go_back ∷ []) u (Sets u 10 n) (QuickBack c (Some n))
-    (leads_result (bare c) (bare_setting c is) u k a (same.registers 2 (lit< tt) ∙ (pointer ∙ level)) known)
+    ends_then (leads_result (bare c) (bare_setting c is) u k a (same.registers 2 (lit< tt) ∙ (pointer ∙ level)) known)
     (λ w fixed one.
-    ends_so (site c) (go_back ∷ []) w (Jumped w (c.start.registers 1)) (QuickBack c (Some n))
-    (ends_go_back (site c) w (c.start.registers 1) (one.others 1 (λ e. absurd (omega (arith, e))) ∙ same.registers 1 (lit< tt)) aligned)
+    ends_so (ends_go_back (site c) w (c.start.registers 1) (one.others 1 (λ e. absurd (omega (arith, e))) ∙ same.registers 1 (lit< tt)) aligned)
     (λ t h. record {
       place = h.place;
       kept = λ m k.
@@ -217,36 +184,3 @@ ends_value c is u k a same pointer aligned known =
       bytes = h.bytes ∙ (one.bytes ∙ same.bytes);
       output = h.output ∙ (one.output ∙ same.output);
     }))
-
--- ---- a frame that begins later
-
--- with scratch registers alone written since the call
-pub later_framed : (c : Setting) (u w : State) (params k : ℕ) (numbers : Numbers) → list_all can_save c.saved ≡ true → Scratched c.start u
-    → Entering (record c { start = u }) params k numbers w → Framed c numbers c.before w × (w.output ≡ c.start.output)
-later_framed c u w params k numbers good same h = (
-  record {
-    pointer = h.framed.pointer;
-    places = h.framed.places;
-    spots = h.framed.spots;
-    clear = h.framed.clear;
-    reach = h.framed.reach;
-    saved = λ i r e. h.framed.saved i r e ∙ same.registers r (savable r (all_at can_save c.saved i r good e)).below;
-    thread = λ n kept other out. h.framed.thread n kept other out ∙ same.registers n (held_below n kept);
-    others = λ x hi away. h.framed.others x hi away ∙ ap (λ (m : ℕ → ℕ). m x) same.bytes;
-    unset = h.framed.unset;
-  },
-  h.output ∙ same.output,
-)
-
-pub later_ready : (w : World) (at sp : ℕ) (ks : List Class) (j : FlatGiven) (s u : State) → Ready w at sp ks j s → Scratched s u → Fixed w.memory_map u
-    → Ready w u.pc sp ks j u
-later_ready w at sp ks j s u ready same fixed = record {
-  fixed = fixed;
-  place = refl;
-  stack_pointer = same.registers 2 (lit< tt) ∙ ready.stack_pointer;
-  return_address = ap (λ a. a % 4) (same.registers 1 (lit< tt)) ∙ ready.return_address;
-  in_registers = λ k n a few e d. same.registers (10 + k) (omega (arith, few)) ∙ ready.in_registers k n a few e d;
-  on_stack = λ k n a many e d. ap (λ (m : ℕ → ℕ). number_at m (sp + 8 * (k - 8)) 8) same.bytes ∙ ready.on_stack k n a many e d;
-  below_top = ready.below_top;
-  memory = record { known = λ x n k. ap (λ (m : ℕ → ℕ). m x) same.bytes ∙ ready.memory.known x n k; usable = ready.memory.usable };
-}

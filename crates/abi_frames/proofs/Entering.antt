@@ -1,32 +1,24 @@
 -- Arguments come to the places of their parameters: from registers, and from the stack of the caller.
-use Rattle.std.proofs.Common.{◌≡◌, ◌≢◌, ℕ, zero, suc, ◌+◌, ◌-◌, ◌*◌, ◌%◌, ◌^◌, ◌<◌, ◌≤◌, Bool, true, false, List, [], ◌∷◌, ◌++◌, refl, sym, ◌∙◌, ap, subst, arith, lit<, lit≤, zero-add}
+use Rattle.std.proofs.Common.{◌≡◌, ◌≢◌, ℕ, zero, suc, ◌+◌, ◌-◌, ◌*◌, ◌%◌, ◌^◌, ◌<◌, ◌≤◌, Bool, true, false, List, [], ◌∷◌, refl, sym, ◌∙◌, ap, subst, arith, lit<, lit≤, zero-add}
 use Rattle.std.specs.Prelude.{Option, ◌&&◌, not, nat_lt, nat_le, if◌then◌else◌, length, slice_get, Some, None}
-use Rattle.std.specs.List.{list_all, list_any}
-use Rattle.std.proofs.lemmas.Bool.{and_parts, and_from, eqb-true}
-use Rattle.std.proofs.lemmas.Bool.Decides.{nat_tests}
-use Rattle.rv_isa.specs.State.{State}
-use Rattle.rv_isa.specs.Memory.{number_at, stored}
+use Rattle.abi_frames.proofs.Shared.{State, Location, InRegister, Slot, Destination, Argument, list_all, list_any, and_parts, and_from, eqb-true, both_ways, same_Some, none-some, nat_tests, number_at, stored, is_place}
 use Rattle.rv_isa.proofs.MemoryLemmas.{number_same, stored_above}
-use Rattle.vcode.specs.declared.place.Location.{Location}
-use Rattle.vcode.specs.declared.place.Location.TheVariants.{Register as InRegister, Slot}
-use Rattle.vcode.specs.declared.place.Destination.{Destination}
-use Rattle.vcode.specs.declared.place.Argument.{Argument}
 use Rattle.vcode.specs.Places.{same_location, located}
-use Rattle.vcode.specs.Named.{is_place, are_distinct}
+use Rattle.vcode.specs.Named.{are_distinct}
 use Rattle.flat_code.specs.Step.{Numbers, put, bound, held}
-use Rattle.operation_code.specs.Fields.{add_low, sum_to, load_8}
+use Rattle.operation_code.specs.Fields.{sum_to, load_8}
 use Rattle.operation_code.specs.Constants.{constant}
-use Rattle.abi_frames.specs.Emission.{store_slot, slot_offset, passed_items}
+use Rattle.abi_frames.specs.Emission.{store_slot, slot_offset}
 use Rattle.abi_frames.specs.Functions.{caller_pointer, from_register, from_stack, argument_items, arguments_items, is_for_arguments, goes_away, is_on_stack, source_in, sources, pointer_items, entry_items}
-use Rattle.operation_code.proofs.Leading.{Leads, leads_nowhere, leads_then, leads_so, leads_fixed, leads_again, Sets, IsReg}
-use Rattle.abi_frames.proofs.StackAccesses.{UsableFrom, Writes, leads_load, leads_store_slot, near_address, is_2, is_28}
+use Rattle.operation_code.proofs.Leading.{Leads, leads_nowhere, leads_again, Sets, IsReg}
+use Rattle.abi_frames.proofs.Leads.{leads_on, leads_as, leads_where}
+use Rattle.abi_frames.proofs.StackAccesses.{UsableFrom, leads_load, leads_store_slot, near_address, is_2, is_28}
 use Rattle.operation_code.proofs.Instructions.{leads_sum, leads_constant}
-use Rattle.abi_frames.proofs.Activations.{beyond, Setting, IsSetting, site, bottom, slot_at, save_at, value_at, is_held, held_below, place_is, place_reg, slot_is, slot_in_frame, Framed, Assigned, MayWrite, assigned, assigned_output}
+use Rattle.abi_frames.proofs.Activations.{beyond, Setting, IsSetting, site, bottom, slot_at, save_at, value_at, is_held, held_below, place_is, place_reg, slot_is, slot_in_frame, Framed, Assigned, MayWrite, assigned, assigned_output, next_index, no_more}
 use Rattle.abi_frames.proofs.Saving.{AllMayWrite}
 use Rattle.abi_frames.proofs.Arranging.{leads_copy, InRegisters, leads_passed}
 use Rattle.abi_frames.proofs.Sources.{source, sources_stand, source_at, AllApart, apart_more, source_is}
-use Rattle.abi_frames.proofs.Simulation.{framed_same, next_index}
-use Rattle.std.proofs.lemmas.Option.{same_Some, none-some}
+use Rattle.abi_frames.proofs.Simulation.{framed_same}
 use Rattle.il_ast.proofs.Truth.{neither_holds}
 
 -- ---- what holds before an argument is taken
@@ -68,10 +60,8 @@ leads_into_slot : (c : Setting) → IsSetting c → (s : State) (x i : ℕ) → 
 leads_into_slot c is s x i reg other pointer good =
     let inside = slot_in_frame c is i (slot_is c.slots i good) in
     let o = slot_offset c.layout i in
-    leads_fixed (site c) (store_slot x o) s (Took c s (Slot i) (s.registers x))
-    (λ fixed.
-    leads_so (site c) (store_slot x o) s (Writes s (slot_at c i) (s.registers x)) (Took c s (Slot i) (s.registers x))
-    (leads_store_slot (site c) s x (bottom c) o reg other fixed pointer inside.near inside.small inside.usable)
+    leads_where (λ fixed.
+    leads_as (leads_store_slot (site c) s x (bottom c) o reg other fixed pointer inside.near inside.small inside.usable)
     (λ u f h. record {
       assigned = record {
         small = fixed.words x;
@@ -86,8 +76,7 @@ leads_from_register : (c : Setting) → IsSetting c → (s : State) (k : ℕ) (p
     → Leads (site c) (from_register c.layout k p) s (Took c s p (s.registers (10 + k)))
 leads_from_register c is s k (InRegister r) few pointer good =
     let reg : IsReg (10 + k) = record { some = omega arith; small = omega (arith, few) } in
-    leads_so (site c) (add_low r (10 + k) 0 ∷ []) s (Sets s r (s.registers (10 + k))) (Took c s (InRegister r) (s.registers (10 + k)))
-    (leads_copy (site c) s r (10 + k) (place_reg r (place_is c.slots r good)) reg)
+    leads_as (leads_copy (site c) s r (10 + k) (place_reg r (place_is c.slots r good)) reg)
     (λ u f h. took_register c s r (s.registers (10 + k)) u good h)
 leads_from_register c is s k (Slot i) few pointer good =
     let reg : IsReg (10 + k) = record { some = omega arith; small = omega (arith, few) } in
@@ -113,23 +102,19 @@ leads_8 : (c : Setting) (s : State) (d k : ℕ) → OnCallersStack c k → IsReg
     → Leads (site c) (load_8 d 30 (8 * (k - 8)) ∷ []) s (Sets s d (number_at s.bytes (c.sp + 8 * (k - 8)) 8))
 leads_8 c s d k there reg caller =
     let o : ℕ = 8 * (k - 8) in
-    leads_fixed (site c) (load_8 d 30 o ∷ []) s (Sets s d (number_at s.bytes (c.sp + o) 8))
-    (λ fixed. leads_load (site c) s d 30 o (c.sp + o) reg is_30 fixed (near_address (s.registers 30) c.sp o caller there.near there.small) there.usable)
+    leads_where (λ fixed. leads_load (site c) s d 30 o (c.sp + o) reg is_30 fixed (near_address (s.registers 30) c.sp o caller there.near there.small) there.usable)
 
 leads_from_stack : (c : Setting) → IsSetting c → (s : State) (k : ℕ) (p : Location) → OnCallersStack c k → s.registers 30 ≡ c.sp → s.registers 2 ≡ bottom c
     → is_place c.slots p ≡ true → Leads (site c) (from_stack c.layout k p) s (Took c s p (number_at s.bytes (c.sp + 8 * (k - 8)) 8))
 leads_from_stack c is s k (InRegister r) there caller pointer good =
     let v : ℕ = number_at s.bytes (c.sp + 8 * (k - 8)) 8 in
-    leads_so (site c) (load_8 r 30 (8 * (k - 8)) ∷ []) s (Sets s r v) (Took c s (InRegister r) v)
-    (leads_8 c s r k there (place_reg r (place_is c.slots r good)) caller)
+    leads_as (leads_8 c s r k there (place_reg r (place_is c.slots r good)) caller)
     (λ u f h. took_register c s r v u good h)
 leads_from_stack c is s k (Slot i) there caller pointer good =
     let v : ℕ = number_at s.bytes (c.sp + 8 * (k - 8)) 8 in
-    leads_then (site c) (load_8 28 30 (8 * (k - 8)) ∷ []) (store_slot 28 (slot_offset c.layout i)) s (Sets s 28 v) (Took c s (Slot i) v)
-    (leads_8 c s 28 k there is_28 caller)
+    leads_on (leads_8 c s 28 k there is_28 caller)
     (λ u f one.
-    leads_so (site c) (store_slot 28 (slot_offset c.layout i)) u (Took c u (Slot i) (u.registers 28)) (Took c s (Slot i) v)
-    (leads_into_slot c is u 28 i is_28 (λ e. absurd (omega (arith, e))) (one.others 2 (λ e. absurd (omega (arith, e))) ∙ pointer) good)
+    leads_as (leads_into_slot c is u 28 i is_28 (λ e. absurd (omega (arith, e))) (one.others 2 (λ e. absurd (omega (arith, e))) ∙ pointer) good)
     (λ w g two. took_from u w one two))
   where
     took_from : (u w : State) → Sets s 28 (number_at s.bytes (c.sp + 8 * (k - 8)) 8) u → Took c u (Slot i) (u.registers 28) w
@@ -313,13 +298,9 @@ leads_one : (c : Setting) → IsSetting c → (params from : ℕ) (test : ℕ �
     → Leads (site c) (if test k p then argument_items c.layout k p else []) s (One c params from test k p s)
 leads_one c is params from test group k p s below few fits good may entering = by_test (test k p) refl
   where
-    two_ways : test k p ≡ false → test k p ≡ true → ⊥
-    two_ways e d = let no : ⊥ = cc in no
-
     by_test : (t : Bool) → test k p ≡ t → Leads (site c) (if t then argument_items c.layout k p else []) s (One c params from test k p s)
     by_test true e =
-        leads_so (site c) (argument_items c.layout k p) s (Took c s p (argument_in c s k)) (One c params from test k p s)
-        (leads_argument c is params from k p nothing s below few fits entering good)
+        leads_as (leads_argument c is params from k p nothing s below few fits entering good)
         (λ u f took.
         let h = holding c is params from s p (argument_in c s k) u good may (group.away k p e) entering took in
         record {
@@ -329,7 +310,7 @@ leads_one c is params from test group k p s below few fits good may entering = b
         })
     by_test false e =
         leads_nowhere (site c) s (One c params from test k p s)
-        (record { entering = entering; value = λ d. absurd (two_ways e d); kept = λ q g other. refl })
+        (record { entering = entering; value = λ d. absurd (both_ways (test k p) e d); kept = λ q g other. refl })
 
 place_of : (slots : ℕ) (ds : List (Destination Location)) (i : ℕ) (d : Destination Location) → list_all (λ (e : Destination Location). is_place slots e.place) ds ≡ true
     → slice_get ds i ≡ Some d → is_place slots d.place ≡ true
@@ -342,9 +323,6 @@ place_of slots (x ∷ ds) zero d h e =
     same a b e = cc
 place_of slots (x ∷ ds) (suc i) d h e =
     place_of slots ds i d (and_parts (is_place slots x.place) (list_all (λ (y : Destination Location). is_place slots y.place) ds) h).1 e
-
-no_more : (k : ℕ) → k ≡ k + zero
-no_more k = omega arith
 
 -- the first of them, and the others
 group_values : (c : Setting) (params from : ℕ) (test : ℕ → Location → Bool) (k : ℕ) (d : Destination Location) (ds : List (Destination Location)) (s u w : State)
@@ -371,12 +349,9 @@ leads_group c is params from test group k [] s can apart entering =
 leads_group c is params from test group k (d ∷ ds) s can apart entering =
     let count = can.count in
     let good = (and_parts (is_place c.slots d.place) (list_all (λ (e : Destination Location). is_place c.slots e.place) ds) can.places).0 in
-    leads_then (site c) (if test k d.place then argument_items c.layout k d.place else []) (arguments_items c.layout test (k + 1) ds) s
-    (One c params from test k d.place s) (Group c params from test k (d ∷ ds) s)
-    (leads_one c is params from test group k d.place s (omega (arith, count)) can.few can.fits good can.may.0 entering)
+    leads_on (leads_one c is params from test group k d.place s (omega (arith, count)) can.few can.fits good can.may.0 entering)
     (λ u f one.
-    leads_so (site c) (arguments_items c.layout test (k + 1) ds) u (Group c params from test (k + 1) ds u) (Group c params from test k (d ∷ ds) s)
-    (leads_group c is params from test group (k + 1) ds u (can_take_more c params k d ds can) (apart_more d ds apart) one.entering)
+    leads_as (leads_group c is params from test group (k + 1) ds u (can_take_more c params k d ds can) (apart_more d ds apart) one.entering)
     (λ w g two. record {
       entering = two.entering;
       values = group_values c params from test k d ds s u w good apart one two;
@@ -522,13 +497,7 @@ none_has : (d : Destination Location) (ds : List (Destination Location)) (i : �
 none_has d [] i e h is = absurd (let no : ⊥ = cc in no)
 none_has d (x ∷ ds) zero e h is =
     let parts = neither_holds (same_location d.place x.place) (list_any (λ (y : Destination Location). located.same d.place y.place) ds) h in
-    λ g. absurd (two_ways (same_location d.place x.place) parts.0 (same_back d.place x.place (g ∙ ap (λ (y : Destination Location). y.place) (sym (same x e is)))))
-  where
-    same : (a b : Destination Location) → Some a ≡ Some b → a ≡ b
-    same a b e = cc
-
-    two_ways : (b : Bool) → b ≡ false → b ≡ true → ⊥
-    two_ways b f g = let no : ⊥ = cc in no
+    λ g. absurd (both_ways (same_location d.place x.place) parts.0 (same_back d.place x.place (g ∙ ap (λ (y : Destination Location). y.place) (sym (same_Some x e is)))))
 none_has d (x ∷ ds) (suc i) e h is =
     none_has d ds i e (neither_holds (same_location d.place x.place) (list_any (λ (y : Destination Location). located.same d.place y.place) ds) h).1 is
 
@@ -602,8 +571,7 @@ leads_caller_pointer c is s pointer =
     let below = is.below in
     let top = is.world.small in
     let sum : (u.registers 30 + u.registers 2) % 2 ^ 64 ≡ c.sp = omega (arith, held_30, held_2, above, below, top) in
-    leads_so (site c) (sum_to 30 30 2 ∷ []) u (Sets u 30 ((u.registers 30 + u.registers 2) % 2 ^ 64)) (Sets u 30 c.sp)
-    (leads_sum (site c) u 30 30 2 is_30 is_30 is_2)
+    leads_as (leads_sum (site c) u 30 30 2 is_30 is_30 is_2)
     (λ t g two. record { value = two.value ∙ sum; others = two.others; bytes = two.bytes; output = two.output }))
 
 has_pointer : (c : Setting) (params : ℕ) (numbers : Numbers) (s u : State) → Entering c 0 0 numbers s → Sets s 30 c.sp u → Entering c params 0 numbers u
@@ -631,8 +599,7 @@ leads_pointer c is params numbers s entering = by_test (nat_lt 8 params) refl
   where
     by_test : (t : Bool) → nat_lt 8 params ≡ t → Leads (site c) (if t then caller_pointer c.layout else []) s (Entering c params 0 numbers)
     by_test true e =
-        leads_so (site c) (caller_pointer c.layout) s (Sets s 30 c.sp) (Entering c params 0 numbers)
-        (leads_caller_pointer c is s entering.framed.pointer)
+        leads_as (leads_caller_pointer c is s entering.framed.pointer)
         (λ u f h. has_pointer c params numbers s u entering h)
     by_test false e = leads_nowhere (site c) s (Entering c params 0 numbers) (needs_none c params numbers s (grind (arith, nat_tests)) entering)
 
@@ -646,19 +613,13 @@ leads_entry c is params xs s can distinct passed entering =
     let apart = all_apart params distinct in
     let all : List (Argument Location) = sources 8 0 params in
     let done : State → Type 0 = Entering c n 8 (bound nothing params xs) in
-    leads_then (site c) (pointer_items c.layout n) (arguments_items c.layout goes_away 0 params ++ (passed_items c.layout all ++ arguments_items c.layout is_on_stack 0 params)) s
-    (Entering c n 0 nothing) done
-    (leads_pointer c is n nothing s entering)
+    leads_on (leads_pointer c is n nothing s entering)
     (λ r f zeroth.
-    leads_then (site c) (arguments_items c.layout goes_away 0 params) (passed_items c.layout all ++ arguments_items c.layout is_on_stack 0 params) r
-    (Group c n 0 goes_away 0 params r) done
-    (leads_group c is n 0 goes_away goes_away_group 0 params r can apart zeroth)
+    leads_on (leads_group c is n 0 goes_away goes_away_group 0 params r can apart zeroth)
     (λ t g one.
-    leads_then (site c) (passed_items c.layout all) (arguments_items c.layout is_on_stack 0 params) t (InRegisters c t all) done
-    (leads_passed c is t all one.entering.framed.pointer (sources_stand c.slots 8 0 params (lit≤ tt)))
+    leads_on (leads_passed c is t all one.entering.framed.pointer (sources_stand c.slots 8 0 params (lit≤ tt)))
     (λ u h two.
-    leads_so (site c) (arguments_items c.layout is_on_stack 0 params) u (Group c n 8 is_on_stack 0 params u) done
-    (leads_group c is n 8 is_on_stack on_stack_group 0 params u can apart (entering_moved c is n all t u one.entering two))
+    leads_as (leads_group c is n 8 is_on_stack on_stack_group 0 params u can apart (entering_moved c is n all t u one.entering two))
     (λ w i three.
     let hold = all_hold c is n params r t u w can.places apart one two three in
     record {

@@ -1,28 +1,20 @@
 -- What the begin and the end of a frame do.
 use Rattle.std.proofs.Common.{◌≡◌, ◌≢◌, ℕ, zero, suc, ◌+◌, ◌-◌, ◌*◌, ◌%◌, ◌^◌, ◌<◌, ◌≤◌, Bool, true, false, List, [], ◌∷◌, ◌++◌, refl, sym, ◌∙◌, ap, subst, arith, lit<}
 use Rattle.std.specs.Prelude.{◌||◌, ◌&&◌, not, nat_eq, nat_lt, if◌then◌else◌, slice_get, length, Some, Ok}
-use Rattle.std.specs.List.{list_all}
-use Rattle.std.proofs.lemmas.Bool.{and_parts, eqb-true, not-true, eqb-false, or_parts}
-use Rattle.std.proofs.lemmas.Bool.Decides.{nat_tests}
-use Rattle.rv_isa.specs.State.{State}
-use Rattle.rv_isa.specs.Memory.{number_at}
+use Rattle.abi_frames.proofs.Shared.{State, Item, list_all, and_parts, eqb-true, not-true, eqb-false, or_parts, longest_size, not_both, same_Some, all_at, nat_tests, number_at, moved, Comes, low}
 use Rattle.rv_isa.specs.Step.{act, jump, even_below}
-use Rattle.rv_isa.specs.Arithmetic.{moved}
-use Rattle.rv_isa.specs.Runs.{Comes}
-use Rattle.rv_isa.specs.Labels.{longest_size}
 use Rattle.rv_isa.specs.Labelled.{Fixed, Stand, Stands}
 use Rattle.rv_isa.specs.declared.instruction.Instr.TheVariants.{Jalr}
-use Rattle.rv_isa.specs.declared.labelled.Item.{Item}
 use Rattle.rv_isa.proofs.MemoryLemmas.{number_same, stored_below, stored_above, read_back}
 use Rattle.rv_isa.proofs.RunLemmas.{comes_by_step, comes_then}
 use Rattle.vcode.specs.Cost.{is_immediate}
 use Rattle.abi_frames.specs.Calls.{is_kept}
-use Rattle.vcode.specs.Addresses.{low}
-use Rattle.operation_code.specs.Fields.{reg, add_low, sum_to, load_8, store_8}
+use Rattle.operation_code.specs.Fields.{reg, add_low, sum_to}
 use Rattle.operation_code.specs.Constants.{constant}
 use Rattle.abi_frames.specs.Emission.{move_pointer, lower_pointer, raise_pointer, save_all, restore_all, go_back, epilogue}
 use Rattle.operation_code.proofs.ConstantNumbers.{immediate_adds, near_moves}
-use Rattle.operation_code.proofs.Leading.{Site, StandAt, Leads, leads_nowhere, leads_then, leads_so, leads_fixed, longest-append, stepped, Sets, IsReg, register_reg}
+use Rattle.operation_code.proofs.Leading.{Site, StandAt, Leads, leads_nowhere, longest-append, stepped, Sets, IsReg, register_reg}
+use Rattle.abi_frames.proofs.Leads.{leads_on, leads_as, leads_where}
 use Rattle.abi_frames.proofs.StackAccesses.{Writes, leads_load, leads_store, near_address, is_2, is_28}
 use Rattle.operation_code.proofs.Instructions.{leads_add_low, leads_sum, leads_constant}
 use Rattle.abi_frames.proofs.Activations.{Setting, IsSetting, site, bottom, save_at, in_frame, can_save, is_among, is_held, held_below}
@@ -42,15 +34,12 @@ leads_move_pointer c s n = by_test (is_immediate n) refl
     by_test : (b : Bool) → is_immediate n ≡ b
         → Leads c (if b then add_low 2 2 n ∷ [] else constant 28 n ++ (sum_to 2 2 28 ∷ [])) s (PointerMoved s ((s.registers 2 + n) % 2 ^ 64))
     by_test true e =
-        leads_so c (add_low 2 2 n ∷ []) s (Sets s 2 ((s.registers 2 + n) % 2 ^ 64)) (PointerMoved s ((s.registers 2 + n) % 2 ^ 64))
-        (leads_add_low c s 2 2 n (s.registers 2) ((s.registers 2 + n) % 2 ^ 64) is_2 (register_reg s 2 is_2) (immediate_adds (s.registers 2) n e))
+        leads_as (leads_add_low c s 2 2 n (s.registers 2) ((s.registers 2 + n) % 2 ^ 64) is_2 (register_reg s 2 is_2) (immediate_adds (s.registers 2) n e))
         (λ u f h. record { value = h.value; others = λ m lo other. h.others m other; bytes = h.bytes; output = h.output })
     by_test false e =
-        leads_then c (constant 28 n) (sum_to 2 2 28 ∷ []) s (Sets s 28 (n % 2 ^ 64)) (PointerMoved s ((s.registers 2 + n) % 2 ^ 64))
-        (leads_constant c s 28 n is_28)
+        leads_on (leads_constant c s 28 n is_28)
         (λ u f one.
-        leads_so c (sum_to 2 2 28 ∷ []) u (Sets u 2 ((u.registers 2 + u.registers 28) % 2 ^ 64)) (PointerMoved s ((s.registers 2 + n) % 2 ^ 64))
-        (leads_sum c u 2 2 28 is_2 is_2 is_28)
+        leads_as (leads_sum c u 2 2 28 is_2 is_2 is_28)
         (λ t g two.
         let held = one.value in
         let same : u.registers 2 ≡ s.registers 2 = one.others 2 (λ e. absurd (omega (arith, e))) in
@@ -65,30 +54,23 @@ leads_move_pointer c s n = by_test (is_immediate n) refl
 same_pointer : (c : Site) (s : State) (v : ℕ) → s.registers 2 ≡ v → Leads c [] s (PointerMoved s v)
 same_pointer c s v e = leads_nowhere c s (PointerMoved s v) (record { value = e; others = λ m lo other. refl; bytes = refl; output = refl })
 
-pub leads_lower : (c : Site) (s : State) (size : ℕ) → Leads c (lower_pointer size) s (PointerMoved s ((s.registers 2 + (2 ^ 64 - size)) % 2 ^ 64))
-leads_lower c s size = by_test (nat_eq size 0) refl
+-- by nothing where the frame is empty
+leads_moved : (c : Site) (s : State) (size n : ℕ) → (size ≡ 0 → n % 2 ^ 64 ≡ 0)
+    → Leads c (if nat_eq size 0 then [] else move_pointer n) s (PointerMoved s ((s.registers 2 + n) % 2 ^ 64))
+leads_moved c s size n none = by_test (nat_eq size 0) refl
   where
-    none : (x n : ℕ) → x < 2 ^ 64 → n ≡ 0 → x ≡ (x + (2 ^ 64 - n)) % 2 ^ 64
-    none x n h e = omega (arith, h, e)
+    same : (x m : ℕ) → x < 2 ^ 64 → m % 2 ^ 64 ≡ 0 → x ≡ (x + m) % 2 ^ 64
+    same x m h e = omega (arith, h, e)
 
-    by_test : (b : Bool) → nat_eq size 0 ≡ b
-        → Leads c (if b then [] else move_pointer (2 ^ 64 - size)) s (PointerMoved s ((s.registers 2 + (2 ^ 64 - size)) % 2 ^ 64))
-    by_test true e =
-        leads_fixed c [] s (PointerMoved s ((s.registers 2 + (2 ^ 64 - size)) % 2 ^ 64))
-        (λ fixed. same_pointer c s ((s.registers 2 + (2 ^ 64 - size)) % 2 ^ 64) (none (s.registers 2) size (fixed.words 2) (eqb-true size 0 e)))
-    by_test false e = leads_move_pointer c s (2 ^ 64 - size)
+    by_test : (b : Bool) → nat_eq size 0 ≡ b → Leads c (if b then [] else move_pointer n) s (PointerMoved s ((s.registers 2 + n) % 2 ^ 64))
+    by_test true e = leads_where (λ fixed. same_pointer c s ((s.registers 2 + n) % 2 ^ 64) (same (s.registers 2) n (fixed.words 2) (none (eqb-true size 0 e))))
+    by_test false e = leads_move_pointer c s n
+
+pub leads_lower : (c : Site) (s : State) (size : ℕ) → Leads c (lower_pointer size) s (PointerMoved s ((s.registers 2 + (2 ^ 64 - size)) % 2 ^ 64))
+leads_lower c s size = leads_moved c s size (2 ^ 64 - size) (λ e. omega (arith, e))
 
 leads_raise : (c : Site) (s : State) (size : ℕ) → Leads c (raise_pointer size) s (PointerMoved s ((s.registers 2 + size) % 2 ^ 64))
-leads_raise c s size = by_test (nat_eq size 0) refl
-  where
-    none : (x n : ℕ) → x < 2 ^ 64 → n ≡ 0 → x ≡ (x + n) % 2 ^ 64
-    none x n h e = omega (arith, h, e)
-
-    by_test : (b : Bool) → nat_eq size 0 ≡ b → Leads c (if b then [] else move_pointer size) s (PointerMoved s ((s.registers 2 + size) % 2 ^ 64))
-    by_test true e =
-        leads_fixed c [] s (PointerMoved s ((s.registers 2 + size) % 2 ^ 64))
-        (λ fixed. same_pointer c s ((s.registers 2 + size) % 2 ^ 64) (none (s.registers 2) size (fixed.words 2) (eqb-true size 0 e)))
-    by_test false e = leads_move_pointer c s size
+leads_raise c s size = leads_moved c s size size (λ e. omega (arith, e))
 
 -- ---- saved registers
 
@@ -127,23 +109,12 @@ saved_more c o r rs s u w small good one rest zero q e =
     let place : bottom c + (o + 8 * zero) ≡ bottom c + o = omega arith in
     let first : number_at w.bytes (bottom c + (o + 8 * zero)) 8 ≡ number_at u.bytes (bottom c + o) 8 =
     ap (λ a. number_at w.bytes a 8) place ∙ number_same w.bytes u.bytes (bottom c + o) 8 (λ x lo hi. rest.below x (omega (arith, hi))) in
-    let same : r ≡ q = some_is r q e in
+    let same : r ≡ q = same_Some r q e in
     first ∙ (ap (λ (m : ℕ → ℕ). number_at m (bottom c + o) 8) one.bytes ∙ (read_back s.bytes (bottom c + o) 8 (s.registers r) small ∙ ap s.registers same))
-  where
-    some_is : (a b : ℕ) → Some a ≡ Some b → a ≡ b
-    some_is a b h = cc
 saved_more c o r rs s u w small good one rest (suc k) q e =
     let place : bottom c + (o + 8 * suc k) ≡ bottom c + (o + 8 + 8 * k) = omega arith in
-    let low = (savable q (each rs k good e)).below in
+    let low = (savable q (all_at can_save rs k q good e)).below in
     ap (λ a. number_at w.bytes a 8) place ∙ (rest.saved k q e ∙ one.registers q (λ h. absurd (omega (arith, h, low))))
-  where
-    some_is : (a b : ℕ) → Some a ≡ Some b → a ≡ b
-    some_is a b h = cc
-
-    each : (xs : List ℕ) (i : ℕ) → list_all can_save xs ≡ true → slice_get xs i ≡ Some q → can_save q ≡ true
-    each [] i h f = absurd (let no : ⊥ = cc in no)
-    each (x ∷ xs) zero h f = ap can_save (sym (some_is x q f)) ∙ (and_parts (can_save x) (list_all can_save xs) h).0
-    each (x ∷ xs) (suc i) h f = each xs i (and_parts (can_save x) (list_all can_save xs) h).1 f
 
 pub leads_save_all : (c : Setting) → IsSetting c → (s : State) (o : ℕ) (rs : List ℕ) → s.registers 2 ≡ bottom c → list_all can_save rs ≡ true
     → o + 8 * length rs ≤ c.layout.slots → Leads (site c) (save_all o rs) s (AllSaved c o rs s)
@@ -156,13 +127,11 @@ leads_save_all c is s o (r ∷ rs) pointer good h =
     let fits = is.fits in
     let near = is.slots_near in
     let inside = in_frame c is o (omega (arith, h, fits)) in
-    leads_fixed (site c) (save_all o (r ∷ rs)) s (AllSaved c o (r ∷ rs) s)
-    (λ fixed.
-    leads_then (site c) (store_8 r 2 o ∷ []) (save_all (o + 8) rs) s (Writes s (bottom c + o) (s.registers r)) (AllSaved c o (r ∷ rs) s)
+    leads_where (λ fixed.
+    leads_on
     (leads_store (site c) s r 2 o (bottom c + o) ok.reg is_2 fixed (near_address (s.registers 2) (bottom c) o pointer (omega (arith, h, near)) inside.small) inside.usable)
     (λ u f one.
-    leads_so (site c) (save_all (o + 8) rs) u (AllSaved c (o + 8) rs u) (AllSaved c o (r ∷ rs) s)
-    (leads_save_all c is u (o + 8) rs (one.registers 2 (λ e. absurd (omega (arith, e))) ∙ pointer) parts.1 (omega (arith, h)))
+    leads_as (leads_save_all c is u (o + 8) rs (one.registers 2 (λ e. absurd (omega (arith, e))) ∙ pointer) parts.1 (omega (arith, h)))
     (λ w g rest. record {
       saved = saved_more c o r rs s u w (fixed.words r) parts.1 one rest;
       below = λ x lo.
@@ -206,15 +175,13 @@ leads_restore_all c is s o (r ∷ rs) pointer good h held =
     let fits = is.fits in
     let near = is.slots_near in
     let inside = in_frame c is o (omega (arith, h, fits)) in
-    leads_fixed (site c) (restore_all o (r ∷ rs)) s (AllRestored c (r ∷ rs) s)
-    (λ fixed.
-    leads_then (site c) (load_8 r 2 o ∷ []) (restore_all (o + 8) rs) s (Sets s r (number_at s.bytes (bottom c + o) 8)) (AllRestored c (r ∷ rs) s)
+    leads_where (λ fixed.
+    leads_on
     (leads_load (site c) s r 2 o (bottom c + o) ok.reg is_2 fixed (near_address (s.registers 2) (bottom c) o pointer (omega (arith, h, near)) inside.small) inside.usable)
     (λ u f one.
     let here : bottom c + o ≡ bottom c + (o + 8 * zero) = omega arith in
     let set : Sets s r (c.start.registers r) u = record { value = one.value ∙ (ap (λ a. number_at s.bytes a 8) here ∙ held zero r refl); others = one.others; bytes = one.bytes; output = one.output } in
-    leads_so (site c) (restore_all (o + 8) rs) u (AllRestored c rs u) (AllRestored c (r ∷ rs) s)
-    (leads_restore_all c is u (o + 8) rs (one.others 2 (λ e. ok.not_pointer (sym e)) ∙ pointer) parts.1 (omega (arith, h))
+    leads_as (leads_restore_all c is u (o + 8) rs (one.others 2 (λ e. ok.not_pointer (sym e)) ∙ pointer) parts.1 (omega (arith, h))
     (λ k q e.
     let place : bottom c + (o + 8 + 8 * k) ≡ bottom c + (o + 8 * suc k) = omega arith in
     ap (λ (m : ℕ → ℕ). number_at m (bottom c + (o + 8 + 8 * k)) 8) one.bytes ∙ (ap (λ a. number_at s.bytes a 8) place ∙ held (suc k) q e)))
@@ -242,9 +209,9 @@ pub record Lands (c : Site) (most : ℕ) (s : State) (P : State → Type 0) : Ty
 pub record Ends (c : Site) (is : List Item) (s : State) (P : State → Type 0) : Type 0 where
   pub from : (rest : List Item) → StandAt c (is ++ rest) s.pc → Fixed c.ground s → Lands c (longest_size is) s P
 
-pub ends_then : (c : Site) (is js : List Item) (s : State) (P Q : State → Type 0) → Leads c is s P
+pub ends_then : {c : Site} {is js : List Item} {s : State} {P Q : State → Type 0} → Leads c is s P
     → ((u : State) → Fixed c.ground u → P u → Ends c js u Q) → Ends c (is ++ js) s Q
-ends_then c is js s P Q first second = record {
+ends_then {c} {is} {js} {s} first second = record {
   from = λ rest stands fixed.
       let one = first.from (js ++ rest) (subst (λ l. StandAt c l s.pc) (append_assoc is js rest) stands) fixed in
       let two = (second one.after one.fixed one.holds).from rest one.stands one.fixed in
@@ -262,6 +229,16 @@ ends_then c is js s P Q first second = record {
         holds = two.holds;
       };
 }
+
+pub ends_so : {c : Site} {is : List Item} {s : State} {P Q : State → Type 0} → Ends c is s P → ((t : State) → P t → Q t) → Ends c is s Q
+ends_so first so = record {
+  from = λ rest stands fixed.
+      let one = first.from rest stands fixed in
+      record { steps = one.steps; after = one.after; comes = one.comes; some = one.some; few = one.few; fixed = one.fixed; holds = so one.after one.holds };
+}
+
+pub kept_held : (n : ℕ) → is_kept n ≡ true → is_held n ≡ true
+kept_held n k = grind (arith, nat_tests)
 
 -- ---- the return
 
@@ -316,11 +293,8 @@ not_among n (r ∷ rs) never good =
     let parts = and_parts (can_save r) (list_all can_save rs) good in
     by_test parts.0 (not_among n rs never parts.1) (nat_eq n r) refl
   where
-    two_ways : (b : Bool) → b ≡ true → b ≡ false → ⊥
-    two_ways b e d = cc
-
     by_test : can_save r ≡ true → is_among n rs ≡ false → (b : Bool) → nat_eq n r ≡ b → (b || is_among n rs) ≡ false
-    by_test one rest true e = absurd (two_ways (can_save n) (ap can_save (eqb-true n r e) ∙ one) never)
+    by_test one rest true e = absurd (not_both (can_save n) (ap can_save (eqb-true n r e) ∙ one) never)
     by_test one rest false e = rest
 
 sum_back : (b n : ℕ) → b + n < 2 ^ 64 → (b + n) % 2 ^ 64 ≡ b + n
@@ -337,16 +311,14 @@ ends_frame c is s pointer start aligned held thread =
     let below = is.below in
     let top = is.world.small in
     let size : ℕ = c.layout.size in
-    ends_then (site c) (restore_all c.layout.saves c.saved) (raise_pointer size ++ (go_back ∷ [])) s (AllRestored c c.saved s) (Left c s)
-    (leads_restore_all c is s c.layout.saves c.saved pointer is.savable saves held)
+    ends_then (leads_restore_all c is s c.layout.saves c.saved pointer is.savable saves held)
     (λ u f one.
     let at_u : u.registers 2 ≡ bottom c = one.others 2 (not_among 2 c.saved refl is.savable) ∙ pointer in
-    ends_then (site c) (raise_pointer size) (go_back ∷ []) u (PointerMoved u ((u.registers 2 + size) % 2 ^ 64)) (Left c s)
-    (leads_raise (site c) u size)
+    ends_then (leads_raise (site c) u size)
     (λ w g two.
     let address : w.registers 1 ≡ c.start.registers 1 = two.others 1 (lit< tt) (λ e. absurd (omega (arith, e))) ∙ address_by u one (is_among 1 c.saved) refl in
     let back : (u.registers 2 + size) % 2 ^ 64 ≡ c.sp = omega (arith, at_u, above, below, top) in
-    ends_so (go_back ∷ []) w (Jumped w (c.start.registers 1)) (Left c s) (ends_go_back (site c) w (c.start.registers 1) address aligned)
+    ends_so (ends_go_back (site c) w (c.start.registers 1) address aligned)
     (λ t three.
     let same : (n : ℕ) → n < 28 → n ≢ 2 → t.registers n ≡ u.registers n = λ n lo other. three.registers n lo ∙ two.others n lo other in
     record {
@@ -357,20 +329,10 @@ ends_frame c is s pointer start aligned held thread =
       output = three.output ∙ (two.output ∙ one.output);
     })))
   where
-    ends_so : (js : List Item) (w : State) (P Q : State → Type 0) → Ends (site c) js w P → ((t : State) → P t → Q t) → Ends (site c) js w Q
-    ends_so js w P Q first so = record {
-      from = λ rest stands fixed.
-          let one = first.from rest stands fixed in
-          record { steps = one.steps; after = one.after; comes = one.comes; some = one.some; few = one.few; fixed = one.fixed; holds = so one.after one.holds };
-    }
-
     -- the return address was saved, or stayed where it is
     address_by : (u : State) → AllRestored c c.saved s u → (b : Bool) → is_among 1 c.saved ≡ b → u.registers 1 ≡ c.start.registers 1
     address_by u one true e = one.gains 1 e
     address_by u one false e = one.others 1 e ∙ thread 1 refl (λ d. absurd (omega (arith, d))) e
-
-    kept_held : (n : ℕ) → is_kept n ≡ true → is_held n ≡ true
-    kept_held n k = grind (arith, nat_tests)
 
     -- a kept register is the stack pointer, or saved, or as it was all the time
     kept_by : (u t : State) → AllRestored c c.saved s u → ((n : ℕ) → n < 28 → n ≢ 2 → t.registers n ≡ u.registers n)

@@ -1,28 +1,15 @@
 -- What the code of jumps does.
-use Rattle.std.proofs.Common.{◌≡◌, ℕ, ◌+◌, ◌≤◌, Bool, true, false, List, [], ◌∷◌, ◌++◌, refl, sym, ◌∙◌, ap, subst, arith, lit<, append_assoc}
+use Rattle.std.proofs.Common.{lit≤, ◌≡◌, ℕ, ◌+◌, ◌≤◌, Bool, true, false, List, [], ◌∷◌, ◌++◌, refl, sym, ◌∙◌, ap, subst, arith, lit<, append_assoc}
 use Rattle.std.specs.Prelude.{◌&&◌, not, nat_eq, if◌then◌else◌, Some}
-use Rattle.il_ast.specs.declared.operation.Class.{Class}
-use Rattle.il_ast.specs.declared.operation.Condition.{Condition}
+use Rattle.abi_frames.proofs.Shared.{Class, Condition, L, State, Item, Label, Location, ReturnValue, Operation, Comparison, Layout, longest_size, and_parts, eqb-true, Comes, is_place, operand_keeps}
 use Rattle.il_ast.specs.Operations.{holds}
-use Rattle.il_ast.specs.declared.operation.Class.TheVariants.{L}
-use Rattle.rv_isa.specs.State.{State}
 use Rattle.rv_isa.specs.Labelled.{Ground, Fixed, Stand, Stands, Moves}
-use Rattle.rv_isa.specs.declared.labelled.Item.{Item}
-use Rattle.rv_isa.specs.declared.labelled.Item.TheVariants.{Label, Goto as GoTo}
+use Rattle.rv_isa.specs.declared.labelled.Item.TheVariants.{Goto as GoTo}
 use Rattle.rv_isa.proofs.RunLemmas.{comes_here, comes_then}
-use Rattle.rv_isa.specs.Runs.{Comes}
-use Rattle.rv_isa.specs.Labels.{longest_size}
-use Rattle.std.proofs.lemmas.Bool.{and_parts, eqb-true}
-use Rattle.vcode.specs.declared.place.Location.{Location}
-use Rattle.vcode.specs.declared.place.ReturnValue.{ReturnValue}
-use Rattle.vcode.specs.declared.line.Operation.{Operation}
 use Rattle.vcode.specs.declared.line.Operation.TheVariants.{Compare}
-use Rattle.vcode.specs.declared.line.Comparison.{Comparison}
-use Rattle.vcode.specs.Named.{is_place, operand_keeps}
 use Rattle.flat_code.specs.Step.{taken as taken_as}
 use Rattle.abi_frames.specs.Calls.{passed}
 use Rattle.abi_frames.specs.Emission.{passed_class, operand_into, operand_source, goto_items, branch_when, inverted, ways_items, branch_items, result_items}
-use Rattle.abi_frames.specs.declared.layout.Layout.{Layout}
 use Rattle.operation_code.proofs.Leading.{Site, StandAt, Leads, longest-append, Sets, in_register, same_in_register}
 use Rattle.abi_frames.proofs.StackAccesses.{is_10, is_28, is_29}
 use Rattle.operation_code.proofs.Forms.{as_read}
@@ -90,28 +77,29 @@ jumps_so c falls next is s l m P Q same so first = record {
 pub moved_scratched : (g : Ground) (most to : ℕ) (s : State) → (m : Moves g most to s) → Scratched s m.after
 moved_scratched g most to s m = record { registers = λ n lo. m.registers n (λ e. absurd (omega (arith, e, lo))); bytes = m.bytes; output = m.output }
 
+-- by one instruction at least
+by_moves : (c : Site) (t : Bool) (next most few to l : ℕ) (s : State) → Moves c.ground few to s → few ≤ most → to ≡ c.label l → Arrives c t next most s l (Scratched s)
+by_moves c t next most few to l s m fits place =
+    let at_most = m.at_most in
+    let some = m.at_least_one in
+    record {
+      steps = m.count;
+      after = m.after;
+      comes = m.comes;
+      few = omega (arith, at_most, fits);
+      fell = λ e. absurd (omega (arith, e, some));
+      fixed = m.fixed;
+      place = m.place ∙ place;
+      holds = moved_scratched c.ground few to s m;
+    }
+
 -- to a label, where it stands next and where not
 pub jumps_goto : (c : Site) (y : Layout) (s : State) (next l : ℕ) → Jumps c y.falls next (goto_items y next l) s l (Scratched s)
 unfolding Stand Stands
 jumps_goto c y s next l = by_test y.falls refl (nat_eq l next) refl
   where
     by_jump : (t : Bool) → Jumps c t next (GoTo l ∷ []) s l (Scratched s)
-    by_jump t = record {
-      from = λ rest stands fixed.
-          let m = stands.1 s fixed refl in
-          let few = m.at_most in
-          let some = m.at_least_one in
-          record {
-            steps = m.count;
-            after = m.after;
-            comes = m.comes;
-            few = omega (arith, few);
-            fell = λ e. absurd (omega (arith, e, some));
-            fixed = m.fixed;
-            place = m.place;
-            holds = moved_scratched c.ground 2 (c.label l) s m;
-          };
-    }
+    by_jump t = record { from = λ rest stands fixed. by_moves c t next 2 2 (c.label l) l s (stands.1 s fixed refl) (lit≤ tt) refl }
 
     by_test : (t : Bool) → y.falls ≡ t → (b : Bool) → nat_eq l next ≡ b → Jumps c t next (if t && b then [] else GoTo l ∷ []) s l (Scratched s)
     by_test true e true d = record {
@@ -151,30 +139,8 @@ jumps_round c t s next on x y met otherwise e = record {
   where
     by_test : (b : ℕ) → c.label next ≡ b → (z : Bool) → (m : Moves c.ground 3 (if not z then c.label otherwise else b) s)
         → Arrives c t next 3 s (if z then met else otherwise) (Scratched s)
-    by_test b place false m =
-        let some = m.at_least_one in
-        record {
-          steps = m.count;
-          after = m.after;
-          comes = m.comes;
-          few = m.at_most;
-          fell = λ d. absurd (omega (arith, d, some));
-          fixed = m.fixed;
-          place = m.place;
-          holds = moved_scratched c.ground 3 (c.label otherwise) s m;
-        }
-    by_test b place true m =
-        let some = m.at_least_one in
-        record {
-          steps = m.count;
-          after = m.after;
-          comes = m.comes;
-          few = m.at_most;
-          fell = λ d. absurd (omega (arith, d, some));
-          fixed = m.fixed;
-          place = m.place ∙ (sym place ∙ ap c.label (sym e));
-          holds = moved_scratched c.ground 3 b s m;
-        }
+    by_test b place false m = by_moves c t next 3 3 (c.label otherwise) otherwise s m (lit≤ tt) refl
+    by_test b place true m = by_moves c t next 3 3 b met s m (lit≤ tt) (sym place ∙ ap c.label (sym e))
 
 scratched_same : (s u w : State) → Scratched s u → Scratched u w → Scratched s w
 scratched_same s u w one two = record {
@@ -197,19 +163,7 @@ jumps_forth c y s next on v w met otherwise = record {
     by_test : (rest : List Item) (b : ℕ) → StandAt c (goto_items y next otherwise ++ (Label next ∷ rest)) b → (z : Bool)
         → (m : Moves c.ground 3 (if z then c.label met else b) s)
         → Arrives c y.falls next (3 + longest_size (goto_items y next otherwise)) s (if z then met else otherwise) (Scratched s)
-    by_test rest b stands true m =
-        let some = m.at_least_one in
-        let few = m.at_most in
-        record {
-          steps = m.count;
-          after = m.after;
-          comes = m.comes;
-          few = omega (arith, few);
-          fell = λ d. absurd (omega (arith, d, some));
-          fixed = m.fixed;
-          place = m.place;
-          holds = moved_scratched c.ground 3 (c.label met) s m;
-        }
+    by_test rest b stands true m = by_moves c y.falls next (3 + longest_size (goto_items y next otherwise)) 3 (c.label met) met s m (omega arith) refl
     by_test rest b stands false m =
         let some = m.at_least_one in
         let few = m.at_most in

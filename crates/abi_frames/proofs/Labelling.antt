@@ -1,29 +1,15 @@
 -- The labelled code of a function keeps the invariants of such code.
-use Rattle.std.proofs.Common.{suc, zero, ◌≡◌, ℕ, ◌+◌, ◌-◌, ◌^◌, ◌<◌, ◌≤◌, Bool, true, false, List, [], ◌∷◌, ◌++◌, refl, sym, ◌∙◌, subst, arith, lit≤, zero-add}
+use Rattle.std.proofs.Common.{suc, zero, ◌≡◌, ℕ, ◌+◌, ◌-◌, ◌^◌, ◌<◌, ◌≤◌, Bool, true, false, List, [], ◌∷◌, ◌++◌, refl, sym, subst, arith, lit≤, zero-add}
 use Rattle.std.specs.Prelude.{◌&&◌, not, nat_eq, nat_le, nat_lt, if◌then◌else◌, length, Option, Some, None}
-use Rattle.std.specs.List.{list_all}
-use Rattle.std.proofs.lemmas.Bool.{and_parts, and_from, leb-true, lt-ltb}
-use Rattle.std.proofs.lemmas.Bool.Decides.{nat_tests}
-use Rattle.std.proofs.lemmas.List.Folds.{list_all-append}
-use Rattle.il_ast.specs.declared.operation.Condition.{Condition}
-use Rattle.rv_isa.specs.Labels.{IsLabelled, times_labelled, has_label_below, longest_size}
+use Rattle.abi_frames.proofs.Shared.{Condition, Item, Plain, Label, Location, ReturnValue, Destination, Comparison, Jump, Block, Code, Layout, EarlyReturn, list_all, and_parts, and_from, leb-true, lt-ltb, all_append, longest_size, nat_tests}
+use Rattle.rv_isa.specs.Labels.{IsLabelled, times_labelled, has_label_below}
 use Rattle.rv_isa.specs.declared.instruction.Instr.TheVariants.{Ebreak}
-use Rattle.rv_isa.specs.declared.labelled.Item.{Item}
-use Rattle.rv_isa.specs.declared.labelled.Item.TheVariants.{Plain, Label, Branch as BranchTo, Goto as GoTo, Relocated}
-use Rattle.vcode.specs.declared.place.Location.{Location}
-use Rattle.vcode.specs.declared.place.ReturnValue.{ReturnValue}
-use Rattle.vcode.specs.declared.place.Destination.{Destination}
-use Rattle.vcode.specs.declared.line.Comparison.{Comparison}
-use Rattle.vcode.specs.declared.line.Jump.{Jump}
+use Rattle.rv_isa.specs.declared.labelled.Item.TheVariants.{Branch as BranchTo, Goto as GoTo, Relocated}
 use Rattle.vcode.specs.declared.line.Jump.TheVariants.{Goto, Branch, Return, Halt}
-use Rattle.vcode.specs.declared.code.Block.{Block}
-use Rattle.vcode.specs.declared.code.Code.{Code}
 use Rattle.vcode.specs.Regular.{leads_inside, is_target}
 use Rattle.abi_frames.specs.Layout.{layout, saved_registers}
-use Rattle.abi_frames.specs.declared.layout.Layout.{Layout}
-use Rattle.abi_frames.specs.Emission.{lines_items, raise_pointer, restore_all, go_back, prologue, epilogue, goto_items, branch_when, inverted, ways_items, branch_items, compared_source, leave_items, left_behind, copies_end, left_by_value, jump_items, end_items, blocks_items}
+use Rattle.abi_frames.specs.Emission.{lines_items, raise_pointer, restore_all, go_back, prologue, epilogue, goto_items, branch_when, inverted, ways_items, branch_items, compared_source, leave_items, left_behind, copies_end, left_by_value, jump_items, body_items, rows, blocks_items}
 use Rattle.abi_frames.specs.Functions.{entry_items, function_items}
-use Rattle.abi_frames.specs.declared.early.EarlyReturn.{EarlyReturn}
 use Rattle.abi_frames.specs.EarlyReturns.{no_frame, quick_label, begin_label, test_items, quick_items, early_items}
 use Rattle.abi_frames.specs.Laws.{IsCode}
 use Rattle.operation_code.proofs.Leading.{longest-append}
@@ -59,7 +45,7 @@ no_items {f = f} = record { labels = refl; once = λ l. omega arith }
 
 pub labelled_then : {n : ℕ} {f g : ℕ → ℕ} {is js : List Item} → Labelled n f is → Labelled n g js → Labelled n (λ l. f l + g l) (is ++ js)
 labelled_then {n = n} {is = is} {js = js} h k = record {
-  labels = list_all-append (has_label_below n) is js ∙ and_from (list_all (has_label_below n) is) (list_all (has_label_below n) js) h.labels k.labels;
+  labels = all_append (has_label_below n) is js h.labels k.labels;
   once = λ l. let all = times-append l is js in let a = h.once l in let b = k.once l in omega (arith, all, a, b);
 }
 
@@ -143,7 +129,7 @@ jump_labelled n y rs next left blocks Halt few leave more inside = alone_labelle
 
 -- the lines and the jump of a block
 pub body_labelled : (n : ℕ) (y : Layout) (rs : List ℕ) (blocks k : ℕ) (b : Block Location) → length rs ≤ 13 → y.leave < n → blocks < n → leads_inside blocks b.jump ≡ true
-    → Labelled n none (lines_items y 0 b.lines ++ end_items y rs k b)
+    → Labelled n none (body_items y rs k b)
 body_labelled n y rs blocks k b few leave more inside =
     plainly (alone_labelled n (lines_items y 0 b.lines) (lines_alone y 0 b.lines)) (jump_labelled n y rs (k + 1) (left_behind 0 b.lines) blocks b.jump few leave more inside)
 
@@ -156,14 +142,15 @@ one_more k l b blocks = subst (λ n. only k l + numbered (k + 1) (length blocks)
     step : (k n l : ℕ) → only k l + numbered (k + 1) n l ≤ numbered k (n + 1) l
     step k n l = grind (arith, nat_tests)
 
-blocks_labelled : (n : ℕ) (y : Layout) (rs : List ℕ) (all k : ℕ) (blocks : List (Block Location)) → length rs ≤ 13 → y.leave < n → all < n → k + length blocks ≤ all
-    → list_all (λ (b : Block Location). leads_inside all b.jump) blocks ≡ true → Labelled n (numbered k (length blocks)) (blocks_items y rs k blocks)
-blocks_labelled n y rs all k [] saved leave more few inside = no_items
-blocks_labelled n y rs all k (b ∷ blocks) saved leave more few inside =
+-- what is made of each block, behind its label
+pub rows_labelled : (n : ℕ) (body : ℕ → Block Location → List Item) (all k : ℕ) (blocks : List (Block Location)) → k + length blocks ≤ n
+    → list_all (λ (b : Block Location). leads_inside all b.jump) blocks ≡ true
+    → ((i : ℕ) (b : Block Location) → leads_inside all b.jump ≡ true → Labelled n none (body i b)) → Labelled n (numbered k (length blocks)) (rows (λ l. l) body k blocks)
+rows_labelled n body all k [] few inside each = no_items
+rows_labelled n body all k (b ∷ blocks) few inside each =
     let parts = and_parts (leads_inside all b.jump) (list_all (λ (d : Block Location). leads_inside all d.jump) blocks) inside in
     at_most (λ l. one_more k l b blocks)
-    (labelled_then (label_then (omega (arith, few, more)) (body_labelled n y rs all k b saved leave more parts.0))
-    (blocks_labelled n y rs all (k + 1) blocks saved leave more (omega (arith, few)) parts.1))
+    (labelled_then (label_then {is = body k b} (omega (arith, few)) (each k b parts.0)) (rows_labelled n body all (k + 1) blocks (omega (arith, few)) parts.1 each))
 
 -- ---- functions
 
@@ -195,7 +182,9 @@ itself_labelled m f slots is low =
     let y : Layout = layout f slots in
     plainly (prologue_labelled m f y)
     (plainly (entry_labelled m f slots y is (slots_near f is.regular))
-    (labelled_then (blocks_labelled m y (saved_registers f) (length f.blocks) 0 f.blocks (few_saved_registers f) low low (omega arith) is.regular.inside)
+    (labelled_then
+    (rows_labelled m (body_items y (saved_registers f)) (length f.blocks) 0 f.blocks (omega (arith, low)) is.regular.inside
+    (λ i b inside. body_labelled m y (saved_registers f) (length f.blocks) i b (few_saved_registers f) low low inside))
     (label_then low (epilogue_labelled m f y))))
 
 some_function : (y : Layout) (rs : List ℕ) (params : List (Destination Location)) (blocks : List (Block Location)) → 0 < longest_size (function_items y rs params blocks)

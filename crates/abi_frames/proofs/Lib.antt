@@ -1,3 +1,5 @@
+pub mod Shared
+pub mod Leads
 pub mod StackAccesses
 pub mod Activations
 pub mod Addressing
@@ -15,6 +17,8 @@ pub mod Pacing
 pub mod Simulation
 pub mod CallCase
 pub mod Simulating
+pub mod Begins
+pub mod Rows
 pub mod Starting
 pub mod Labelling
 pub mod Joining
@@ -37,7 +41,6 @@ pub mod EarlyWays
 pub mod EarlyPerforms
 pub mod BareStanding
 pub mod BareFacts
-pub mod BareJoining
 pub mod BarePerforms
 pub mod BareLabelling
 pub mod Promising

@@ -1,40 +1,27 @@
 -- What the code of operands and lines does.
 use Rattle.std.proofs.Common.{◌≡◌, ◌≢◌, ℕ, ◌+◌, ◌%◌, ◌^◌, ◌<◌, ◌≤◌, Bool, true, false, List, [], ◌∷◌, ◌++◌, refl, sym, ◌∙◌, ap, subst, arith, lit<}
 use Rattle.std.specs.Prelude.{nat_eq, if◌then◌else◌, Option, Some, None}
-use Rattle.std.specs.Option.{option_and_then}
-use Rattle.std.proofs.lemmas.Bool.Decides.{nat_tests}
-use Rattle.il_ast.specs.declared.operation.Class.TheVariants.{W, L}
+use Rattle.abi_frames.proofs.Shared.{W, L, LoadOp, State, Immediate, Item, Location, InRegister, Slot, Operand, At, Number, Name, Operation, option_and_then, eqb-true, nat_tests, number_at, stored, moved, is_place, operand_keeps}
 use Rattle.operation_code.proofs.Comparing.{leads_compare}
 use Rattle.operation_code.proofs.FormNumbers.{same_word, word_is_small}
 use Rattle.operation_code.proofs.Forms.{made, as_read, computed_is, IsFormOf, leads_form, nothing_given, number_form_is, left_form_is}
 use Rattle.operation_code.specs.declared.immediate.Form.{Form}
 use Rattle.operation_code.specs.Immediates.{swapped, right_form, left_form, form_items}
 use Rattle.rv_isa.specs.Step.{load_size, load_value}
-use Rattle.rv_isa.specs.declared.instruction.LoadOp.{LoadOp}
-use Rattle.rv_isa.specs.State.{State}
-use Rattle.rv_isa.specs.Memory.{number_at, stored}
-use Rattle.rv_isa.specs.Arithmetic.{moved, upper_value}
-use Rattle.rv_isa.specs.Relocations.{upper_part, lower_part}
+use Rattle.rv_isa.specs.Relocations.{lower_part}
 use Rattle.rv_isa.specs.Labelled.{Fixed}
-use Rattle.rv_isa.specs.declared.ranges.Immediate.{Immediate}
 use Rattle.rv_isa.specs.declared.relocation.Partial.TheVariants.{Load as LoadBy}
-use Rattle.rv_isa.specs.declared.labelled.Item.{Item}
-use Rattle.vcode.specs.declared.place.Location.{Location}
-use Rattle.vcode.specs.declared.place.Location.TheVariants.{Register as InRegister, Slot}
-use Rattle.vcode.specs.declared.place.Operand.{Operand}
 use Rattle.vcode.specs.declared.place.Address.{Address}
-use Rattle.vcode.specs.declared.place.Operand.TheVariants.{At, Number, Name}
-use Rattle.vcode.specs.declared.line.Operation.{Operation}
 use Rattle.vcode.specs.declared.line.Operation.TheVariants.{Reg as RegOperation, RegW as RegWOperation, Compare}
-use Rattle.vcode.specs.Named.{is_place, operand_keeps}
 use Rattle.flat_code.specs.Step.{computed}
 use Rattle.operation_code.specs.Fields.{reg, add_low, extend}
 use Rattle.operation_code.specs.Constants.{word, constant}
 use Rattle.abi_frames.specs.Emission.{base_items, load_by, load_items, slot_offset, load_slot, store_slot, into, fetch, source, word_into, target, deliver, set_items, operand_into, operand_source, on_registers, by_form, operate_by, operate_items}
 use Rattle.operation_code.specs.Operations.{operation_items}
 use Rattle.operation_code.proofs.ConstantNumbers.{near_moves, parts_made}
-use Rattle.operation_code.proofs.Leading.{Leads, leads_nowhere, leads_then, leads_so, leads_fixed, Sets, IsReg, register_reg, in_register, same_in_register, in_register_small}
-use Rattle.abi_frames.proofs.StackAccesses.{UsableFrom, leads_load_at, Writes, leads_load_slot, leads_store_slot_in, is_28, is_29}
+use Rattle.operation_code.proofs.Leading.{Leads, leads_nowhere, Sets, IsReg, register_reg, in_register, same_in_register, in_register_small}
+use Rattle.abi_frames.proofs.Leads.{leads_on, leads_as, leads_where}
+use Rattle.abi_frames.proofs.StackAccesses.{UsableFrom, leads_load_at, leads_load_slot, leads_store_slot_in, is_28, is_29}
 use Rattle.operation_code.proofs.Instructions.{leads_extend, leads_add_low, leads_reg, leads_regw, leads_constant, leads_named, leads_upper, leads_address}
 use Rattle.abi_frames.proofs.Addressing.{IsBeyond, IsBased}
 use Rattle.abi_frames.proofs.Activations.{Setting, IsSetting, site, bottom, slot_at, operand_in, IsPlace, place_is, place_reg, slot_is, slot_in_frame, InPlace, OnStack, Assigned}
@@ -53,8 +40,7 @@ leads_slot : (c : Setting) → IsSetting c → (s : State) (d i : ℕ) → IsReg
     → Leads (site c) (load_slot d (slot_offset c.layout i)) s (Sets s d (number_at s.bytes (slot_at c i) 8))
 leads_slot c is s d i reg other pointer good =
     let inside = slot_in_frame c is i (slot_is c.slots i good) in
-    leads_fixed (site c) (load_slot d (slot_offset c.layout i)) s (Sets s d (number_at s.bytes (slot_at c i) 8))
-    (λ fixed. leads_load_slot (site c) s d (bottom c) (slot_offset c.layout i) reg other fixed pointer inside.near inside.small inside.usable)
+    leads_where (λ fixed. leads_load_slot (site c) s d (bottom c) (slot_offset c.layout i) reg other fixed pointer inside.near inside.small inside.usable)
 
 -- it is in the register d
 fetched_in : (c : Setting) (s : State) (d v : ℕ) (a : Operand Location) (u : State) → IsReg d → source d a ≡ d → v ≡ operand_in c s a → Sets s d v u
@@ -72,8 +58,7 @@ leads_fetch c is s d (At (InRegister r)) reg other pointer good =
     leads_nowhere (site c) s (Fetched c s d (At (InRegister r)))
     (record { value = register_reg s r (place_reg r (place_is c.slots r good)); others = λ n h. refl; bytes = refl; output = refl })
 leads_fetch c is s d (At (Slot i)) reg other pointer good =
-    leads_so (site c) (load_slot d (slot_offset c.layout i)) s (Sets s d (number_at s.bytes (slot_at c i) 8)) (Fetched c s d (At (Slot i)))
-    (leads_slot c is s d i reg other pointer good)
+    leads_as (leads_slot c is s d i reg other pointer good)
     (λ u f h. fetched_in c s d (number_at s.bytes (slot_at c i) 8) (At (Slot i)) u reg refl refl h)
 leads_fetch c is s d (Number n) reg other pointer good = by_test (nat_eq n 0) refl
   where
@@ -87,25 +72,21 @@ leads_fetch c is s d (Number n) reg other pointer good = by_test (nat_eq n 0) re
         (record { value = ap (in_register s) there ∙ zero_is e; others = λ m h. refl; bytes = refl; output = refl })
     by_test false e =
         let there : source d (Number n) ≡ d = ap (λ (t : Bool). if t then 0 else d) e in
-        leads_so (site c) (constant d n) s (Sets s d (n % 2 ^ 64)) (Fetched c s d (Number n)) (leads_constant (site c) s d n reg)
+        leads_as (leads_constant (site c) s d n reg)
         (λ u f h. fetched_in c s d (n % 2 ^ 64) (Number n) u reg there refl h)
 leads_fetch c is s d (Name g) reg other pointer good =
-    leads_so (site c) (fetch c.layout d (Name g)) s (Sets s d (c.global g)) (Fetched c s d (Name g)) (leads_address (site c) s d g reg (is.near g))
+    leads_as (leads_address (site c) s d g reg (is.near g))
     (λ u f h. fetched_in c s d (c.global g) (Name g) u reg refl refl h)
 
 pub leads_into : (c : Setting) → IsSetting c → (s : State) (d : ℕ) (a : Operand Location) → IsReg d → d ≢ 2 → s.registers 2 ≡ bottom c
     → operand_keeps (is_place c.slots) a ≡ true → Leads (site c) (into c.layout d a) s (Sets s d (operand_in c s a))
 leads_into c is s d (At (InRegister r)) reg other pointer good = by_test (nat_eq d r) refl
   where
-    eq_is : nat_eq d r ≡ true → d ≡ r
-    eq_is e = grind (arith, nat_tests)
-
     by_test : (b : Bool) → nat_eq d r ≡ b → Leads (site c) (if b then [] else add_low d r 0 ∷ []) s (Sets s d (s.registers r))
     by_test true e =
-        leads_nowhere (site c) s (Sets s d (s.registers r)) (record { value = ap s.registers (eq_is e); others = λ n h. refl; bytes = refl; output = refl })
+        leads_nowhere (site c) s (Sets s d (s.registers r)) (record { value = ap s.registers (eqb-true d r e); others = λ n h. refl; bytes = refl; output = refl })
     by_test false e =
-        leads_fixed (site c) (add_low d r 0 ∷ []) s (Sets s d (s.registers r))
-        (λ fixed.
+        leads_where (λ fixed.
         leads_add_low (site c) s d r 0 (s.registers r) (s.registers r) reg (register_reg s r (place_reg r (place_is c.slots r good)))
         (near_moves (s.registers r) 0 (lit< tt) ∙ same_low (s.registers r) (fixed.words r)))
 leads_into c is s d (At (Slot i)) reg other pointer good = leads_slot c is s d i reg other pointer good
@@ -116,11 +97,9 @@ leads_into c is s d (Name g) reg other pointer good = leads_address (site c) s d
 extended_after : (c : Setting) → IsSetting c → (s : State) (d : ℕ) (a : Operand Location) → IsReg d → d ≢ 2 → s.registers 2 ≡ bottom c
     → operand_keeps (is_place c.slots) a ≡ true → Leads (site c) (fetch c.layout d a ++ (extend d (source d a) ∷ [])) s (Sets s d (word (operand_in c s a)))
 extended_after c is s d a reg other pointer known =
-    leads_then (site c) (fetch c.layout d a) (extend d (source d a) ∷ []) s (Fetched c s d a) (Sets s d (word (operand_in c s a)))
-    (leads_fetch c is s d a reg other pointer known)
+    leads_on (leads_fetch c is s d a reg other pointer known)
     (λ u f one.
-    leads_so (site c) (extend d (source d a) ∷ []) u (Sets u d (word (in_register u (source d a)))) (Sets s d (word (operand_in c s a)))
-    (leads_extend (site c) u d (source d a) reg)
+    leads_as (leads_extend (site c) u d (source d a) reg)
     (λ w g two. record {
       value = two.value ∙ ap word one.value;
       others = λ n differs. two.others n differs ∙ one.others n differs;
@@ -205,10 +184,8 @@ store_from : (c : Setting) → IsSetting c → (s : State) (x i : ℕ) → x < 3
     → Leads (site c) (store_slot x (slot_offset c.layout i)) s (OnStack s (slot_at c i) (in_register s x))
 store_from c is s x i few other pointer good =
     let inside = slot_in_frame c is i (slot_is c.slots i good) in
-    leads_fixed (site c) (store_slot x (slot_offset c.layout i)) s (OnStack s (slot_at c i) (in_register s x))
-    (λ fixed.
-    leads_so (site c) (store_slot x (slot_offset c.layout i)) s (Writes s (slot_at c i) (in_register s x)) (OnStack s (slot_at c i) (in_register s x))
-    (leads_store_slot_in (site c) s x (bottom c) (slot_offset c.layout i) few other fixed pointer inside.near inside.small inside.usable)
+    leads_where (λ fixed.
+    leads_as (leads_store_slot_in (site c) s x (bottom c) (slot_offset c.layout i) few other fixed pointer inside.near inside.small inside.usable)
     (λ u f h. record {
       small = in_register_small c.world.memory_map s x fixed;
       bytes = h.bytes;
@@ -227,17 +204,13 @@ pub leads_set_line : (c : Setting) → IsSetting c → (s : State) (to : Locatio
     → Leads (site c) (set_items c.layout to a) s (Assigned c s to (operand_in c s a))
 leads_set_line c is s (InRegister r) a pointer good known =
     let place = place_is c.slots r good in
-    leads_so (site c) (into c.layout r a) s (Sets s r (operand_in c s a)) (InPlace s r (operand_in c s a))
-    (leads_into c is s r a (place_reg r place) (place_not_2 r place) pointer known)
+    leads_as (leads_into c is s r a (place_reg r place) (place_not_2 r place) pointer known)
     (λ u f h. set_register s r (operand_in c s a) u h)
 leads_set_line c is s (Slot i) a pointer good known =
-    leads_then (site c) (fetch c.layout 28 a) (store_slot (source 28 a) (slot_offset c.layout i)) s (Fetched c s 28 a) (OnStack s (slot_at c i) (operand_in c s a))
-    (leads_fetch c is s 28 a is_28 (λ e. absurd (omega (arith, e))) pointer known)
+    leads_on (leads_fetch c is s 28 a is_28 (λ e. absurd (omega (arith, e))) pointer known)
     (λ u f one.
     let same = fetched_scratched c s 28 a u (omega arith) one in
-    leads_so (site c) (store_slot (source 28 a) (slot_offset c.layout i)) u (OnStack u (slot_at c i) (in_register u (source 28 a)))
-    (OnStack s (slot_at c i) (operand_in c s a))
-    (store_from c is u (source 28 a) i (source_small c.slots 28 a (lit< tt) known) (source_not_29 c.slots a known) (same.registers 2 (lit< tt) ∙ pointer) good)
+    leads_as (store_from c is u (source 28 a) i (source_small c.slots 28 a (lit< tt) known) (source_not_29 c.slots a known) (same.registers 2 (lit< tt) ∙ pointer) good)
     (λ w g two.
     assigned_value c s (Slot i) (in_register u (source 28 a)) (operand_in c s a) w one.value
     (assigned_from c s u (Slot i) (in_register u (source 28 a)) w same two)))
@@ -256,15 +229,13 @@ pub leads_made : (c : Setting) → IsSetting c → (s : State) (is_made : ℕ �
     → Leads (site c) (is_made (target to) ++ deliver c.layout to) s (Assigned c s to v)
 leads_made c is s is_made v (InRegister r) pointer good made =
     let place = place_is c.slots r good in
-    leads_then (site c) (is_made r) [] s (InPlace s r v) (InPlace s r v) (made r (place_reg r place) (place_not_2 r place))
+    leads_on (made r (place_reg r place) (place_not_2 r place))
     (λ u f h. leads_nowhere (site c) u (InPlace s r v) h)
 leads_made c is s is_made v (Slot i) pointer good made =
-    leads_then (site c) (is_made 28) (store_slot 28 (slot_offset c.layout i)) s (InPlace s 28 v) (OnStack s (slot_at c i) v)
-    (made 28 is_28 (λ e. absurd (omega (arith, e))))
+    leads_on (made 28 is_28 (λ e. absurd (omega (arith, e))))
     (λ u f one.
     let same : Scratched s u = record { registers = λ n lo. one.others n lo (not_scratch 28 n (omega arith) lo); bytes = one.bytes; output = one.output } in
-    leads_so (site c) (store_slot 28 (slot_offset c.layout i)) u (OnStack u (slot_at c i) (u.registers 28)) (OnStack s (slot_at c i) v)
-    (subst (λ x. Leads (site c) (store_slot 28 (slot_offset c.layout i)) u (OnStack u (slot_at c i) x)) (register_reg u 28 is_28)
+    leads_as (subst (λ x. Leads (site c) (store_slot 28 (slot_offset c.layout i)) u (OnStack u (slot_at c i) x)) (register_reg u 28 is_28)
     (store_from c is u 28 i (lit< tt) (λ e. absurd (omega (arith, e))) (same.registers 2 (lit< tt) ∙ pointer) good))
     (λ w g two. assigned_value c s (Slot i) (u.registers 28) v w one.value (assigned_from c s u (Slot i) (u.registers 28) w same two)))
 
@@ -283,17 +254,16 @@ fetched_for c s op d a u here same h =
 pub leads_read : (c : Setting) → IsSetting c → (s : State) (op : Operation) (d : ℕ) (a : Operand Location) → IsReg d → d ≢ 2 → s.registers 2 ≡ bottom c
     → operand_keeps (is_place c.slots) a ≡ true → Leads (site c) (operand_into c.layout op d a) s (ReadFor c s op d a)
 leads_read c is s (RegOperation op) d a reg other pointer known =
-    leads_so (site c) (fetch c.layout d a) s (Fetched c s d a) (ReadFor c s (RegOperation op) d a) (leads_fetch c is s d a reg other pointer known)
+    leads_as (leads_fetch c is s d a reg other pointer known)
     (λ u f h. fetched_for c s (RegOperation op) d a u refl refl h)
 leads_read c is s (RegWOperation op) d a reg other pointer known =
-    leads_so (site c) (fetch c.layout d a) s (Fetched c s d a) (ReadFor c s (RegWOperation op) d a) (leads_fetch c is s d a reg other pointer known)
+    leads_as (leads_fetch c is s d a reg other pointer known)
     (λ u f h. fetched_for c s (RegWOperation op) d a u refl refl h)
 leads_read c is s (Compare on L) d a reg other pointer known =
-    leads_so (site c) (fetch c.layout d a) s (Fetched c s d a) (ReadFor c s (Compare on L) d a) (leads_fetch c is s d a reg other pointer known)
+    leads_as (leads_fetch c is s d a reg other pointer known)
     (λ u f h. fetched_for c s (Compare on L) d a u refl refl h)
 leads_read c is s (Compare on W) d a reg other pointer known =
-    leads_so (site c) (word_into c.layout d a) s (Sets s d (word (operand_in c s a))) (ReadFor c s (Compare on W) d a)
-    (leads_word_into c is s d a reg other pointer known)
+    leads_as (leads_word_into c is s d a reg other pointer known)
     (λ u f h. record { value = register_reg u d reg ∙ h.value; others = h.others; bytes = h.bytes; output = h.output })
 
 pub read_scratched : (c : Setting) (s : State) (op : Operation) (d : ℕ) (a : Operand Location) (u : State) → 28 ≤ d → ReadFor c s op d a u → Scratched s u
@@ -317,15 +287,13 @@ leads_by_form : (c : Setting) → IsSetting c → (s : State) (to : Location) (o
     → g (as_read op (operand_in c s a)) ≡ v → Leads (site c) (by_form c.layout to op a form) s (Assigned c s to v)
 leads_by_form c is s to op a form g v pointer good known does value =
     let x : ℕ = operand_source op 28 a in
-    leads_then (site c) (operand_into c.layout op 28 a) (form_items form (target to) x ++ deliver c.layout to) s (ReadFor c s op 28 a) (Assigned c s to v)
-    (leads_read c is s op 28 a is_28 (λ e. absurd (omega (arith, e))) pointer known)
+    leads_on (leads_read c is s op 28 a is_28 (λ e. absurd (omega (arith, e))) pointer known)
     (λ u f one.
     let same = read_scratched c s op 28 a u (omega arith) one in
     let w : ℕ = g (in_register u x) in
-    leads_so (site c) (form_items form (target to) x ++ deliver c.layout to) u (Assigned c u to w) (Assigned c s to v)
-    (leads_made c is u (λ d. form_items form d x) w to (same.registers 2 (lit< tt) ∙ pointer) good
+    leads_as (leads_made c is u (λ d. form_items form d x) w to (same.registers 2 (lit< tt) ∙ pointer) good
     (λ d reg other.
-    leads_so (site c) (form_items form d x) u (Sets u d w) (InPlace u d w) (leads_form (site c) u g form d x reg does) (λ t h two. set_register u d w t two)))
+    leads_as (leads_form (site c) u g form d x reg does) (λ t h two. set_register u d w t two)))
     (λ t h two. assigned_value c s to w v t (ap g one.value ∙ value) (assigned_from c s u to w t same two)))
 
 leads_on_registers : (c : Setting) → IsSetting c → (s : State) (to : Location) (op : Operation) (a b : Operand Location) → s.registers 2 ≡ bottom c
@@ -335,13 +303,11 @@ leads_on_registers c is s to op a b pointer good known_a known_b =
     let x = operand_source op 28 a in
     let y = operand_source op 29 b in
     let v : ℕ = computed op (operand_in c s a) (operand_in c s b) in
-    leads_then (site c) (operand_into c.layout op 28 a) (operand_into c.layout op 29 b ++ (operation_items op (target to) x y ++ deliver c.layout to)) s
-    (ReadFor c s op 28 a) (Assigned c s to v) (leads_read c is s op 28 a is_28 (λ e. absurd (omega (arith, e))) pointer known_a)
+    leads_on (leads_read c is s op 28 a is_28 (λ e. absurd (omega (arith, e))) pointer known_a)
     (λ u f one.
     let same = read_scratched c s op 28 a u (omega arith) one in
     let pointer_u = same.registers 2 (lit< tt) ∙ pointer in
-    leads_then (site c) (operand_into c.layout op 29 b) (operation_items op (target to) x y ++ deliver c.layout to) u (ReadFor c u op 29 b) (Assigned c s to v)
-    (leads_read c is u op 29 b is_29 (λ e. absurd (omega (arith, e))) pointer_u known_b)
+    leads_on (leads_read c is u op 29 b is_29 (λ e. absurd (omega (arith, e))) pointer_u known_b)
     (λ w g two.
     let same_w = read_scratched c u op 29 b w (omega arith) two in
     let all = scratched_then s u w same same_w in
@@ -352,10 +318,9 @@ leads_on_registers c is s to op a b pointer good known_a known_b =
     let is_v : n ≡ v =
     ap (λ m. made op m (in_register w y)) left
     ∙ (ap (made op (as_read op (operand_in c s a))) right ∙ computed_is op (operand_in c s a) (operand_in c s b)) in
-    leads_so (site c) (operation_items op (target to) x y ++ deliver c.layout to) w (Assigned c w to n) (Assigned c s to v)
-    (leads_made c is w (λ d. operation_items op d x y) n to (same_w.registers 2 (lit< tt) ∙ pointer_u) good
+    leads_as (leads_made c is w (λ d. operation_items op d x y) n to (same_w.registers 2 (lit< tt) ∙ pointer_u) good
     (λ d reg other.
-    leads_so (site c) (operation_items op d x y) w (Sets w d n) (InPlace w d n) (leads_operation c w op d x y reg) (λ t h three. set_register w d n t three)))
+    leads_as (leads_operation c w op d x y reg) (λ t h three. set_register w d n t three)))
     (λ t h three. assigned_value c s to n v t is_v (assigned_from c s w to n t all three))))
 
 -- an operand that is no number gives no form
@@ -416,7 +381,7 @@ aimed_scratched c s d a o p u h f = record { registers = λ n lo. f.others n (no
 fetched_aims : (c : Setting) → IsSetting c → (s : State) (d : ℕ) (a : Operand Location) (o : Immediate) (p : ℕ) → IsReg d → d ≢ 2 → s.registers 2 ≡ bottom c
     → operand_keeps (is_place c.slots) a ≡ true → IsBeyond c s a o p → offset_left c a o ≡ o → Leads (site c) (fetch c.layout d a) s (Aimed c s d a o p)
 fetched_aims c is s d a o p is_reg other pointer good based left =
-    leads_so (site c) (fetch c.layout d a) s (Fetched c s d a) (Aimed c s d a o p) (leads_fetch c is s d a is_reg other pointer good)
+    leads_as (leads_fetch c is s d a is_reg other pointer good)
     (λ u f h. record {
       there = ap (λ (i : Immediate). moved (in_register u (source d a)) i.value) left
           ∙ based (in_register u (source d a)) h.value (in_register_small c.world.memory_map u (source d a) f);
@@ -432,7 +397,7 @@ leads_base c is s d (Number n) o p is_reg other pointer good based = fetched_aim
 leads_base c is s d (Name g) o p is_reg other pointer good based =
     let near = is.near g in
     let n : ℕ = moved (c.global g) o.value in
-    leads_so (site c) (base_items c.layout d (Name g) o) s (Sets s d (upper_value (upper_part n))) (Aimed c s d (Name g) o p) (leads_upper (site c) s d g o is_reg)
+    leads_as (leads_upper (site c) s d g o is_reg)
     (λ u f h. record {
       there = ap (λ x. moved x (lower_part n).value) (register_reg u d is_reg ∙ h.value)
           ∙ (parts_made (c.global g) o.value o.in_range near ∙ based (c.global g) refl (omega (arith, near)));
@@ -461,16 +426,13 @@ leads_load_line c is s to op at x pointer good known based usable =
     let a : Operand Location = at.base in
     let o : Immediate = at.offset in
     let v : ℕ = load_value op (number_at s.bytes x n) in
-    leads_then (site c) (base_items c.layout 28 a o) ((load_by op (target to) a o ∷ []) ++ deliver c.layout to) s (Aimed c s 28 a o x) (Assigned c s to v)
-    (leads_base c is s 28 a o x is_28 (λ e. absurd (omega (arith, e))) pointer known based)
+    leads_on (leads_base c is s 28 a o x is_28 (λ e. absurd (omega (arith, e))) pointer known based)
     (λ u f one.
     let same = aimed_scratched c s 28 a o x u (omega arith) one in
     let w : ℕ = load_value op (number_at u.bytes x n) in
     let value : w ≡ v = ap (λ (m : ℕ → ℕ). load_value op (number_at m x n)) one.bytes in
-    leads_so (site c) ((load_by op (target to) a o ∷ []) ++ deliver c.layout to) u (Assigned c u to w) (Assigned c s to v)
-    (leads_made c is u (λ d. load_by op d a o ∷ []) w to (same.registers 2 (lit< tt) ∙ pointer) good
+    leads_as (leads_made c is u (λ d. load_by op d a o ∷ []) w to (same.registers 2 (lit< tt) ∙ pointer) good
     (λ d is_reg other.
-    leads_so (site c) (load_by op d a o ∷ []) u (Sets u d w) (InPlace u d w)
-    (leads_load_by c u op d a o x is_reg f one.there usable)
+    leads_as (leads_load_by c u op d a o x is_reg f one.there usable)
     (λ t h two. set_register u d w t two)))
     (λ t h two. assigned_value c s to w v t value (assigned_from c s u to w t same two)))

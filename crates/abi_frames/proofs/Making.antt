@@ -1,21 +1,11 @@
 -- A block of memory is made: its address comes to its place, and its bytes, in the frame's area, may be accessed.
 use Rattle.std.proofs.Common.{◌≡◌, ◌≢◌, ℕ, ◌+◌, ◌-◌, ◌%◌, ◌^◌, ◌<◌, ◌≤◌, Bool, true, false, List, [], ◌∷◌, refl, ◌∙◌, arith}
 use Rattle.std.specs.Prelude.{nat_lt, if◌then◌else◌, Option, Some, None}
-use Rattle.std.specs.List.{list_all}
-use Rattle.std.proofs.lemmas.Bool.{and_parts}
-use Rattle.std.proofs.lemmas.Bool.Decides.{nat_tests}
-use Rattle.std.proofs.lemmas.List.Sums.{sum_by-cons}
 use Rattle.il_ast.specs.Cost.{round_16}
-use Rattle.rv_isa.specs.State.{State}
+use Rattle.abi_frames.proofs.Shared.{State, Plain, Location, Line, Block, Code, list_all, and_parts, same_Some, nat_tests, sum_by-cons, is_place, line_keeps}
 use Rattle.rv_isa.specs.Arithmetic.{upper_value}
 use Rattle.rv_isa.specs.declared.instruction.Instr.TheVariants.{Lui}
-use Rattle.rv_isa.specs.declared.labelled.Item.TheVariants.{Plain}
-use Rattle.vcode.specs.declared.place.Location.{Location}
-use Rattle.vcode.specs.declared.line.Line.{Line}
 use Rattle.vcode.specs.declared.line.Line.TheVariants.{Alloc}
-use Rattle.vcode.specs.declared.code.Block.{Block}
-use Rattle.vcode.specs.declared.code.Code.{Code}
-use Rattle.vcode.specs.Named.{is_place, line_keeps}
 use Rattle.vcode.specs.Regular.{alloc_bytes}
 use Rattle.flat_code.specs.Spots.{NoAccess, AnyByte, ThisByte, Spots}
 use Rattle.flat_code.specs.Flat.{FlatGiven, FlatOutcome}
@@ -23,11 +13,12 @@ use Rattle.flat_code.specs.Step.{FlatState, Numbers, put, made_in, is_in, opened
 use Rattle.abi_frames.specs.Calls.{IsUsable}
 use Rattle.abi_frames.specs.Performs.{AllPerform}
 use Rattle.operation_code.specs.Fields.{reg, high, add_low, sum_to}
-use Rattle.abi_frames.specs.Emission.{address_at, alloc_items, line_items}
-use Rattle.operation_code.proofs.Leading.{Site, Leads, leads_nowhere, leads_so, leads_again, Sets, IsReg, register_reg}
+use Rattle.abi_frames.specs.Emission.{address_at, alloc_items}
+use Rattle.operation_code.proofs.Leading.{Site, Leads, leads_nowhere, leads_again, Sets, IsReg, register_reg}
+use Rattle.abi_frames.proofs.Leads.{leads_as}
 use Rattle.operation_code.proofs.Instructions.{leads_add_low}
 use Rattle.abi_frames.proofs.StackAccesses.{near_address, far_address, high_part, is_2}
-use Rattle.abi_frames.proofs.Activations.{Setting, IsSetting, site, bottom, InPlace, Framed, Assigned, assigned, assigned_output}
+use Rattle.abi_frames.proofs.Activations.{Setting, IsSetting, site, bottom, Framed, Assigned, assigned, assigned_output}
 use Rattle.abi_frames.proofs.LineCode.{leads_made, set_register}
 use Rattle.abi_frames.proofs.MemoryChanges.{inside_is}
 use Rattle.abi_frames.proofs.Simulation.{CodeStands, At, Performed, Log, Follows, Then, reach, advance, may_write}
@@ -59,8 +50,7 @@ leads_alloc_line c is s used to pointer good inside =
     let top = is.world.small in
     leads_made c is s (λ d. address_at d o) v to pointer good
     (λ d reg other.
-    leads_so (site c) (address_at d o) s (Sets s d v) (InPlace s d v)
-    (leads_address_at (site c) s d (bottom c) o reg other pointer (omega (arith, blocks, inside, small)) (omega (arith, blocks, inside, above, below, top)))
+    leads_as (leads_address_at (site c) s d (bottom c) o reg other pointer (omega (arith, blocks, inside, small)) (omega (arith, blocks, inside, above, below, top)))
     (λ u f h. set_register s d v u h))
 
 -- ---- the frame after it
@@ -141,18 +131,14 @@ named_case c f is j r n go b to size lines fs k u a log goes all =
     let above = is.setting.above in
     let value : v ≡ p = omega (arith, same, blocks, above) in
     let m = reach c f b (Alloc (Some to) size) lines fs k u (λ t. Framed c numbers now t × (t.output ≡ u.output)) a
-    (leads_so (site c) (line_items c.layout a.used (Alloc (Some to) size)) u (Assigned c u to v) (λ t. Framed c numbers now t × (t.output ≡ u.output))
-    (leads_alloc_line c is.setting u a.used to a.framed.pointer good (omega (arith, room, bytes)))
+    (leads_as (leads_alloc_line c is.setting u a.used to a.framed.pointer good (omega (arith, room, bytes)))
     (λ t fixed made. (
       opened_framed c is.setting numbers fs.memory t fs.used size (omega (arith, room, bytes, same))
-          (assigned c is.setting fs.numbers fs.memory u t to v (Some p) good may a.framed made (λ q e. value ∙ some_is p q e)),
+          (assigned c is.setting fs.numbers fs.memory u t to v (Some p) good may a.framed made (λ q e. value ∙ same_Some p q e)),
       assigned_output c u to v t made,
     ))) in
     go b lines (record fs { next = fs.next + 1; numbers = numbers; memory = now; used = fs.used + round_16 size }) (k + m.steps) m.after
     (advance c f b (Alloc (Some to) size) lines fs k u numbers now (fs.used + round_16 size) a refl refl a.paid m) log goes all
-  where
-    some_is : (p q : ℕ) → Some p ≡ Some q → p ≡ q
-    some_is p q e = cc
 
 -- with no instruction
 unnamed_case : (c : Setting) (f : Code Location) → CodeStands c f → (j : FlatGiven) (r : FlatOutcome) (n : ℕ) → Follows c f j r n

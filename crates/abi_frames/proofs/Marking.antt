@@ -1,11 +1,7 @@
 -- Marks of the registers that code writes.
 use Rattle.std.proofs.Common.{◌≡◌, ◌<◌, ◌∙◌, ℕ, zero, suc, Bool, true, false, List, [], ◌∷◌, if◌then◌else◌, length, replicate, refl, subst, sym, ap, arith, nat_lt}
 use Rattle.std.specs.Prelude.{filter}
-use Rattle.std.specs.List.{list_all}
-use Rattle.std.proofs.lemmas.Bool.{and_parts}
-use Rattle.std.proofs.lemmas.Bool.Decides.{nat_tests}
-use Rattle.vcode.specs.declared.place.Location.{Location}
-use Rattle.vcode.specs.declared.code.Code.{Code}
+use Rattle.abi_frames.proofs.Shared.{Location, Code, list_all, and_parts, nat_tests}
 use Rattle.abi_frames.specs.Layout.{is_written, written_of, callee_saved}
 use Rattle.abi_frames.specs.Marked.{is_marked}
 

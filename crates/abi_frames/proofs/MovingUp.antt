@@ -2,10 +2,8 @@
 use Rattle.std.proofs.Common.{◌≡◌, ℕ, zero, suc, ◌+◌, ◌-◌, ◌<◌, Bool, true, false, List, [], ◌∷◌, ◌++◌, get_or, set, refl, ◌∙◌, ap, arith}
 use Rattle.std.specs.Prelude.{length, Option, Some, None}
 use Rattle.std.proofs.lemmas.List.{length-map}
-use Rattle.vcode.specs.declared.place.Location.{Location}
+use Rattle.abi_frames.proofs.Shared.{Location, At, Argument}
 use Rattle.vcode.specs.declared.place.Location.TheVariants.{Register}
-use Rattle.vcode.specs.declared.place.Operand.TheVariants.{At}
-use Rattle.vcode.specs.declared.place.Argument.{Argument}
 use Rattle.abi_frames.specs.Moves.{argument_exchanged, is_read, settled, arrived, earlier_at, moves_up, moved_up, all_move_up, all_moved_up}
 
 one_less : (k : ℕ) → k ≡ suc k - 1

@@ -1,18 +1,11 @@
 -- A call passes at most 56 arguments on the stack, so the slots begin near the stack pointer.
 use Rattle.std.proofs.Common.{◌≡◌, ℕ, zero, suc, ap, ◌<◌, ◌≤◌, true, List, [], ◌∷◌, arith}
 use Rattle.std.specs.Prelude.{nat_le, max, length, slice_get, Some}
-use Rattle.std.specs.List.{list_all}
-use Rattle.std.proofs.lemmas.Bool.{and_parts}
-use Rattle.std.proofs.lemmas.Bool.Decides.{nat_tests}
-use Rattle.vcode.specs.declared.place.Location.{Location}
-use Rattle.vcode.specs.declared.line.Line.{Line}
+use Rattle.abi_frames.proofs.Shared.{Location, Line, Block, Code, list_all, and_parts, same_Some, nat_tests}
 use Rattle.vcode.specs.declared.line.Line.TheVariants.{Tick, Set, Operate, Load, Store, Alloc, Blit, Call}
-use Rattle.vcode.specs.declared.code.Block.{Block}
-use Rattle.vcode.specs.declared.code.Code.{Code}
 use Rattle.vcode.specs.Regular.{IsRegular, passes_few}
 use Rattle.abi_frames.specs.Layout.{outgoing, args_on_stack, most_in_lines, most_in_blocks, slots_offset}
 use Rattle.abi_frames.proofs.Saving.{few_saved_registers}
-use Rattle.std.proofs.lemmas.Option.{same_Some}
 
 at_most_64 : (n : ℕ) → nat_le n 64 ≡ true → n ≤ 64
 at_most_64 n h = grind (arith, nat_tests)

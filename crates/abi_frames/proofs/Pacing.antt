@@ -1,13 +1,8 @@
 -- How many turns may have begun where the machine comes to a block, and where it goes on from its lines.
 use Rattle.std.proofs.Common.{◌≡◌, ℕ, zero, suc, ◌+◌, ◌≤◌, Bool, true, false, List, [], ◌∷◌, refl, sym, ◌∙◌, ap, arith}
 use Rattle.std.specs.Prelude.{if◌then◌else◌, slice_get, Some}
-use Rattle.std.specs.List.{sum_by}
-use Rattle.std.proofs.lemmas.List.Sums.{sum_by-cons}
-use Rattle.std.proofs.lemmas.Bool.Decides.{nat_tests}
 use Rattle.il_ast.specs.declared.limits.TheConstants.{FUNCTION_WEIGHT}
-use Rattle.vcode.specs.declared.place.Location.{Location}
-use Rattle.vcode.specs.declared.code.Block.{Block}
-use Rattle.vcode.specs.declared.code.Code.{Code}
+use Rattle.abi_frames.proofs.Shared.{Location, Block, Code, sum_by, sum_by-cons, nat_tests}
 use Rattle.vcode.specs.Regular.{turns_of}
 use Rattle.abi_frames.specs.Layout.{turns_in, falls_through}
 

@@ -1,26 +1,15 @@
 -- What the code of a call's arguments does: each comes to where the calling convention has it, and all that stands elsewhere stays.
 use Rattle.std.proofs.Common.{nat_le, ◌≡◌, ◌≢◌, ℕ, zero, suc, ◌+◌, ◌-◌, ◌*◌, ◌%◌, ◌^◌, ◌<◌, ◌≤◌, Bool, true, false, List, [], ◌∷◌, ◌++◌, refl, ◌∙◌, ap, subst, arith}
 use Rattle.std.specs.Prelude.{◌||◌, nat_lt, if◌then◌else◌, length, slice_get, Some}
-use Rattle.std.specs.List.{list_all}
-use Rattle.std.proofs.lemmas.Bool.{and_parts}
-use Rattle.std.proofs.lemmas.Bool.Decides.{nat_tests}
 use Rattle.bits.specs.Words.{sign_extended}
-use Rattle.il_ast.specs.declared.operation.Class.{Class}
-use Rattle.il_ast.specs.declared.operation.Class.TheVariants.{W, L}
-use Rattle.rv_isa.specs.State.{State}
-use Rattle.rv_isa.specs.Memory.{number_at, stored}
+use Rattle.abi_frames.proofs.Shared.{Class, W, L, State, Location, InRegister, Slot, Operand, At, Number, Name, Argument, list_all, and_parts, nat_tests, number_at, stored, is_place, operand_keeps}
 use Rattle.rv_isa.proofs.MemoryLemmas.{number_same, stored_below, stored_above, read_back}
-use Rattle.vcode.specs.declared.place.Location.{Location}
-use Rattle.vcode.specs.declared.place.Location.TheVariants.{Register as InRegister, Slot}
-use Rattle.vcode.specs.declared.place.Operand.{Operand}
-use Rattle.vcode.specs.declared.place.Operand.TheVariants.{At, Number, Name}
-use Rattle.vcode.specs.declared.place.Argument.{Argument}
-use Rattle.vcode.specs.Named.{is_place, operand_keeps}
 use Rattle.flat_code.specs.Step.{taken}
 use Rattle.abi_frames.specs.Calls.{passed}
 use Rattle.operation_code.specs.Fields.{store_8}
 use Rattle.abi_frames.specs.Emission.{word_into, passed_class, pass_into, stack_items, stack_all, register_items, register_all}
-use Rattle.operation_code.proofs.Leading.{Leads, leads_nowhere, leads_then, leads_so, Sets, IsReg}
+use Rattle.operation_code.proofs.Leading.{Leads, leads_nowhere, Sets, IsReg}
+use Rattle.abi_frames.proofs.Leads.{leads_on, leads_as}
 use Rattle.abi_frames.proofs.StackAccesses.{Writes, leads_store, near_address, is_2, is_28}
 use Rattle.abi_frames.proofs.Activations.{Setting, IsSetting, site, bottom, slot_at, operand_in, place_is, in_frame}
 use Rattle.abi_frames.proofs.LineCode.{leads_into, leads_word_into}
@@ -148,13 +137,11 @@ leads_stacked c is s k a pointer known fits = by_test (nat_lt k 8) refl
         let near_saves = is.saves_near in
         let frame = is.fits in
         let inside = in_frame c is (8 * (k - 8)) (omega (arith, many, fits, saves, frame)) in
-        leads_then (site c) (pass_into c.layout 28 (passed_class a.extension a.class) a.value) (store_8 28 2 near ∷ []) s (Sets s 28 (sent c s a)) (Stacked c s k (a ∷ []))
-        (leads_argument c is s 28 (passed_class a.extension a.class) a.value is_28 (λ e. absurd (omega (arith, e))) pointer known)
+        leads_on (leads_argument c is s 28 (passed_class a.extension a.class) a.value is_28 (λ e. absurd (omega (arith, e))) pointer known)
         (λ u f one.
         let small : sent c s a < 2 ^ 64 = subst (λ x. x < 2 ^ 64) one.value (f.words 28) in
         let at_u : u.registers 2 ≡ bottom c = one.others 2 (λ e. absurd (omega (arith, e))) ∙ pointer in
-        leads_so (site c) (store_8 28 2 near ∷ []) u (Writes u (bottom c + near) (u.registers 28)) (Stacked c s k (a ∷ []))
-        (leads_store (site c) u 28 2 near (bottom c + near) is_28 is_2 f
+        leads_as (leads_store (site c) u 28 2 near (bottom c + near) is_28 is_2 f
         (near_address (u.registers 2) (bottom c) near at_u (omega (arith, many, fits, near_saves)) inside.small) inside.usable)
         (λ w g two. to_stack c s k a u w many small one two))
 
@@ -185,12 +172,10 @@ leads_stack c is s k (a ∷ args) pointer good fits =
     let more = length-more a args in
     let alone = length-more a [] in
     let here : 8 * (k + 1 - 8) ≤ c.layout.saves = omega (arith, fits, more) in
-    leads_then (site c) (stack_items c.layout k a) (stack_all c.layout (k + 1) args) s (Stacked c s k (a ∷ [])) (Stacked c s k (a ∷ args))
-    (leads_stacked c is s k a pointer parts.0 here)
+    leads_on (leads_stacked c is s k a pointer parts.0 here)
     (λ u f one.
     let same = stacked_keeps c s k (a ∷ []) u here one in
-    leads_so (site c) (stack_all c.layout (k + 1) args) u (Stacked c u (k + 1) args) (Stacked c s k (a ∷ args))
-    (leads_stack c is u (k + 1) args (one.registers 2 (λ e. absurd (omega (arith, e))) (λ e. absurd (omega (arith, e))) ∙ pointer) parts.1 (omega (arith, fits, more)))
+    leads_as (leads_stack c is u (k + 1) args (one.registers 2 (λ e. absurd (omega (arith, e))) (λ e. absurd (omega (arith, e))) ∙ pointer) parts.1 (omega (arith, fits, more)))
     (λ w g two. record {
       on_stack = stack_more c is s u w k a args same parts.1 one two;
       registers = λ n other scratch. two.registers n other scratch ∙ one.registers n other scratch;
@@ -224,8 +209,7 @@ leads_has c is s k a pointer known = by_test (nat_lt k 8) refl
     by_test true e =
         let few : k < 8 = grind (arith, nat_tests) in
         let is_d : IsReg (10 + k) = record { some = omega arith; small = omega (arith, few) } in
-        leads_so (site c) (pass_into c.layout (10 + k) (passed_class a.extension a.class) a.value) s (Sets s (10 + k) (sent c s a)) (Has c s k a)
-        (leads_argument c is s (10 + k) (passed_class a.extension a.class) a.value is_d (λ e. absurd (omega (arith, e))) pointer known)
+        leads_as (leads_argument c is s (10 + k) (passed_class a.extension a.class) a.value is_d (λ e. absurd (omega (arith, e))) pointer known)
         (λ u f h. record {
           value = λ low. h.value;
           others = h.others;
@@ -303,11 +287,9 @@ leads_registers c is s k [] pointer good order =
     })
 leads_registers c is s k (a ∷ args) pointer good order =
     let parts = and_parts (in_place c.slots a) (list_all (in_place c.slots) args) good in
-    leads_then (site c) (register_items c.layout k a) (register_all c.layout (k + 1) args) s (Has c s k a) (Registered c s k (a ∷ args))
-    (leads_has c is s k a pointer parts.0)
+    leads_on (leads_has c is s k a pointer parts.0)
     (λ u f one.
-    leads_so (site c) (register_all c.layout (k + 1) args) u (Registered c u (k + 1) args) (Registered c s k (a ∷ args))
-    (leads_registers c is u (k + 1) args (one.others 2 (λ e. absurd (omega (arith, e))) ∙ pointer) parts.1 (order_more k a args order))
+    leads_as (leads_registers c is u (k + 1) args (one.others 2 (λ e. absurd (omega (arith, e))) ∙ pointer) parts.1 (order_more k a args order))
     (λ w g two. record {
       in_registers = registers_more c is s u w k a args order one two;
       before = λ n lo. two.before n (omega (arith, lo)) ∙ one.others n (λ e. absurd (omega (arith, e, lo)));

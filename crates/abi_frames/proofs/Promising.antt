@@ -1,23 +1,21 @@
 -- The laws of the code of frames.
-use Rattle.std.proofs.Common.{◌≡◌, ℕ, ◌+◌, ◌*◌, ◌^◌, ◌<◌, ◌≤◌, Bool, true, false, List, refl, ap, arith}
-use Rattle.std.specs.Prelude.{◌&&◌, nat_le, length, slice_get, Option, Some, None}
-use Rattle.std.proofs.lemmas.Bool.{and_parts, and_from, leb-true}
-use Rattle.std.proofs.lemmas.Bool.Decides.{nat_tests}
+use Rattle.std.proofs.Common.{◌≡◌, ℕ, ◌+◌, ◌*◌, ◌^◌, ◌<◌, ◌≤◌, List, refl, arith}
+use Rattle.std.specs.Prelude.{length, slice_get, Option, Some, None}
 use Rattle.il_ast.specs.declared.limits.TheConstants.{FUNCTION_WEIGHT}
-use Rattle.rv_isa.specs.Labels.{IsLabelled, longest_size}
+use Rattle.rv_isa.specs.Labels.{IsLabelled}
 use Rattle.rv_isa.specs.Labelled.{Stand}
-use Rattle.vcode.specs.declared.place.Location.{Location}
-use Rattle.vcode.specs.declared.code.Code.{Code}
+use Rattle.abi_frames.proofs.Shared.{Location, Code, EarlyReturn, Item, leb-true, longest_size}
 use Rattle.vcode.specs.declared.function.LFunc.{LFunc}
 use Rattle.vcode.specs.Regular.{area, code_weight}
-use Rattle.abi_frames.specs.declared.price.TheConstants.{COPIED_RESTORES}
-use Rattle.abi_frames.specs.declared.early.EarlyReturn.{EarlyReturn}
 use Rattle.vcode.specs.Coded.{classes_in}
 use Rattle.flat_code.specs.Step.{flat_begin, flat_step}
 use Rattle.abi_frames.specs.Calls.{World, IsWorld}
 use Rattle.abi_frames.specs.Performs.{KeepsFrame}
 use Rattle.abi_frames.specs.Layout.{layout, saved_registers, frame_bound, frame_size}
-use Rattle.abi_frames.specs.EarlyReturns.{early_return, early_items, items_by, price}
+use Rattle.abi_frames.specs.EarlyReturns.{early_return, early_items, items_by}
+use Rattle.abi_frames.specs.Frames.{IsFrameOf}
+use Rattle.abi_frames.specs.Functions.{function_items}
+use Rattle.abi_frames.specs.BareWays.{bare_items}
 use Rattle.abi_frames.specs.Laws.{IsCode, FramesAreLabelled, FramesAreSmall, FramesPerform, WaysAreLabelled, WaysPerform}
 use Rattle.abi_frames.proofs.BarePerforms.{performs_bare}
 use Rattle.abi_frames.proofs.BareLabelling.{bare_labelled}
@@ -57,25 +55,32 @@ frames_are_labelled f slots is = by_return (early_return f slots) (let size = fr
 
 -- ---- the promise
 
-pub frames_perform : FramesPerform
-frames_perform f slots is =
+-- what code performs that stands anywhere, its frame fits
+is_frame : (f : Code Location) (slots : ℕ) (items : List Item) → IsCode f slots
+    → ((w : World) (at : ℕ) (label global : ℕ → ℕ) (addresses : List ℕ) → IsWorld w → ((n a : ℕ) → slice_get addresses n ≡ Some a → global n ≡ a)
+    → ((n : ℕ) → global n < 2 ^ 30) → Stand w.memory_map label global items at
+    → KeepsFrame w at (frame_bound f slots) (frame_size f slots) (area f) (classes_in f.params) f.result (flat_begin f) (flat_step f addresses))
+    → IsFrameOf f slots items
+is_frame f slots items is performs =
     let frame = frame_fits f slots is in
     record {
       fits = frame.fits;
       area_fits = omega arith;
       some = omega arith;
       aligned = omega arith;
-      keeps = λ w at label global addresses world globals near aligned stands.
-          by_return w at label global addresses world globals near (early_return f slots) refl stands;
+      keeps = λ w at label global addresses world globals near aligned stands. performs w at label global addresses world globals near stands;
     }
+
+pub frames_perform : FramesPerform
+frames_perform f slots is = by_return (early_return f slots) refl
   where
-    by_return : (w : World) (at : ℕ) (label global : ℕ → ℕ) (addresses : List ℕ) → IsWorld w → ((n a : ℕ) → slice_get addresses n ≡ Some a → global n ≡ a)
-        → ((n : ℕ) → global n < 2 ^ 30) → (o : Option EarlyReturn) → early_return f slots ≡ o
-        → Stand w.memory_map label global (items_by (layout f slots) (saved_registers f) f.params f.blocks o) at
-        → KeepsFrame w at (frame_bound f slots) (frame_size f slots) (area f) (classes_in f.params) f.result (flat_begin f) (flat_step f addresses)
-    by_return w at label global addresses world globals near None h stands = performs w at label global addresses f slots is world globals near stands
-    by_return w at label global addresses world globals near (Some e) h stands =
-        performs_early w at label global addresses f slots e (early_is f slots e h) is world globals near stands
+    by_return : (o : Option EarlyReturn) → early_return f slots ≡ o → IsFrameOf f slots (items_by (layout f slots) (saved_registers f) f.params f.blocks o)
+    by_return None h =
+        is_frame f slots (function_items (layout f slots) (saved_registers f) f.params f.blocks) is
+        (λ w at label global addresses world globals near stands. performs w at label global addresses f slots is world globals near stands)
+    by_return (Some e) h =
+        is_frame f slots (early_items (layout f slots) (saved_registers f) f.params f.blocks e) is
+        (λ w at label global addresses world globals near stands. performs_early w at label global addresses f slots e (early_is f slots e h) is world globals near stands)
 
 -- ---- with ways that need no frame
 
@@ -86,12 +91,5 @@ ways_are_labelled f slots parts enter is size =
 
 pub ways_perform : WaysPerform
 ways_perform f slots parts enter is ways =
-    let frame = frame_fits f slots is in
-    record {
-      fits = frame.fits;
-      area_fits = omega arith;
-      some = omega arith;
-      aligned = omega arith;
-      keeps = λ w at label global addresses world globals near aligned stands.
-          performs_bare w at label global addresses f slots parts enter ways is world globals near stands;
-    }
+    is_frame f slots (bare_items f slots parts enter) is
+    (λ w at label global addresses world globals near stands. performs_bare w at label global addresses f slots parts enter ways is world globals near stands)

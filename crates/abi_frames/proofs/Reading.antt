@@ -1,16 +1,13 @@
 -- Bytes that are known are those that the machine reads.
 use Rattle.std.proofs.Common.{◌≡◌, ◌≢◌, ℕ, zero, suc, ◌+◌, ◌*◌, refl, subst, arith, inl, inr, eq-or-lt_of_le}
 use Rattle.std.specs.Prelude.{Option, Some, None}
-use Rattle.std.specs.Option.{option_map}
+use Rattle.abi_frames.proofs.Shared.{option_map, same_Some, none_is_not, number_at}
 use Rattle.rv_isa.specs.State.{State}
-use Rattle.rv_isa.specs.Memory.{number_at}
 use Rattle.rv_isa.specs.Labelled.{Ground}
 use Rattle.flat_code.specs.Spots.{Spot, NoAccess, AnyByte, ThisByte, Spots}
 use Rattle.flat_code.specs.Step.{read_spot, known_number}
 use Rattle.abi_frames.specs.Calls.{IsUsable, HoldsSpots}
 use Rattle.abi_frames.proofs.StackAccesses.{UsableFrom}
-use Rattle.std.proofs.lemmas.Option.{same_Some}
-use Rattle.il_ast.proofs.Chosen.{none_is_not}
 
 pub record IsRead (g : Ground) (u : State) (at n v : ℕ) : Type 0 where
   pub value : number_at u.bytes at n ≡ v

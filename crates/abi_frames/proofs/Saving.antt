@@ -1,20 +1,10 @@
 -- The registers that a function saves: those of a callee that its code writes.
 use Rattle.std.proofs.Common.{◌≡◌, ℕ, suc, ◌≤◌, Bool, true, false, List, [], ◌∷◌, ◌++◌, refl, sym, ◌∙◌, ap, arith}
 use Rattle.std.specs.Prelude.{◌||◌, nat_eq, if◌then◌else◌, length, slice_get, Some}
-use Rattle.std.specs.List.{list_all, list_any}
-use Rattle.std.proofs.lemmas.Bool.{and_parts, and_from, eqb-true}
-use Rattle.std.proofs.lemmas.Bool.Decides.{nat_tests}
-use Rattle.vcode.specs.declared.place.Location.{Location}
-use Rattle.vcode.specs.declared.place.Location.TheVariants.{Register as InRegister, Slot}
-use Rattle.vcode.specs.declared.place.Destination.{Destination}
-use Rattle.vcode.specs.declared.line.Line.{Line}
-use Rattle.vcode.specs.declared.code.Block.{Block}
-use Rattle.vcode.specs.declared.code.Code.{Code}
-use Rattle.vcode.specs.Named.{is_place}
+use Rattle.abi_frames.proofs.Shared.{Location, InRegister, Slot, Destination, Line, Block, Code, list_all, list_any, and_parts, and_from, eqb-true, equals_itself, not_both, nat_tests, is_place}
 use Rattle.abi_frames.specs.Calls.{is_kept}
 use Rattle.abi_frames.specs.Layout.{is_register, writes, block_writes, is_written, written_of, callee_saved, is_call, block_calls, makes_call, saved_registers}
 use Rattle.abi_frames.proofs.Activations.{can_save, is_held, is_among, place_is, MayWrite}
-use Rattle.il_ast.proofs.Truth.{equals_itself}
 use Rattle.il_ast.proofs.Listed.{any_at}
 
 -- ---- those of a list that the code writes
@@ -42,9 +32,6 @@ written_among : (f : Code Location) (n : ℕ) (rs : List ℕ) → is_written f n
 written_among f n [] is h = absurd (let no : ⊥ = cc in no)
 written_among f n (r ∷ rs) is h = by_test (λ k. written_among f n rs is k) (nat_eq n r) refl (is_written f r) refl h
   where
-    two_ways : (b : Bool) → b ≡ true → b ≡ false → ⊥
-    two_ways b e d = cc
-
     first : (t : Bool) → t ≡ true → (t || is_among n (written_of f rs)) ≡ true
     first true e = refl
     first false e = absurd (let no : ⊥ = cc in no)
@@ -56,29 +43,25 @@ written_among f n (r ∷ rs) is h = by_test (λ k. written_among f n rs is k) (n
     by_test : (is_among n rs ≡ true → is_among n (written_of f rs) ≡ true) → (t : Bool) → nat_eq n r ≡ t → (b : Bool) → is_written f r ≡ b
         → (t || is_among n rs) ≡ true → is_among n (if b then r ∷ written_of f rs else written_of f rs) ≡ true
     by_test rest true e true d k = first (nat_eq n r) e
-    by_test rest true e false d k = absurd (two_ways (is_written f r) (ap (is_written f) (sym (eqb-true n r e)) ∙ is) d)
+    by_test rest true e false d k = absurd (not_both (is_written f r) (ap (is_written f) (sym (eqb-true n r e)) ∙ is) d)
     by_test rest false e true d k = later (nat_eq n r) (rest k)
     by_test rest false e false d k = rest k
 
 -- ---- the saved registers
 
-pub can_save_all : (f : Code Location) → list_all can_save (saved_registers f) ≡ true
+all_saved : (test : ℕ → Bool) (f : Code Location) → test 1 ≡ true → list_all test callee_saved ≡ true → list_all test (saved_registers f) ≡ true
 unfolding saved_registers
-can_save_all f = by_test (makes_call f) (written_all can_save f callee_saved refl)
+all_saved test f address all = by_test (makes_call f) (written_all test f callee_saved all)
   where
-    by_test : (b : Bool) → list_all can_save (written_of f callee_saved) ≡ true
-        → list_all can_save ((if b then 1 ∷ [] else []) ++ written_of f callee_saved) ≡ true
-    by_test true e = e
+    by_test : (b : Bool) → list_all test (written_of f callee_saved) ≡ true → list_all test ((if b then 1 ∷ [] else []) ++ written_of f callee_saved) ≡ true
+    by_test true e = and_from (test 1) (list_all test (written_of f callee_saved)) address e
     by_test false e = e
 
+pub can_save_all : (f : Code Location) → list_all can_save (saved_registers f) ≡ true
+can_save_all f = all_saved can_save f refl refl
+
 pub held_all : (f : Code Location) → list_all is_held (saved_registers f) ≡ true
-unfolding saved_registers
-held_all f = by_test (makes_call f) (written_all is_held f callee_saved refl)
-  where
-    by_test : (b : Bool) → list_all is_held (written_of f callee_saved) ≡ true
-        → list_all is_held ((if b then 1 ∷ [] else []) ++ written_of f callee_saved) ≡ true
-    by_test true e = e
-    by_test false e = e
+held_all f = all_saved is_held f refl refl
 
 pub few_saved_registers : (f : Code Location) → length (saved_registers f) ≤ 13
 unfolding saved_registers

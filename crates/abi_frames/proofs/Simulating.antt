@@ -1,58 +1,38 @@
 -- The machine follows the code on bytes, line by line: what holds at a line, and that it holds at the next one, until the code is over.
 use Rattle.std.proofs.Common.{◌≡◌, ◌≢◌, ℕ, zero, suc, ◌+◌, ◌-◌, ◌*◌, ◌<◌, ◌≤◌, Bool, true, false, List, [], ◌∷◌, ◌++◌, refl, sym, ◌∙◌, ap, subst, arith, lit<, zero-add, append_assoc, append-nil}
 use Rattle.std.specs.Prelude.{not, ◌&&◌, nat_eq, nat_lt, if◌then◌else◌, slice_get, Option, Some, None, Err}
-use Rattle.std.specs.Option.{option_map, option_and_then}
-use Rattle.std.specs.List.{list_all, list_any}
-use Rattle.std.proofs.lemmas.Bool.{and_parts, leb-true}
-use Rattle.std.proofs.lemmas.Bool.Decides.{nat_tests}
-use Rattle.std.proofs.lemmas.List.Sums.{sum_by-cons}
 use Rattle.il_ast.specs.declared.limits.TheConstants.{FUNCTION_WEIGHT}
-use Rattle.il_ast.specs.declared.operation.Class.{Class}
+use Rattle.abi_frames.proofs.Shared.{Class, State, Item, Label, Location, Operand, ReturnValue, Operation, Line, Comparison, Jump, Block, Code, LoadOp, option_map, option_and_then, list_all, list_any, and_parts, leb-true, longest_size, none_is_not, same_Some, nat_tests, sum_by-cons, number_at, is_place, operand_keeps, line_keeps}
 use Rattle.il_ast.specs.Operations.{holds, truth}
 use Rattle.il_ast.specs.declared.value.End.TheVariants.{Halt as Halted, Turns}
 use Rattle.il_ast.specs.Run.{Spent, one_turn, both}
 use Rattle.il_ast.specs.Logged.{Over, Does, Logged}
-use Rattle.rv_isa.specs.State.{State}
 use Rattle.rv_isa.specs.Step.{step, Broken}
 use Rattle.rv_isa.specs.Runs.{runs, then_run}
-use Rattle.rv_isa.specs.Memory.{number_at}
-use Rattle.rv_isa.specs.Labels.{longest_size}
 use Rattle.rv_isa.specs.Labelled.{Stand, Stands}
 use Rattle.rv_isa.specs.declared.instruction.Instr.TheVariants.{Ebreak}
-use Rattle.rv_isa.specs.declared.labelled.Item.{Item}
-use Rattle.rv_isa.specs.declared.labelled.Item.TheVariants.{Label}
 use Rattle.rv_isa.proofs.RunLemmas.{comes_then}
 use Rattle.rv_isa.proofs.StepLemmas.{step_at}
-use Rattle.vcode.specs.declared.place.Location.{Location}
-use Rattle.vcode.specs.declared.place.Operand.{Operand}
-use Rattle.vcode.specs.declared.place.ReturnValue.{ReturnValue}
 use Rattle.vcode.specs.declared.place.Address.{Address}
-use Rattle.vcode.specs.declared.line.Operation.{Operation}
-use Rattle.vcode.specs.declared.line.Line.{Line}
 use Rattle.vcode.specs.declared.line.Line.TheVariants.{Tick, Set, Operate, Load, Store, Alloc, Blit, Call}
 use Rattle.vcode.specs.declared.line.Operation.TheVariants.{Compare}
-use Rattle.vcode.specs.declared.line.Comparison.{Comparison}
-use Rattle.vcode.specs.declared.line.Jump.{Jump}
 use Rattle.vcode.specs.declared.line.Jump.TheVariants.{Goto, Branch, Return, Halt}
-use Rattle.vcode.specs.declared.code.Block.{Block}
-use Rattle.vcode.specs.declared.code.Code.{Code}
-use Rattle.vcode.specs.Named.{is_place, operand_keeps, line_keeps}
 use Rattle.vcode.specs.Regular.{area, turns_of, alloc_bytes, is_alloc, is_target}
 use Rattle.vcode.specs.Cost.{jump_cost}
 use Rattle.vcode.specs.Step.{weighs}
 use Rattle.flat_code.specs.Spots.{NoAccess, ThisByte, Spots}
 use Rattle.flat_code.specs.Flat.{FlatGiven, FlatOutcome, FlatReturned, FlatEnded}
 use Rattle.rv_isa.specs.Step.{load_size, load_value}
-use Rattle.rv_isa.specs.declared.instruction.LoadOp.{LoadOp}
 use Rattle.abi_frames.proofs.Reading.{read_is}
 use Rattle.flat_code.specs.Step.{known_number, FlatState, Numbers, put, number_of, taken, passed as read_passed, operated, computed, closed, is_in, sets, ticks, fails, goes_on, enters, compared, branches, returns, returns_as, flat_line, flat_jump, block_step, step_in, flat_step, address_of}
-use Rattle.abi_frames.specs.Calls.{ResultIn, passed}
+use Rattle.abi_frames.specs.Calls.{ResultIn, passed, HoldsSpots}
 use Rattle.abi_frames.specs.Performs.{AllPerform}
 use Rattle.abi_frames.specs.Layout.{most_in_lines}
-use Rattle.abi_frames.specs.Emission.{passed_class, line_items, lines_items, goto_items, branch_items, result_items, leave_items, epilogue, end_items, left_behind, left_by_value, copies_end}
-use Rattle.operation_code.proofs.Leading.{StandAt, Leads, leads_so, Sets}
+use Rattle.abi_frames.specs.Emission.{passed_class, lines_items, goto_items, branch_items, result_items, leave_items, epilogue, end_items, left_behind, left_by_value, copies_end}
+use Rattle.operation_code.proofs.Leading.{StandAt, Leads, Sets}
+use Rattle.abi_frames.proofs.Leads.{leads_as}
 use Rattle.abi_frames.proofs.Addressing.{is_based}
-use Rattle.abi_frames.proofs.Activations.{Setting, site, save_at, operand_in, Framed, operand_known, Assigned, assigned, assigned_output, held_below, held_not_10}
+use Rattle.abi_frames.proofs.Activations.{Setting, site, save_at, operand_in, Framed, operand_known, assigned, assigned_output, held_below, held_not_10, next_index}
 use Rattle.abi_frames.proofs.LineCode.{leads_set_line, leads_operate_line, leads_load_line}
 use Rattle.abi_frames.proofs.FrameEnds.{ends_frame}
 use Rattle.abi_frames.proofs.LineCode.{Scratched}
@@ -62,10 +42,9 @@ use Rattle.abi_frames.proofs.JumpCode.{Arrives, jumps_goto, meets, jumps_branch,
 use Rattle.abi_frames.proofs.Sizes.{result_size, goto_size, branch_items_size, epilogue_size}
 use Rattle.abi_frames.proofs.Storing.{store_case}
 use Rattle.abi_frames.proofs.CallCase.{call_case}
-use Rattle.abi_frames.proofs.Simulation.{CodeStands, allowed, At, AtJump, Landed, Performed, step_of, nothing_taken, later_fits, Log, Follows, Then, undefined, framed_same, reach, next_index, advance, may_write}
+use Rattle.abi_frames.proofs.Simulation.{CodeStands, allowed, At, AtJump, Landed, Performed, step_of, nothing_taken, later_fits, Log, Follows, Then, undefined, framed_same, reach, advance, may_write}
 use Rattle.abi_frames.proofs.Making.{alloc_case}
 use Rattle.abi_frames.proofs.Copying.{blit_case}
-use Rattle.il_ast.proofs.Chosen.{none_is_not}
 
 -- a tick
 abbrev tick : Bool → ℕ → Line Location
@@ -150,8 +129,7 @@ set_case c f is j r n go b to x lines fs k u a log goes all =
     let v : ℕ = operand_in c u x in
     let may = may_write c f is b (Set to x) lines fs k u a to known.0 (λ q. refl) in
     let m = reach c f b (Set to x) lines fs k u (λ w. Framed c numbers fs.memory w × (w.output ≡ u.output)) a
-    (leads_so (site c) (line_items c.layout a.used (Set to x)) u (Assigned c u to v) (λ w. Framed c numbers fs.memory w × (w.output ≡ u.output))
-    (leads_set_line c is.setting u to x a.framed.pointer known.0 known.1)
+    (leads_as (leads_set_line c is.setting u to x a.framed.pointer known.0 known.1)
     (λ w fixed made. (
       assigned c is.setting fs.numbers fs.memory u w to v (number_of c.addresses fs.numbers x) known.0 may a.framed made
           (λ y e. operand_known c fs.numbers fs.memory u x y is.setting a.framed known.1 e),
@@ -183,8 +161,7 @@ operate_case c f is j r n go b to op x y lines fs k u a log goes all =
     let made : ℕ = computed op (operand_in c u x) (operand_in c u y) in
     let may = may_write c f is b (Operate to op x y) lines fs k u a to known.0 (λ q. refl) in
     let m = reach c f b (Operate to op x y) lines fs k u (λ t. Framed c numbers fs.memory t × (t.output ≡ u.output)) a
-    (leads_so (site c) (line_items c.layout a.used (Operate to op x y)) u (Assigned c u to made) (λ t. Framed c numbers fs.memory t × (t.output ≡ u.output))
-    (leads_operate_line c is.setting u to op x y a.framed.pointer known.0 operands.0 operands.1)
+    (leads_as (leads_operate_line c is.setting u to op x y a.framed.pointer known.0 operands.0 operands.1)
     (λ t fixed wrote. (
       assigned c is.setting fs.numbers fs.memory u t to made given known.0 may a.framed wrote
           (operation_known op (operand_in c u x) (operand_in c u y) (number_of c.addresses fs.numbers x) (number_of c.addresses fs.numbers y)
@@ -210,17 +187,13 @@ loaded c f is j r n go b to op x lines fs k u a log all p v is_x is_v goes =
     let value : made_v ≡ load_value op v = ap (load_value op) read.value in
     let may = may_write c f is b (Load to op x) lines fs k u a to known.0 (λ q. refl) in
     let m = reach c f b (Load to op x) lines fs k u (λ t. Framed c numbers fs.memory t × (t.output ≡ u.output)) a
-    (leads_so (site c) (line_items c.layout a.used (Load to op x)) u (Assigned c u to made_v) (λ t. Framed c numbers fs.memory t × (t.output ≡ u.output))
-    (leads_load_line c is.setting u to op x p a.framed.pointer known.0 known.1 based read.usable)
+    (leads_as (leads_load_line c is.setting u to op x p a.framed.pointer known.0 known.1 based read.usable)
     (λ t fixed made. (
-      assigned c is.setting fs.numbers fs.memory u t to made_v (Some (load_value op v)) known.0 may a.framed made (λ q e. value ∙ some_is (load_value op v) q e),
+      assigned c is.setting fs.numbers fs.memory u t to made_v (Some (load_value op v)) known.0 may a.framed made (λ q e. value ∙ same_Some (load_value op v) q e),
       assigned_output c u to made_v t made,
     ))) in
     go b lines (record fs { next = fs.next + 1; numbers = numbers }) (k + m.steps) m.after
     (advance c f b (Load to op x) lines fs k u numbers fs.memory fs.used a refl (nothing_taken fs.used) a.paid m) log goes all
-  where
-    some_is : (p q : ℕ) → Some p ≡ Some q → p ≡ q
-    some_is p q e = cc
 
 load_case : (c : Setting) (f : Code Location) → CodeStands c f → (j : FlatGiven) (r : FlatOutcome) (n : ℕ) → Follows c f j r n
     → (b : Block Location) (to : Location) (op : LoadOp) (x : Address Location) (lines : List (Line Location)) (fs : FlatState) (k : ℕ) (u : State)
@@ -370,19 +343,26 @@ enter c f is j r n go i fs k u there a new log goes all = by_block (slice_get f.
 
 -- ---- the return
 
-pub closed_known : (f : Spots) (at n x k : ℕ) → closed f at n x ≡ ThisByte k → f x ≡ ThisByte k
+closed_known : (f : Spots) (at n x k : ℕ) → closed f at n x ≡ ThisByte k → f x ≡ ThisByte k
 closed_known f at n x k h = by_test (is_in at n x) h
   where
     by_test : (b : Bool) → (if b then NoAccess else f x) ≡ ThisByte k → f x ≡ ThisByte k
     by_test true e = absurd (let no : ⊥ = cc in no)
     by_test false e = e
 
-pub closed_there : (f : Spots) (at n x : ℕ) → closed f at n x ≢ NoAccess → f x ≢ NoAccess
+closed_there : (f : Spots) (at n x : ℕ) → closed f at n x ≢ NoAccess → f x ≢ NoAccess
 closed_there f at n x h e = h (by_test (is_in at n x))
   where
     by_test : (b : Bool) → (if b then NoAccess else f x) ≡ NoAccess
     by_test true = refl
     by_test false = e
+
+pub closed_spots : (c : Setting) (memory : Spots) (at n : ℕ) (u w : State) → w.bytes ≡ u.bytes → HoldsSpots c.world.memory_map memory u
+    → HoldsSpots c.world.memory_map (closed memory at n) w
+closed_spots c memory at n u w same spots = record {
+  known = λ y k e. ap (λ (g : ℕ → ℕ). g y) same ∙ spots.known y k (closed_known memory at n y k e);
+  usable = λ y there. spots.usable y (closed_there memory at n y there);
+}
 
 -- from the frame's end, wherever it stands
 end_case : (c : Setting) (f : Code Location) → CodeStands c f → (fs : FlatState) (k : ℕ) (w : State) (x : Option ℕ) (rest : List Item)
@@ -411,11 +391,7 @@ end_case c f is fs k w x rest stands a held =
         fixed = m.fixed;
         place = left.place;
         kept = left.kept;
-        memory = record {
-          known = λ y n e.
-              ap (λ (g : ℕ → ℕ). g y) left.bytes ∙ a.framed.spots.known y n (closed_known fs.memory (c.sp - c.area) (area f) y n e);
-          usable = λ y there. a.framed.spots.usable y (closed_there fs.memory (c.sp - c.area) (area f) y there);
-        };
+        memory = closed_spots c fs.memory (c.sp - c.area) (area f) w m.after left.bytes a.framed.spots;
         others = λ y high away. ap (λ (g : ℕ → ℕ). g y) left.bytes ∙ a.framed.others y high away;
       };
     }
@@ -448,7 +424,7 @@ leave_case c f is fs k w x next left rest stands a paid held = by_test (copies_e
         })
         (λ t same. held t (same ∙ m.holds.registers 10 (lit< tt)))
 
-no_result : (k : Option Class) (t : State) → ResultIn k None t
+pub no_result : (k : Option Class) (t : State) → ResultIn k None t
 no_result None t = tt
 no_result (Some k) t = tt
 

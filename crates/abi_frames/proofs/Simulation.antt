@@ -1,27 +1,13 @@
 -- What holds at each line while the machine follows the code on bytes, and what is to be shown of it.
 use Rattle.std.proofs.Common.{◌≡◌, ℕ, suc, ◌+◌, ◌-◌, ◌*◌, ◌%◌, ◌<◌, ◌≤◌, Bool, true, false, refl, List, ◌∷◌, ◌++◌, ◌∙◌, ap, subst, arith, lit<, append_assoc}
 use Rattle.std.specs.Prelude.{◌&&◌, ◌||◌, nat_le, length, slice_get, Some, max}
-use Rattle.std.specs.List.{list_all, list_any, sum_by}
-use Rattle.std.proofs.lemmas.Bool.{and_parts, leb-true}
-use Rattle.std.proofs.lemmas.List.Sums.{sum_by-cons}
 use Rattle.il_ast.specs.declared.limits.TheConstants.{FUNCTION_WEIGHT}
 use Rattle.il_ast.specs.declared.value.End.TheVariants.{Undefined}
 use Rattle.il_ast.specs.Run.{Spent, one_call}
 use Rattle.il_ast.specs.Logged.{Entry, LoggedEvent, Logged}
-use Rattle.rv_isa.specs.State.{State}
-use Rattle.rv_isa.specs.Runs.{Comes}
-use Rattle.rv_isa.specs.Memory.{number_at}
-use Rattle.rv_isa.specs.Labels.{longest_size}
+use Rattle.abi_frames.proofs.Shared.{State, Item, Location, InRegister, Slot, Line, Jump, Block, Code, Label, list_all, list_any, sum_by, and_parts, leb-true, longest_size, sum_by-cons, Comes, number_at, is_place, line_keeps, jump_keeps}
 use Rattle.rv_isa.specs.Labelled.{Fixed}
-use Rattle.rv_isa.specs.declared.labelled.Item.{Item}
 use Rattle.rv_isa.proofs.RunLemmas.{comes_then}
-use Rattle.vcode.specs.declared.place.Location.{Location}
-use Rattle.vcode.specs.declared.place.Location.TheVariants.{Register as InRegister, Slot}
-use Rattle.vcode.specs.declared.line.Line.{Line}
-use Rattle.vcode.specs.declared.line.Jump.{Jump}
-use Rattle.vcode.specs.declared.code.Block.{Block}
-use Rattle.vcode.specs.declared.code.Code.{Code}
-use Rattle.vcode.specs.Named.{is_place, line_keeps, jump_keeps}
 use Rattle.vcode.specs.Regular.{area, turns_of, alloc_bytes, is_alloc, leads_inside}
 use Rattle.vcode.specs.Cost.{line_cost, jump_cost, affords}
 use Rattle.flat_code.specs.Spots.{Spots}
@@ -30,10 +16,9 @@ use Rattle.flat_code.specs.Step.{FlatState, FlatEvent, Numbers, flat_step}
 use Rattle.abi_frames.specs.Performs.{Performs, AllPerform}
 use Rattle.abi_frames.specs.Layout.{args_on_stack, most_in_lines, is_register, writes, is_call, falls_through}
 use Rattle.abi_frames.specs.Emission.{line_items, lines_items, jump_items, epilogue, end_items}
-use Rattle.rv_isa.specs.declared.labelled.Item.TheVariants.{Label}
 use Rattle.abi_frames.proofs.Pacing.{landing, standing}
 use Rattle.operation_code.proofs.Leading.{StandAt, Reaches, Leads}
-use Rattle.abi_frames.proofs.Activations.{Setting, IsSetting, site, bottom, slot_at, save_at, value_at, place_is, Framed, held_below, is_among, MayWrite}
+use Rattle.abi_frames.proofs.Activations.{Setting, IsSetting, site, bottom, slot_at, save_at, value_at, place_is, Framed, held_below, is_among, MayWrite, next_index}
 use Rattle.abi_frames.specs.BareWays.{leads}
 use Rattle.abi_frames.proofs.LineCode.{Scratched}
 use Rattle.abi_frames.proofs.Sizes.{line_size}
@@ -224,9 +209,6 @@ later_fits a m s h = omega (arith, h)
 
 pub nothing_taken : (n : ℕ) → n ≡ n + 0
 nothing_taken n = omega arith
-
-pub next_index : (n i : ℕ) → n + 1 + i ≡ n + suc i
-next_index n i = omega arith
 
 -- after a line that is no tick, with what it leaves in places
 pub advance : (c : Setting) (f : Code Location) (b : Block Location) (l : Line Location) (lines : List (Line Location)) (fs : FlatState) (k : ℕ) (u : State)

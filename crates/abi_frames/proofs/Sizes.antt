@@ -2,42 +2,18 @@
 use Rattle.std.proofs.Common.{suc, zero, ◌/◌, ◌≡◌, ℕ, ◌+◌, ◌-◌, ◌*◌, ◌%◌, ◌^◌, ◌<◌, ◌≤◌, Bool, true, false, List, [], ◌∷◌, ◌++◌, refl, sym, ◌∙◌, ap, subst, arith, lit≤}
 use Rattle.bits.specs.Words.{sign_extended}
 use Rattle.std.specs.Prelude.{◌&&◌, not, nat_eq, nat_le, nat_lt, if◌then◌else◌, length, Option, Some, None}
-use Rattle.std.specs.List.{list_all, sum_by}
-use Rattle.std.proofs.lemmas.Bool.{and_parts, and_from, leb-true}
-use Rattle.std.proofs.lemmas.Bool.Decides.{nat_tests}
-use Rattle.il_ast.specs.declared.operation.Condition.{Condition}
+use Rattle.abi_frames.proofs.Shared.{Condition, Class, W, L, Immediate, LoadOp, StoreOp, Item, Plain, Label, Location, InRegister, Slot, Operand, ReturnValue, Argument, Destination, At, Number, Name, Operation, Line, Comparison, Jump, Block, Code, EarlyReturn, Layout, list_all, sum_by, and_parts, and_from, leb-true, longest_size, all_append, not_both, equals_itself, nat_tests, sum_by-cons, low}
 use Rattle.il_ast.specs.declared.operation.Condition.TheVariants.{Equal, NotEqual, SignedLessEqual, SignedLess, SignedGreaterEqual, SignedGreater, UnsignedLessEqual, UnsignedLess, UnsignedGreaterEqual, UnsignedGreater}
-use Rattle.il_ast.specs.declared.operation.Class.{Class}
-use Rattle.il_ast.specs.declared.operation.Class.TheVariants.{W, L}
 use Rattle.il_ast.specs.declared.operation.Size.{Size}
-use Rattle.rv_isa.specs.Labels.{longest, longest_size}
-use Rattle.rv_isa.specs.declared.ranges.Immediate.{Immediate}
-use Rattle.rv_isa.specs.declared.instruction.LoadOp.{LoadOp}
+use Rattle.rv_isa.specs.Labels.{longest}
 use Rattle.rv_isa.specs.declared.instruction.LoadOp.TheVariants.{Lwu, Lhu, Lbu}
-use Rattle.rv_isa.specs.declared.instruction.StoreOp.{StoreOp}
 use Rattle.rv_isa.specs.declared.instruction.StoreOp.TheVariants.{Sb, Sh, Sw}
-use Rattle.rv_isa.specs.declared.labelled.Item.{Item}
 use Rattle.rv_isa.specs.declared.instruction.Instr.TheVariants.{Lui, Addiw}
-use Rattle.rv_isa.specs.declared.labelled.Item.TheVariants.{Plain, Label, Branch as BranchTo, Goto as GoTo, Relocated}
-use Rattle.std.proofs.lemmas.List.Folds.{list_all-append}
-use Rattle.std.proofs.lemmas.List.Sums.{sum_by-cons}
-use Rattle.vcode.specs.declared.place.Location.{Location}
-use Rattle.vcode.specs.declared.place.Location.TheVariants.{Register as InRegister, Slot}
-use Rattle.vcode.specs.declared.place.Operand.{Operand}
-use Rattle.vcode.specs.declared.place.ReturnValue.{ReturnValue}
+use Rattle.rv_isa.specs.declared.labelled.Item.TheVariants.{Branch as BranchTo, Goto as GoTo, Relocated}
 use Rattle.vcode.specs.declared.place.Address.{Address as MemoryAddress}
-use Rattle.vcode.specs.declared.place.Argument.{Argument}
-use Rattle.vcode.specs.declared.place.Destination.{Destination}
-use Rattle.vcode.specs.declared.place.Operand.TheVariants.{At, Number, Name}
-use Rattle.vcode.specs.declared.line.Operation.{Operation}
 use Rattle.vcode.specs.declared.line.Operation.TheVariants.{Reg as RegOperation, RegW as RegWOperation, Compare}
-use Rattle.vcode.specs.declared.line.Line.{Line}
 use Rattle.vcode.specs.declared.line.Line.TheVariants.{Tick, Set, Operate, Load, Store, Alloc, Blit, Call}
-use Rattle.vcode.specs.declared.line.Comparison.{Comparison}
-use Rattle.vcode.specs.declared.line.Jump.{Jump}
 use Rattle.vcode.specs.declared.line.Jump.TheVariants.{Goto, Branch, Return, Halt}
-use Rattle.vcode.specs.declared.code.Block.{Block}
-use Rattle.vcode.specs.declared.code.Code.{Code}
 use Rattle.il_ast.specs.Cost.{round_16}
 use Rattle.vcode.specs.Cost.{branch_cost, is_immediate, operand_cost, operation_cost, line_cost, jump_cost, affords, is_paid}
 use Rattle.vcode.specs.Regular.{weight_of, alloc_bytes, code_weight}
@@ -45,10 +21,7 @@ use Rattle.vcode.specs.Named.{is_near, are_near}
 use Rattle.abi_frames.specs.Layout.{layout, saved_registers}
 use Rattle.abi_frames.proofs.Saving.{few_saved_registers}
 use Rattle.abi_frames.specs.Laws.{IsCode}
-use Rattle.abi_frames.specs.declared.early.EarlyReturn.{EarlyReturn}
 use Rattle.abi_frames.specs.EarlyReturns.{is_bare, is_short, no_frame, quick_label, begin_label, test_items, quick_items, early_items}
-use Rattle.abi_frames.specs.declared.layout.Layout.{Layout}
-use Rattle.vcode.specs.Addresses.{low}
 use Rattle.operation_code.specs.Fields.{reg, high, add_low, extend, sum_to, load_8, store_8}
 use Rattle.operation_code.specs.Constants.{zeros_of, left_of, is_near_number, near_constant, is_made, added, shifted_by, made_constant, long_constant, word, is_word, word_constant, constant}
 use Rattle.operation_code.specs.Immediates.{right_form, left_form, compare_number, form_items}
@@ -57,7 +30,7 @@ use Rattle.operation_code.specs.declared.immediate.Form.TheVariants.{Immediate a
 use Rattle.operation_code.proofs.FormNumbers.{word_low, word_is_small}
 use Rattle.operation_code.proofs.ConstantNumbers.{word_by_bits}
 use Rattle.abi_frames.proofs.Branching.{branch_size}
-use Rattle.abi_frames.specs.Emission.{far_store, load_slot, store_slot, slot_offset, into, fetch, source, word_into, target, deliver, set_items, operand_into, operand_source, on_registers, by_form, operate_by, operate_items, base_items, load_by, load_items, store_by, store_op, store_items, line_items, lines_items, move_pointer, lower_pointer, raise_pointer, save_all, restore_all, prologue, epilogue, result_items, goto_items, branch_when, inverted, ways_items, compared_into, compared_source, branch_items, leave_items, left_by, left_behind, raise_most, end_most, copies_end, left_by_value, jump_items, end_items, block_items, blocks_items, passed_class, pass_into, stack_items, stack_all, register_items, register_all, passed_items, callee_items, prepare_items, call_through, receive_items, call_items, copy_at, copy_eight, copy_eights, copy_rest, blit_items, address_at, alloc_items}
+use Rattle.abi_frames.specs.Emission.{far_store, load_slot, store_slot, slot_offset, into, fetch, source, word_into, target, deliver, set_items, operand_into, operand_source, on_registers, by_form, operate_by, operate_items, base_items, load_by, load_items, store_by, store_op, store_items, line_items, lines_items, move_pointer, lower_pointer, raise_pointer, save_all, restore_all, prologue, epilogue, result_items, goto_items, branch_when, inverted, ways_items, compared_into, compared_source, branch_items, leave_items, left_by, left_behind, raise_most, end_most, copies_end, left_by_value, jump_items, end_items, body_items, blocks_items, passed_class, pass_into, stack_items, stack_all, register_items, register_all, passed_items, callee_items, prepare_items, call_through, receive_items, call_items, copy_at, copy_eight, copy_eights, copy_rest, blit_items, address_at, alloc_items}
 use Rattle.operation_code.specs.Operations.{compare_items, operation_items}
 use Rattle.abi_frames.specs.Moves.{operand_exchanged, argument_exchanged, exchange, is_read, settled, arrived, earlier_at, move_up, moves_up, moved_up, all_move_up, all_moved_up}
 use Rattle.abi_frames.proofs.MovingUp.{moved_length}
@@ -65,7 +38,6 @@ use Rattle.abi_frames.proofs.Sources.{sources_length}
 use Rattle.abi_frames.specs.Functions.{argument_items, arguments_items, is_for_arguments, goes_away, is_on_stack, sources, pointer_items, entry_items, function_items}
 use Rattle.operation_code.proofs.Leading.{longest-append}
 use Rattle.abi_frames.proofs.Outgoing.{slots_near}
-use Rattle.il_ast.proofs.Truth.{not_both, equals_itself}
 
 -- ---- code of instructions alone
 
@@ -95,7 +67,7 @@ fits h le = record { few = (let few = h.few in omega (arith, few, le)); alone = 
 joined : {m n : ℕ} {is js : List Item} → Instructions m is → Instructions n js → Instructions (m + n) (is ++ js)
 joined {is = is} {js = js} h k = record {
   few = (let all = longest-append is js in let a = h.few in let b = k.few in omega (arith, all, a, b));
-  alone = list_all-append is_instruction is js ∙ and_from (list_all is_instruction is) (list_all is_instruction js) h.alone k.alone;
+  alone = all_append is_instruction is js h.alone k.alone;
 }
 
 either : {n : ℕ} {is js : List Item} (b : Bool) → Instructions n is → Instructions n js → Instructions n (if b then is else js)
@@ -434,9 +406,7 @@ line_size y used (Call to callee args) = call_size y to callee args
 pub lines_alone : (y : Layout) (used : ℕ) (lines : List (Line Location)) → list_all is_instruction (lines_items y used lines) ≡ true
 lines_alone y used [] = refl
 lines_alone y used (l ∷ lines) =
-    list_all-append is_instruction (line_items y used l) (lines_items y (used + alloc_bytes l) lines)
-    ∙ and_from (list_all is_instruction (line_items y used l)) (list_all is_instruction (lines_items y (used + alloc_bytes l) lines)) (line_size y used l).alone
-    (lines_alone y (used + alloc_bytes l) lines)
+    all_append is_instruction (line_items y used l) (lines_items y (used + alloc_bytes l) lines) (line_size y used l).alone (lines_alone y (used + alloc_bytes l) lines)
 
 -- ---- the frame's begin and end
 
@@ -613,7 +583,7 @@ blocks_size y rs k (b ∷ blocks) good =
     let few = lines.few in
     let jump = jump_size y rs (k + 1) (left_behind 0 b.lines) b.jump lines.pays in
     let two = longest-append (lines_items y 0 b.lines) (end_items y rs k b) in
-    let all = longest-append (block_items y rs k b) (blocks_items y rs (k + 1) blocks) in
+    let all = longest-append (body_items y rs k b) (blocks_items y rs (k + 1) blocks) in
     let others = blocks_size y rs (k + 1) blocks parts.1 in
     let sum = sum_by-cons block_weight b blocks in
     omega (arith, few, jump, two, all, others, sum)

@@ -1,16 +1,8 @@
 -- From which registers those in which arguments are passed take their values on entry.
 use Rattle.std.proofs.Common.{◌≡◌, ◌≢◌, ℕ, zero, suc, ◌+◌, ◌-◌, ◌<◌, ◌≤◌, Bool, true, false, List, [], ◌∷◌, refl, sym, ◌∙◌, ap, arith}
 use Rattle.std.specs.Prelude.{◌&&◌, nat_lt, if◌then◌else◌, length, slice_get, Some}
-use Rattle.std.specs.List.{list_all}
-use Rattle.std.proofs.lemmas.Bool.{and_from}
-use Rattle.std.proofs.lemmas.Bool.Decides.{nat_tests}
-use Rattle.il_ast.specs.declared.operation.Class.TheVariants.{L}
-use Rattle.vcode.specs.declared.place.Location.{Location}
-use Rattle.vcode.specs.declared.place.Location.TheVariants.{Register as InRegister, Slot}
-use Rattle.vcode.specs.declared.place.Operand.TheVariants.{At}
-use Rattle.vcode.specs.declared.place.Argument.{Argument}
+use Rattle.abi_frames.proofs.Shared.{L, Location, InRegister, Slot, At, Argument, Destination, list_all, and_from, same_Some, nat_tests}
 use Rattle.vcode.specs.declared.place.Extension.TheVariants.{Made}
-use Rattle.vcode.specs.declared.place.Destination.{Destination}
 use Rattle.abi_frames.specs.Layout.{is_register}
 use Rattle.abi_frames.specs.Functions.{source_in, sources}
 use Rattle.abi_frames.proofs.Passing.{in_place}
@@ -79,14 +71,11 @@ pub source_is : (i k m : ℕ) (ds : List (Destination Location)) (d : Destinatio
 source_is i k m [] d apart is place few = absurd (let no : ⊥ = cc in no)
 source_is i k zero (e ∷ ds) d apart is place few =
     let low : nat_lt k 8 ≡ true = grind (arith, nat_tests) in
-    let same : e ≡ d = some_is e d is in
+    let same : e ≡ d = same_Some e d is in
     let it : is_register (10 + i) e.place ≡ true =
     ap (λ (x : Destination Location). is_register (10 + i) x.place) same ∙ (ap (is_register (10 + i)) place ∙ is_itself (10 + i)) in
     ap (λ t. if t then 10 + k else source_in i (k + 1) ds) (and_from (nat_lt k 8) (is_register (10 + i) e.place) low it) ∙ at_k
   where
-    some_is : (a b : Destination Location) → Some a ≡ Some b → a ≡ b
-    some_is a b e = cc
-
     at_k : 10 + k ≡ 10 + (k + zero)
     at_k = omega arith
 source_is i k (suc m) (e ∷ ds) d apart is place few =

@@ -1,28 +1,24 @@
 -- What loads and stores do, of eight bytes of the stack above all.
 use Rattle.std.proofs.Common.{◌≡◌, ◌≢◌, ℕ, ◌+◌, ◌-◌, ◌%◌, ◌^◌, ◌<◌, ◌≤◌, Bool, true, false, [], ◌∷◌, refl, sym, ◌∙◌, ap, subst, arith, lit<}
 use Rattle.std.specs.Prelude.{nat_le, nat_lt, if◌then◌else◌, Ok}
-use Rattle.std.proofs.lemmas.Bool.{and_from}
-use Rattle.std.proofs.lemmas.Bool.Decides.{nat_tests}
-use Rattle.rv_isa.specs.State.{State, register, put}
-use Rattle.rv_isa.specs.Memory.{number_at, stored, each_of, allowed, can_read, can_write}
-use Rattle.rv_isa.specs.Arithmetic.{moved, upper_value}
+use Rattle.abi_frames.proofs.Shared.{State, Immediate, LoadOp, Plain, and_from, nat_tests, number_at, stored, moved, low}
+use Rattle.rv_isa.specs.State.{register, put}
+use Rattle.rv_isa.specs.Memory.{each_of, allowed, can_read, can_write}
+use Rattle.rv_isa.specs.Arithmetic.{upper_value}
 use Rattle.rv_isa.specs.Step.{act, load, load_size, load_value, store}
 use Rattle.rv_isa.specs.Labelled.{Ground, Fixed}
-use Rattle.rv_isa.specs.declared.ranges.Immediate.{Immediate}
 use Rattle.rv_isa.specs.declared.permission.Permission.{Permission}
 use Rattle.rv_isa.specs.declared.instruction.Instr.TheVariants.{Lui, Load, Store}
-use Rattle.rv_isa.specs.declared.instruction.LoadOp.{LoadOp}
 use Rattle.rv_isa.specs.declared.instruction.LoadOp.TheVariants.{Lb, Lh, Lw, Ld, Lbu, Lhu, Lwu}
 use Rattle.rv_isa.specs.declared.instruction.StoreOp.TheVariants.{Sd}
-use Rattle.rv_isa.specs.declared.labelled.Item.TheVariants.{Plain}
 use Rattle.rv_isa.proofs.MemoryLemmas.{each_from, stored_avoids}
 use Rattle.abi_frames.specs.Calls.{IsUsable}
-use Rattle.vcode.specs.Addresses.{low}
 use Rattle.operation_code.specs.Fields.{reg, high, sum_to, load_8, store_8}
 use Rattle.abi_frames.specs.Emission.{far_load, load_slot, far_store, store_slot}
 use Rattle.operation_code.proofs.ConstantNumbers.{near_moves, far_moves}
 use Rattle.operation_code.proofs.Instructions.{leads_lui, leads_sum}
-use Rattle.operation_code.proofs.Leading.{Site, Leads, leads_then, leads_so, leads_by, leads_set, leads_again, Sets, IsReg, register_reg, in_register, same_in_register}
+use Rattle.operation_code.proofs.Leading.{Site, Leads, leads_by, leads_set, leads_again, Sets, IsReg, register_reg, in_register, same_in_register}
+use Rattle.abi_frames.proofs.Leads.{leads_on, leads_as}
 
 -- ---- memory
 
@@ -136,8 +132,7 @@ high_part c s d b o is other pointer =
     leads_again c (Plain (Lui (reg d) (high o)) ∷ []) (sum_to d d 2 ∷ []) s d (upper_value (high o)) ((upper_value (high o) + b) % 2 ^ 64)
     (leads_lui c s d (high o) is)
     (λ u fixed one.
-    leads_so c (sum_to d d 2 ∷ []) u (Sets u d ((u.registers d + u.registers 2) % 2 ^ 64)) (Sets u d ((upper_value (high o) + b) % 2 ^ 64))
-    (leads_sum c u d d 2 is is is_2)
+    leads_as (leads_sum c u d d 2 is is is_2)
     (λ t f two.
     let first = one.value in
     let second : u.registers 2 ≡ b = one.others 2 (λ e. other (sym e)) ∙ pointer in
@@ -160,8 +155,7 @@ leads_load_slot c s d b o is other fixed pointer h small usable = by_test (nat_l
         leads_again c (Plain (Lui (reg d) (high o)) ∷ sum_to d d 2 ∷ []) (load_8 d d o ∷ []) s d ((upper_value (high o) + b) % 2 ^ 64)
         (number_at s.bytes (b + o) 8) (high_part c s d b o is other pointer)
         (λ u f one.
-        leads_so c (load_8 d d o ∷ []) u (Sets u d (number_at u.bytes (b + o) 8)) (Sets u d (number_at s.bytes (b + o) 8))
-        (leads_load c u d d o (b + o) is is f (far_address (u.registers d) b o one.value h small) usable)
+        leads_as (leads_load c u d d o (b + o) is is f (far_address (u.registers d) b o one.value h small) usable)
         (λ t g two. record {
           value = two.value ∙ ap (λ (m : ℕ → ℕ). number_at m (b + o) 8) one.bytes;
           others = two.others;
@@ -177,11 +171,9 @@ leads_store_slot_in c s v b o few other fixed pointer h small usable = by_test (
     by_test true e =
         leads_store_in c s v 2 o (b + o) is_2 fixed (near_address (s.registers 2) b o pointer (grind (arith, nat_tests)) small) usable
     by_test false e =
-        leads_then c (Plain (Lui (reg 29) (high o)) ∷ sum_to 29 29 2 ∷ []) (store_8 v 29 o ∷ []) s (Sets s 29 ((upper_value (high o) + b) % 2 ^ 64))
-        (Writes s (b + o) (in_register s v)) (high_part c s 29 b o is_29 (λ e. absurd (omega (arith, e))) pointer)
+        leads_on (high_part c s 29 b o is_29 (λ e. absurd (omega (arith, e))) pointer)
         (λ u f one.
-        leads_so c (store_8 v 29 o ∷ []) u (Writes u (b + o) (in_register u v)) (Writes s (b + o) (in_register s v))
-        (leads_store_in c u v 29 o (b + o) is_29 f (far_address (u.registers 29) b o one.value h small) usable)
+        leads_as (leads_store_in c u v 29 o (b + o) is_29 f (far_address (u.registers 29) b o one.value h small) usable)
         (λ t g two. record {
           bytes = two.bytes
               ∙ (ap (λ (m : ℕ → ℕ). stored m (b + o) 8 (in_register u v)) one.bytes

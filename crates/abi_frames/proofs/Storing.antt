@@ -1,47 +1,34 @@
 -- A store: its code, and that the machine follows the code on bytes over it.
-use Rattle.std.proofs.Common.{inl, inr, ◌≡◌, ℕ, zero, suc, ◌+◌, ◌-◌, ◌%◌, ◌^◌, ◌<◌, Bool, true, false, List, [], ◌∷◌, ◌++◌, refl, sym, ◌∙◌, ap, subst, arith, lit<}
+use Rattle.std.proofs.Common.{inl, inr, ◌≡◌, ℕ, zero, suc, ◌+◌, ◌-◌, ◌%◌, ◌^◌, ◌<◌, Bool, true, false, List, [], ◌∷◌, refl, sym, ◌∙◌, ap, subst, arith, lit<}
 use Rattle.std.specs.Prelude.{if◌then◌else◌, Option, Some, None}
 use Rattle.std.specs.Int.{byte_at}
-use Rattle.std.specs.List.{list_all}
-use Rattle.std.specs.Option.{option_map, option_and_then}
-use Rattle.std.proofs.lemmas.Bool.{and_parts}
 use Rattle.il_ast.specs.declared.operation.Size.{Size}
 use Rattle.il_ast.specs.declared.operation.Size.TheVariants.{Byte, Half, Word, Long}
 use Rattle.il_ast.specs.Values.{byte_count}
 use Rattle.il_ast.specs.Effect.{stored_class}
-use Rattle.rv_isa.specs.State.{State}
-use Rattle.rv_isa.specs.Memory.{stored}
+use Rattle.abi_frames.proofs.Shared.{State, Immediate, StoreOp, Item, Location, Operand, Number, Name, Line, Block, Code, list_all, option_map, option_and_then, and_parts, stored, moved, is_place, operand_keeps, line_keeps}
 use Rattle.rv_isa.specs.Step.{store_size}
-use Rattle.rv_isa.specs.Arithmetic.{moved}
 use Rattle.rv_isa.specs.Relocations.{lower_part}
 use Rattle.rv_isa.specs.Labelled.{Fixed}
-use Rattle.rv_isa.specs.declared.ranges.Immediate.{Immediate}
-use Rattle.rv_isa.specs.declared.instruction.StoreOp.{StoreOp}
 use Rattle.rv_isa.specs.declared.relocation.Partial.TheVariants.{Store as StoreBy}
-use Rattle.rv_isa.specs.declared.labelled.Item.{Item}
 use Rattle.rv_isa.proofs.MemoryLemmas.{stored_below, stored_above}
-use Rattle.vcode.specs.declared.place.Location.{Location}
-use Rattle.vcode.specs.declared.place.Operand.{Operand}
 use Rattle.vcode.specs.declared.place.Address.{Address}
-use Rattle.vcode.specs.declared.place.Operand.TheVariants.{At as In, Number, Name}
-use Rattle.vcode.specs.declared.line.Line.{Line}
+use Rattle.vcode.specs.declared.place.Operand.TheVariants.{At as In}
 use Rattle.vcode.specs.declared.line.Line.TheVariants.{Store}
-use Rattle.vcode.specs.declared.code.Block.{Block}
-use Rattle.vcode.specs.declared.code.Code.{Code}
-use Rattle.vcode.specs.Named.{is_place, operand_keeps, line_keeps}
 use Rattle.flat_code.specs.Spots.{NoAccess, ThisByte, Spots}
 use Rattle.flat_code.specs.Flat.{FlatGiven, FlatOutcome}
 use Rattle.flat_code.specs.Step.{all_there, is_in, with_number, stored as stored_spots, FlatState, number_of, address_of, read, taken, changes, goes_on}
 use Rattle.abi_frames.specs.Calls.{HoldsSpots}
 use Rattle.abi_frames.specs.Performs.{AllPerform}
 use Rattle.operation_code.specs.Fields.{reg}
-use Rattle.abi_frames.specs.Emission.{fetch, source, base_items, store_by, store_op, store_items, line_items}
-use Rattle.operation_code.proofs.Leading.{Leads, leads_then, leads_so, in_register, same_in_register}
+use Rattle.abi_frames.specs.Emission.{source, store_by, store_op, store_items}
+use Rattle.operation_code.proofs.Leading.{Leads, in_register, same_in_register}
+use Rattle.abi_frames.proofs.Leads.{leads_on, leads_as}
 use Rattle.abi_frames.proofs.StackAccesses.{UsableFrom, is_28, is_29}
 use Rattle.operation_code.proofs.Instructions.{leads_named}
 use Rattle.abi_frames.proofs.Addressing.{IsBased, is_based}
 use Rattle.abi_frames.proofs.Activations.{Setting, IsSetting, site, bottom, operand_in, Framed, operand_known}
-use Rattle.abi_frames.proofs.LineCode.{Aimed, offset_left, leads_base, aimed_scratched, Fetched, leads_fetch, fetched_scratched, scratched_then, operand_same, source_small, source_not_29}
+use Rattle.abi_frames.proofs.LineCode.{offset_left, leads_base, aimed_scratched, leads_fetch, fetched_scratched, scratched_then, operand_same, source_small, source_not_29}
 use Rattle.abi_frames.proofs.Accesses.{Written, leads_store_any_in, stored_byte}
 use Rattle.abi_frames.proofs.MemoryChanges.{Changed, changed, there_at, usable_from, inside_is, outside_is}
 use Rattle.abi_frames.proofs.Simulation.{CodeStands, At, Performed, Log, Follows, Then, undefined, reach, advance, nothing_taken}
@@ -81,20 +68,17 @@ leads_store_line c is s size a at p pointer known_a known_at based usable =
     let b : Operand Location = at.base in
     let o : Immediate = at.offset in
     let made : List Item = store_by (store_op size) x b o ∷ [] in
-    leads_then (site c) (fetch c.layout 28 a) (base_items c.layout 29 b o ++ made) s (Fetched c s 28 a) (Stored s p n v)
-    (leads_fetch c is s 28 a is_28 (λ e. absurd (omega (arith, e))) pointer known_a)
+    leads_on (leads_fetch c is s 28 a is_28 (λ e. absurd (omega (arith, e))) pointer known_a)
     (λ u f one.
     let same = fetched_scratched c s 28 a u (omega arith) one in
-    leads_then (site c) (base_items c.layout 29 b o) made u (Aimed c u 29 b o p) (Stored s p n v)
-    (leads_base c is u 29 b o p is_29 (λ e. absurd (omega (arith, e))) (same.registers 2 (lit< tt) ∙ pointer) known_at
+    leads_on (leads_base c is u 29 b o p is_29 (λ e. absurd (omega (arith, e))) (same.registers 2 (lit< tt) ∙ pointer) known_at
     (λ y e small. based y (e ∙ operand_same c s u b known_at same) small))
     (λ w g two.
     let all = scratched_then s u w same (aimed_scratched c u 29 b o p w (omega arith) two) in
     let value : in_register w x ≡ v =
     same_in_register u w x (source_small c.slots 28 a (lit< tt) known_a) (two.others x (source_not_29 c.slots a known_a)) ∙ one.value in
     let there = subst (λ q. UsableFrom c.world.memory_map p q) (sym (size_is size)) usable in
-    leads_so (site c) made w (Written w p (store_size (store_op size)) (in_register w x)) (Stored s p n v)
-    (leads_store_by c w (store_op size) x b o p g two.there there)
+    leads_as (leads_store_by c w (store_op size) x b o p g two.there there)
     (λ t h three. record {
       bytes = three.bytes ∙ (ap (λ q. stored w.bytes p q (in_register w x)) (size_is size) ∙ (ap (stored w.bytes p n) value ∙ ap (λ (m : ℕ → ℕ). stored m p n v) all.bytes));
       registers = λ m lo. three.registers m ∙ all.registers m lo;
@@ -171,8 +155,7 @@ stores c f is j r n go b size x y lines fs k u a log all v p is_x is_y there goe
     let based = is_based c fs.numbers fs.memory u y p is.setting a.framed known.1 is_y in
     let usable = usable_from c.world.memory_map fs.memory u p m a.framed.spots there in
     let reached = reach c f b (Store size x y) lines fs k u (λ t. Framed c fs.numbers now t × (t.output ≡ u.output)) a
-    (leads_so (site c) (line_items c.layout a.used (Store size x y)) u (Stored u p m (operand_in c u x))
-    (λ t. Framed c fs.numbers now t × (t.output ≡ u.output)) (leads_store_line c is.setting u size x y p a.framed.pointer known.0 known.1 based usable)
+    (leads_as (leads_store_line c is.setting u size x y p a.framed.pointer known.0 known.1 based usable)
     (λ t fixed made. (
       changed c is.setting fs.numbers fs.memory now u t a.framed
           (stored_changes c fs.memory u t p m v (taken (stored_class size) v) a.framed.spots there (byte_taken size v)

@@ -1,7 +1,6 @@
 -- Loops that put the code of the items of a list at the end, one after another.
 use Rattle.std.proofs.Common.{◌≡◌, ℕ, ◌+◌, ◌<◌, Bool, true, List, ◌++◌, length, get_or, drop, sym, ap, ◌∙◌, append_assoc}
-use Rattle.std.specs.List.{list_all, sum_by}
-use Rattle.std.proofs.lemmas.Bool.{and_parts}
+use Rattle.abi_frames.proofs.Shared.{list_all, sum_by, and_parts}
 use Rattle.std.proofs.lemmas.List.Sums.{sum_by-drop_more}
 use Rattle.vcode.proofs.Lists.{item_next}
 

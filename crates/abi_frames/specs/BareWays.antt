@@ -22,7 +22,7 @@ use Rattle.abi_frames.specs.declared.ways.Front.{Front}
 use Rattle.abi_frames.specs.declared.ways.Front.TheVariants.{Copied, Begin, Nothing}
 use Rattle.abi_frames.specs.declared.ways.Part.{Part}
 use Rattle.abi_frames.specs.Layout.{layout, saved_registers, is_register, writes, callee_saved}
-use Rattle.abi_frames.specs.Emission.{block_items, prologue, epilogue}
+use Rattle.abi_frames.specs.Emission.{body_items, block_items, rows, prologue, epilogue}
 use Rattle.abi_frames.specs.Functions.{entry_items}
 
 -- ---- bare blocks
@@ -150,35 +150,43 @@ abbrev pub begin_items : Layout → (saved : List ℕ) → (itself : List Item) 
 begin_items y rs itself enter k =
     prologue y rs ++ (if nat_eq k enter then itself else GoTo k ∷ [])
 
+abbrev pub front_part : Layout → (saved : List ℕ) → (itself : List Item) → (enter k : ℕ) →
+    Block Location → Front → List Item
+front_part y rs itself enter k b Copied =
+    map (raised (fronts_from y)) (body_items (bare_layout y) [] k b)
+front_part y rs itself enter k b Begin = begin_items y rs itself enter k
+front_part y rs itself enter k b Nothing = []
+
 abbrev pub front_items : Layout → (saved : List ℕ) → (itself : List Item) → (enter k : ℕ) →
     Block Location → Front → List Item
-front_items y rs itself enter k b Copied = copied_items y k b
-front_items y rs itself enter k b Begin =
-    Label (front_label y k) ∷ begin_items y rs itself enter k
-front_items y rs itself enter k b Nothing = Label (front_label y k) ∷ []
+front_items y rs itself enter k b front =
+    Label (front_label y k) ∷ front_part y rs itself enter k b front
 
 abbrev pub front_of : Option Part → Front
 front_of None = Nothing
 front_of (Some p) = p.front
 
+abbrev pub front_body : Layout → (saved : List ℕ) → (itself : List Item) → List Part →
+    (enter k : ℕ) → Block Location → List Item
+front_body y rs itself parts enter k b =
+    front_part y rs itself enter k b (front_of (slice_get parts k))
+
 abbrev pub fronts_items : Layout → (saved : List ℕ) → (itself : List Item) → List Part →
     (enter k : ℕ) → List (Block Location) → List Item
-fronts_items y rs itself parts enter k [] = []
-fronts_items y rs itself parts enter k (b ∷ blocks) =
-    front_items y rs itself enter k b (front_of (slice_get parts k))
-    ++ fronts_items y rs itself parts enter (k + 1) blocks
+fronts_items y rs itself parts enter k blocks =
+    rows (front_label y) (front_body y rs itself parts enter) k blocks
 
 -- behind the frame's begin: of a block that is never come to there its label alone
 abbrev pub kept_block_items : Layout → (saved : List ℕ) → (k : ℕ) → Block Location → (kept : Bool) →
     List Item
-kept_block_items y rs k b true = block_items y rs k b
-kept_block_items y rs k b false = Label k ∷ []
+kept_block_items y rs k b kept = Label k ∷ (if kept then body_items y rs k b else [])
+
+abbrev pub kept_body : Layout → (saved : List ℕ) → List Part → (k : ℕ) → Block Location → List Item
+kept_body y rs parts k b = if is_kept_block parts k then body_items y rs k b else []
 
 abbrev pub kept_items : Layout → (saved : List ℕ) → List Part → (k : ℕ) → List (Block Location) →
     List Item
-kept_items y rs parts k [] = []
-kept_items y rs parts k (b ∷ blocks) =
-    kept_block_items y rs k b (is_kept_block parts k) ++ kept_items y rs parts (k + 1) blocks
+kept_items y rs parts k blocks = rows (λ l. l) (kept_body y rs parts) k blocks
 
 abbrev pub framed_items : Layout → (saved : List ℕ) → List Part → List (Block Location) → List Item
 framed_items y rs parts blocks =

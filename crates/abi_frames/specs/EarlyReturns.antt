@@ -29,6 +29,7 @@ use Rattle.abi_frames.specs.declared.pace.TheConstants.{EARLY_TURNS}
 use Rattle.abi_frames.specs.Layout.{layout, saved_registers, frame_size}
 use Rattle.abi_frames.specs.Emission.{result_items, branch_items, go_back}
 use Rattle.abi_frames.specs.Functions.{function_items}
+use Rattle.abi_frames.specs.BareWays.{bare_layout}
 
 -- ---- where numbers stand on entry
 
@@ -159,18 +160,10 @@ early_return f slots = early_by f (frame_size f slots)
 
 -- where there is no frame
 abbrev pub no_frame : Layout → Layout
-no_frame y =
-    record {
-      saves = 0;
-      slots = 0;
-      area = 0;
-      size = 0;
-      result = y.result;
-      leave = y.leave;
-      falls = true;
-    }
+no_frame y = record (bare_layout y) { falls = true }
 
--- two more labels behind those of the blocks and of the frame's end: of the early return, and of the frame's begin
+-- two more labels behind those of the blocks and of the frame's end: of the early return, and of the
+-- frame's begin
 abbrev pub quick_label : Layout → ℕ
 quick_label y = y.leave + 1
 

@@ -447,9 +447,17 @@ jump_items y rs next left Halt = Plain Ebreak ∷ []
 abbrev pub end_items : Layout → (saved : List ℕ) → ℕ → Block Location → List Item
 end_items y rs k b = jump_items y rs (k + 1) (left_behind 0 b.lines) b.jump
 
+abbrev pub body_items : Layout → (saved : List ℕ) → ℕ → Block Location → List Item
+body_items y rs k b = lines_items y 0 b.lines ++ end_items y rs k b
+
 abbrev pub block_items : Layout → (saved : List ℕ) → ℕ → Block Location → List Item
-block_items y rs k b = Label k ∷ (lines_items y 0 b.lines ++ end_items y rs k b)
+block_items y rs k b = Label k ∷ body_items y rs k b
+
+-- what is made of each block, from the k-th on, behind the label of its number
+abbrev pub rows : (label : ℕ → ℕ) → (body : ℕ → Block Location → List Item) → (k : ℕ) →
+    List (Block Location) → List Item
+rows label body k [] = []
+rows label body k (b ∷ blocks) = Label (label k) ∷ (body k b ++ rows label body (k + 1) blocks)
 
 abbrev pub blocks_items : Layout → (saved : List ℕ) → ℕ → List (Block Location) → List Item
-blocks_items y rs k [] = []
-blocks_items y rs k (b ∷ blocks) = block_items y rs k b ++ blocks_items y rs (k + 1) blocks
+blocks_items y rs k blocks = rows (λ l. l) (body_items y rs) k blocks

@@ -12,6 +12,7 @@ use crate::jump::{push_branch, push_result};
 use crate::layout::Layout;
 use crate::pace::EARLY_TURNS;
 use crate::turns::lines_turns;
+use crate::ways::bare_layout;
 use rv_isa::abi;
 use rv_isa::labelled::Item;
 use std::alloc::AllocError;
@@ -331,15 +332,9 @@ pub(crate) fn early_return(code: &Code<Location>, size: u64) -> Option<EarlyRetu
 fn no_frame(layout: &Layout) -> Layout
     ensures { result ≡ no_frame layout.now }
 {
-    Layout {
-        saves: 0,
-        slots: 0,
-        area: 0,
-        size: 0,
-        result: layout.result,
-        leave: layout.leave,
-        falls: true,
-    }
+    let mut bare = bare_layout(layout);
+    bare.falls = true;
+    bare
 }
 
 /// The test, before the label of the frame's begin.

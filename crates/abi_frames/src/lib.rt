@@ -11,7 +11,7 @@
 //! No jump goes to the block that stands next, and a branch is turned round where its first target does (`jump`). Ticks have no instructions, so where code falls
 //! from block to block all of its turns may begin between two instructions: it does only if these are at most 40,000 (`turns`). A return goes to the end of
 //! the frame, behind the last block, which may fall into it. Where that end restores no more than four registers, each other return has a copy of it in place of a
-//! jump, if the code with them stays within its price: that is found by making it (`price`).
+//! jump, if the ticks of its block leave enough to pay for that (`jump`).
 //!
 //! Where the first block does nothing but test what was passed, and copy, and one of its ways does nothing but return, that way needs no frame (`early`,
 //! `specs/EarlyReturns.antt`): the test stands once more before the frame's begin and reads registers of arguments, and the early return behind the frame's end.

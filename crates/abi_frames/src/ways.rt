@@ -174,7 +174,7 @@ pub(crate) fn are_ways(code: &Code<Location>, parts: &[Part], enter: usize) -> b
 }
 
 /// Where there is no frame, and each return goes back.
-fn bare_layout(layout: &Layout) -> Layout
+pub(crate) fn bare_layout(layout: &Layout) -> Layout
     ensures { result ≡ bare_layout layout.now }
 {
     Layout {

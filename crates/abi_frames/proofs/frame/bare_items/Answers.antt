@@ -1,9 +1,7 @@
 use Rattle.std.proofs.Common.{◌≡◌, ◌≤◌, ◌<◌, ◌+◌, ◌^◌, ◌∙◌, sym, ap, subst, arith, List, ℕ}
 use Rattle.std.specs.Prelude.{length, slice_get, Some}
 use Rattle.std.proofs.lemmas.Option.{slice_get_within}
-use Rattle.vcode.specs.declared.place.Location.{Location}
-use Rattle.vcode.specs.declared.code.Block.{Block}
-use Rattle.abi_frames.specs.declared.layout.Layout.{Layout}
+use Rattle.abi_frames.proofs.Shared.{Location, Block, Layout}
 use Rattle.abi_frames.specs.Layout.{layout, saved_registers}
 use Rattle.abi_frames.specs.BareWays.{CanStand}
 use Rattle.abi_frames.proofs.Saving.{few_saved_registers}

@@ -1,9 +1,7 @@
 use Rattle.std.proofs.Common.{◌≡◌, ◌∙◌, true, sym, ap, subst, List, ℕ}
 use Rattle.std.specs.Prelude.{nat_le, length}
 use Rattle.rv_isa.specs.Labels.{IsLabelled, longest_size}
-use Rattle.rv_isa.specs.declared.labelled.Item.{Item}
-use Rattle.vcode.specs.declared.place.Location.{Location}
-use Rattle.vcode.specs.declared.code.Block.{Block}
+use Rattle.abi_frames.proofs.Shared.{Item, Location, Block}
 use Rattle.abi_frames.specs.EarlyReturns.{price}
 use Rattle.abi_frames.specs.BareWays.{bare_items, bare_labels}
 use Rattle.abi_frames.specs.Frames.{IsFrameOf}

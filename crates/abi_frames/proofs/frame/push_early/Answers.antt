@@ -1,6 +1,5 @@
 use Rattle.std.proofs.Common.{[], ◌++◌, ◌∷◌, List, append_assoc}
-use Rattle.rv_isa.specs.declared.labelled.Item.{Item}
-use Rattle.rv_isa.specs.declared.labelled.Item.TheVariants.{Label}
+use Rattle.abi_frames.proofs.Shared.{Item, Label}
 use Rattle.abi_frames.specs.Functions.{function_items}
 use Rattle.abi_frames.specs.EarlyReturns.{test_items, quick_items, begin_label, quick_label}
 use Rattle.operation_code.proofs.Joining.{joined_3, joined_as}

@@ -1,43 +1,32 @@
 use Rattle.std.proofs.Common.{◌≡◌, ◌+◌, ◌*◌, ◌≤◌, ◌∙◌, sym, ap, subst, List, ℕ, length}
 use Rattle.rv_isa.specs.Labels.{IsLabelled, longest_size}
-use Rattle.rv_isa.specs.declared.labelled.Item.{Item}
-use Rattle.vcode.specs.declared.place.Location.{Location}
-use Rattle.vcode.specs.declared.code.Block.{Block}
+use Rattle.abi_frames.proofs.Shared.{Item, Location, Block}
 use Rattle.vcode.specs.Regular.{code_weight}
-use Rattle.abi_frames.specs.EarlyReturns.{early_by, early_return, items_by, frame_items}
-use Rattle.abi_frames.specs.Layout.{layout, saved_registers}
+use Rattle.abi_frames.specs.EarlyReturns.{early_return, frame_items}
 use Rattle.abi_frames.specs.Frames.{IsFrameOf}
 use Rattle.abi_frames.proofs.Promising.{code_of, frames_are_labelled, frames_are_small, frames_perform}
+use Rattle.abi_frames.proofs.Joining.{frame_is}
 use Rattle.abi_frames.proofs.frame.usual_frame.Goals as goal
 
 pub new-requires : goal.new-requires
-unfolding early_return
 new-requires c =
     let l = c.args.function.now.located in
-    let early : c.early_return-early.result ≡ early_return l.code l.slots = c.early_return-early.ensures ∙ ap (λ y. early_by l.code y.size) c.layout_of-layout.ensures.value in
-    let items : c.in_ok-items.items.items ≡ frame_items l.code l.slots =
-    c.in_ok-items.ensures ∙ ap (items_by (layout l.code l.slots) (saved_registers l.code) l.code.params l.code.blocks) early in
+    let items = frame_is l.code l.slots _ _ _ c.in_ok-items.ensures c.early_return-early.ensures c.layout_of-layout.ensures.value in
     let labels : length l.code.blocks + 3 ≡ length c.as_slice-blocks.result.now + 3 = ap (λ (bs : List (Block Location)). length bs + 3) (sym c.as_slice-blocks.ensures) in
     subst (λ (is : List Item). IsLabelled (record { items = is; labels = length c.as_slice-blocks.result.now + 3 })) (sym items)
     (subst (λ (n : ℕ). IsLabelled (record { items = frame_items l.code l.slots; labels = n })) labels (frames_are_labelled l.code l.slots (code_of l)))
 
 pub returns-clause-promise : goal.returns-clause-promise
-unfolding early_return
 returns-clause-promise c =
     let l = c.args.function.now.located in
-    let early : c.early_return-early.result ≡ early_return l.code l.slots = c.early_return-early.ensures ∙ ap (λ y. early_by l.code y.size) c.layout_of-layout.ensures.value in
-    let items : c.in_ok-items.items.items ≡ frame_items l.code l.slots =
-    c.in_ok-items.ensures ∙ ap (items_by (layout l.code l.slots) (saved_registers l.code) l.code.params l.code.blocks) early in
+    let items = frame_is l.code l.slots _ _ _ c.in_ok-items.ensures c.early_return-early.ensures c.layout_of-layout.ensures.value in
     let whole : c.new.result.items ≡ frame_items l.code l.slots = ap (λ k. k.items) c.new.ensures ∙ items in
     subst (IsFrameOf l.code l.slots) (sym whole) (frames_perform l.code l.slots (code_of l))
 
 pub returns-clause-size : goal.returns-clause-size
-unfolding early_return
 returns-clause-size c =
     let l = c.args.function.now.located in
-    let early : c.early_return-early.result ≡ early_return l.code l.slots = c.early_return-early.ensures ∙ ap (λ y. early_by l.code y.size) c.layout_of-layout.ensures.value in
-    let items : c.in_ok-items.items.items ≡ frame_items l.code l.slots =
-    c.in_ok-items.ensures ∙ ap (items_by (layout l.code l.slots) (saved_registers l.code) l.code.params l.code.blocks) early in
+    let items = frame_is l.code l.slots _ _ _ c.in_ok-items.ensures c.early_return-early.ensures c.layout_of-layout.ensures.value in
     let whole : c.new.result.items ≡ frame_items l.code l.slots = ap (λ k. k.items) c.new.ensures ∙ items in
     subst (λ (is : List Item). longest_size is ≤ 32 * code_weight l.code + 256) (sym whole)
     (frames_are_small l.code l.slots (code_of l))

@@ -1,8 +1,6 @@
 use Rattle.std.proofs.Common.{◌∙◌, ap, set}
-use Rattle.vcode.specs.declared.place.Location.{Location}
+use Rattle.abi_frames.proofs.Shared.{Location, At, Argument}
 use Rattle.vcode.specs.declared.place.Location.TheVariants.{Register}
-use Rattle.vcode.specs.declared.place.Operand.TheVariants.{At}
-use Rattle.vcode.specs.declared.place.Argument.{Argument}
 use Rattle.abi_frames.proofs.MovingUp.{settled_is}
 use Rattle.abi_frames.proofs.moves.settle.Goals as goal
 

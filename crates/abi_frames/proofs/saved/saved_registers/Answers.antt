@@ -1,6 +1,5 @@
 use Rattle.std.proofs.Common.{◌≡◌, ℕ, List, [], ◌++◌, ◌∙◌, ap}
-use Rattle.vcode.specs.declared.place.Location.{Location}
-use Rattle.vcode.specs.declared.code.Code.{Code}
+use Rattle.abi_frames.proofs.Shared.{Location, Code}
 use Rattle.abi_frames.specs.Layout.{written_of, callee_saved, return_address, saved_registers}
 use Rattle.abi_frames.proofs.saved.saved_registers.Goals as goal
 

@@ -1,5 +1,5 @@
 use Rattle.std.proofs.Common.{◌∙◌}
-use Rattle.abi_frames.proofs.BareJoining.{ways_joined}
+use Rattle.abi_frames.proofs.Joining.{ways_joined}
 use Rattle.abi_frames.proofs.ways.push_ways.Goals as goal
 
 pub returns : goal.returns
