@@ -33,6 +33,7 @@ use phi_copies::lower::lower;
 use promote::made::has_alloc;
 use promote::promote::promote;
 use rv_isa::code::MachineCode;
+use scheduling::schedule::schedule;
 use select::select::select;
 use std::alloc::{AllocError, Global};
 use vcode::function::{LFunc, VFunc};
@@ -158,7 +159,8 @@ fn located(
 {
     let function = virtual_code_of(alloc, candidates, func)?;
     let located = allocated(alloc, &function, allocator)?;
-    Ok(flat(located))
+    let scheduled = schedule(alloc, located)?;
+    Ok(flat(scheduled))
 }
 
 /// The words of location code of a function. None where its frame takes more of the stack than a call of the function is counted for, or where its words are more

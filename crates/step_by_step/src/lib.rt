@@ -22,6 +22,7 @@ mod orders;
 mod passes;
 mod phis;
 mod plans;
+mod schedules;
 mod show;
 mod step;
 mod tokens;

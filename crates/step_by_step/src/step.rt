@@ -2,7 +2,7 @@
 use crate::case::Case;
 use crate::{
     allocation, back_end, files, frames, front_end, graphs, linking, machine, nests, orders,
-    passes, phis, plans, tokens,
+    passes, phis, plans, schedules, tokens,
 };
 use qbec::passes::Pass;
 use std::alloc::Global;
@@ -34,6 +34,8 @@ pub enum Step {
     ListCertificates,
     LinearScan,
     Certificates,
+    Scheduling,
+    SchedulingPlans,
     FlatCode,
     Frames,
     FrameLines,
@@ -68,7 +70,7 @@ pub const PARTS_OF_PASSES: [Step; 7] = [
 ];
 
 /// The steps behind the passes.
-pub const BACK_END: [Step; 15] = [
+pub const BACK_END: [Step; 17] = [
     Step::Points,
     Step::Liveness,
     Step::SpillAll,
@@ -76,6 +78,8 @@ pub const BACK_END: [Step; 15] = [
     Step::ListCertificates,
     Step::LinearScan,
     Step::Certificates,
+    Step::Scheduling,
+    Step::SchedulingPlans,
     Step::FlatCode,
     Step::Frames,
     Step::FrameLines,
@@ -113,6 +117,8 @@ impl Step {
             Step::ListCertificates => "list_certificates",
             Step::LinearScan => "linear_scan",
             Step::Certificates => "certificates",
+            Step::Scheduling => "scheduling",
+            Step::SchedulingPlans => "scheduling_plans",
             Step::FlatCode => "flat_code",
             Step::Frames => "frames",
             Step::FrameLines => "frame_lines",
@@ -150,6 +156,8 @@ impl Step {
             Step::ListCertificates => allocation::listed(alloc, case.given, case.with),
             Step::LinearScan => allocation::scanned(alloc, case.given),
             Step::Certificates => allocation::accepted(alloc, case.given, case.with),
+            Step::Scheduling => schedules::scheduled(alloc, case.given),
+            Step::SchedulingPlans => schedules::swapped(alloc, case.given, case.with),
             Step::FlatCode => frames::flattened(alloc, case.given),
             Step::Frames => frames::code(alloc, case.given),
             Step::FrameLines => frames::code_of_lines(alloc, case.given, case.with),

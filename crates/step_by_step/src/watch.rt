@@ -2,7 +2,7 @@
 use crate::case::Case;
 use crate::chosen::chosen;
 use crate::step::Step;
-use crate::{allocation, frames, phis};
+use crate::{allocation, frames, phis, schedules};
 use qbec::passes::{PASSES, Pass};
 use std::alloc::Global;
 use text_maker::maker::TextMaker;
@@ -56,14 +56,16 @@ fn add_passes(out: &mut TextMaker, alloc: Global, selected: String) -> Option<St
 fn add_back_end(out: &mut TextMaker, alloc: Global, ordered: &str) -> Option<()> {
     let located = allocation::allocated(alloc, ordered)?;
     add_stage(out, "alloc_check", located.as_str());
-    let labelled = frames::code(alloc, located.as_str())?;
+    let scheduled = schedules::scheduled(alloc, located.as_str())?;
+    add_stage(out, "scheduling", scheduled.as_str());
+    let labelled = frames::code(alloc, scheduled.as_str())?;
     add_stage(out, "abi_frames", labelled.as_str());
-    let words = frames::words(alloc, located.as_str())?;
+    let words = frames::words(alloc, scheduled.as_str())?;
     add_stage(out, "asm_layout", words.as_str());
     Some(())
 }
 
-/// The first function of a text after each step: its tree, the tree without locals in memory, virtual code as it is selected and after each pass, location code, machine
+/// The first function of a text after each step: its tree, the tree without locals in memory, virtual code as it is selected and after each pass, location code before and behind scheduling, machine
 /// code with labels, and words. None where the text has another definition than one function, breaks a rule, or memory is refused.
 pub fn watched(alloc: Global, source: &str) -> Option<String> {
     let mut out = TextMaker::new(alloc);

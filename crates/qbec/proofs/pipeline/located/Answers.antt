@@ -7,6 +7,8 @@ use Rattle.qbec.proofs.pipeline.located.Goals as goal
 
 pub returns-clause-is : goal.returns-clause-is
 returns-clause-is g c =
-    let v = c.in_ok-function.function in
-    let kept = subst (λ (x : LFunc). Keeps (virtual_code v) (location_code x)) (sym c.flat.ensures.same) c.in_ok-located.ensures in
-    stays_with c.args.candidates.now c.args.func.now (virtual_code v) (location_code c.flat.result.located) c.in_ok-function.ensures kept
+    let candidates = c.args.candidates.now in
+    let given = location_code c.in_ok-located.located in
+    let placed = stays_with candidates c.args.func.now (virtual_code c.in_ok-function.function) given c.in_ok-function.ensures c.in_ok-located.ensures in
+    let kept = subst (λ (x : LFunc). Keeps given (location_code x)) (sym c.flat.ensures.same) c.in_ok-scheduled.ensures.kept in
+    stays_with candidates c.args.func.now given (location_code c.flat.result.located) placed kept

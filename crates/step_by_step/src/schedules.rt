@@ -1,0 +1,37 @@
+//! Location code whose lines change places.
+use crate::lists::numbers;
+use code_text::function::{located_function, located_text};
+use il_ast::list::Seq;
+use scheduling::schedule::{apply, schedule};
+use std::alloc::{AllocError, Global};
+use vcode::function::LFunc;
+
+fn shown(alloc: Global, made: Result<LFunc, AllocError>) -> Option<String> {
+    let function = made.ok()?;
+    located_text(alloc, &function).ok()
+}
+
+/// A function in location code, with lines where less has to be waited for.
+pub fn scheduled(alloc: Global, text: &str) -> Option<String> {
+    let function = located_function(alloc, text)?;
+    shown(alloc, schedule(alloc, function))
+}
+
+/// The swaps in a list.
+fn swaps_of(alloc: Global, list: &str) -> Option<Seq<usize>> {
+    let mut swaps = Seq::new(alloc);
+    for at in numbers(alloc, list)?.as_slice() {
+        swaps.push(*at).ok()?;
+    }
+    Some(swaps)
+}
+
+/// The function with the swaps of a text, which has a line for each block.
+pub fn swapped(alloc: Global, text: &str, swaps: &str) -> Option<String> {
+    let function = located_function(alloc, text)?;
+    let mut plan = Vec::new(alloc);
+    for list in swaps.lines() {
+        plan.push(swaps_of(alloc, list)?).ok()?;
+    }
+    shown(alloc, apply(alloc, &function, plan.as_slice()))
+}
