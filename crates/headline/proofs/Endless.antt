@@ -21,19 +21,19 @@ goes_before : (m k : ℕ) (s u : State) → runs (m + k) s ≡ Going u → Befor
 unfolding runs
 goes_before zero k s u h = record { now = s; first = refl; rest = (let e : zero + k ≡ k = omega arith in ap (λ i. runs i s) (sym e)) ∙ h }
 goes_before (suc m) k s u h =
-    by (step s) refl ((let e : suc (m + k) ≡ suc m + k = omega arith in ap (λ i. runs i s) e) ∙ h)
+    by (step s) refl (λ t. goes_before m k t u) ((let e : suc (m + k) ≡ suc m + k = omega arith in ap (λ i. runs i s) e) ∙ h)
   where
-    by : (r : Result State Stop) → step s ≡ r → then_run (runs (m + k)) s (step s) ≡ Going u → Before (suc m) k s u
-    by (Ok t) e g =
-        let b = goes_before m k t u (ap (then_run (runs (m + k)) s) (sym e) ∙ g) in
+    by : (r : Result State Stop) → step s ≡ r → ((t : State) → runs (m + k) t ≡ Going u → Before m k t u) → then_run (runs (m + k)) s (step s) ≡ Going u → Before (suc m) k s u
+    by (Ok t) e on g =
+        let b = on t (ap (then_run (runs (m + k)) s) (sym e) ∙ g) in
         record { now = b.now; first = ap (then_run (runs m) s) e ∙ b.first; rest = b.rest }
-    by (Err f) e g =
+    by (Err f) e on g =
         let h : Stopped f s ≡ Going u = ap (then_run (runs (m + k)) s) (sym e) ∙ g in
         absurd (let no : ⊥ = cc in no)
 
 -- ---- output grows at its end
 
-silent : State → State
+abbrev silent : State → State
 silent s = record s { output = [] }
 
 grows : (o : List ℕ) (r : Run) (u : State) → run_after o r ≡ Going u → IsBeginning o u.output
@@ -47,7 +47,7 @@ output_grows k t u h =
 
 -- ---- the program goes on for longer than so many instructions
 
-turns_beyond : ℕ → ℕ
+abbrev turns_beyond : ℕ → ℕ
 turns_beyond m = 40000 * (m + 1)
 
 beyond : (m steps : ℕ) → turns_beyond m ≤ 40000 * (steps + 1) → m + (steps - m) ≡ steps

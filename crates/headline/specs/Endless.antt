@@ -1,5 +1,5 @@
 -- Programs that never end, beside a machine that executes them.
-use Rattle.std.specs.Prelude.{◌≡◌, ◌×◌, ℕ, List, ◌++◌}
+use Rattle.std.specs.Prelude.{◌≡◌, ℕ, List, ◌++◌}
 use Rattle.il_ast.specs.declared.program.Program.{Program}
 use Rattle.il_ast.specs.declared.value.End.TheVariants.{Turns}
 use Rattle.il_ast.specs.Meaning.{meaning}
