@@ -1,0 +1,17 @@
+//! What the global names of a text mean.
+ghost use Rattle.std.specs.Prelude.{◌≡◌};
+ghost use Rattle.obj_link.specs.ProgramOf.{program};
+ghost use Rattle.stack_bound.specs.Bounds.{names_in};
+
+use il_ast::program::Target;
+use obj_link::linking::linked::Linked;
+
+/// What the global names of a text mean, by its number.
+pub(crate) fn names_in<'a>(linked: &'a Linked<'_>, text: usize) -> &'a [Target]
+    ensures { result.now ≡ names_in (program linked.now) text }
+{
+    match linked.targets.as_slice().get(text) {
+        Some(names) => names.as_slice(),
+        None => &[],
+    }
+}
