@@ -74,9 +74,12 @@ named (Some q) p e h = elim (one_of (λ s. answers_to q.0 (label_of s)) (built q
           | inl is ↦ h.4 is
           | inr symbols ↦ elim symbols [
             | inl is ↦ h.5 is
-            | inr trace ↦ elim trace [
+            | inr stack ↦ elim stack [
               | inl is ↦ h.6 is
-              | inr none ↦ absurd none
+              | inr trace ↦ elim trace [
+                | inl is ↦ h.7 is
+                | inr none ↦ absurd none
+              ]
             ]
           ]
         ]

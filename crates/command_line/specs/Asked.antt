@@ -3,7 +3,7 @@ use Rattle.std.specs.Prelude.{◌≡◌, ◌≢◌, ℕ, ◌^◌, ◌<◌, List,
 use Rattle.std.specs.Str.Parse.{IsNumeral, digits_value, without_leading_plus}
 use Rattle.clap.specs.Walk.{Row, first_of, one_of, all_of}
 use Rattle.command_line.specs.declared.Command.{Command}
-use Rattle.command_line.specs.declared.Command.TheVariants.{Build, Run, Interpret, Disassemble, Check, Symbols, Trace}
+use Rattle.command_line.specs.declared.Command.TheVariants.{Build, Run, Interpret, Disassemble, Check, Symbols, Stack, Trace}
 
 -- the first word of an argument, and all of them
 abbrev pub word_in : List Row → List ℕ → List ℕ
@@ -43,6 +43,8 @@ Asks name rows (Check files) =
     (name ≡ codes "check") × (map (λ s. s.now) files.items ≡ words_in rows (codes "FILES"))
 Asks name rows (Symbols files) =
     (name ≡ codes "symbols") × (map (λ s. s.now) files.items ≡ words_in rows (codes "FILES"))
+Asks name rows (Stack files) =
+    (name ≡ codes "stack") × (map (λ s. s.now) files.items ≡ words_in rows (codes "FILES"))
 Asks name rows (Trace limit last files words) =
     (name ≡ codes "trace") × IsLimit rows limit × IsLast rows last
     × (map (λ s. s.now) files.items ≡ words_in rows (codes "FILES"))
@@ -51,7 +53,8 @@ Asks name rows (Trace limit last files words) =
 abbrev pub AsksFor : (name : List ℕ) → List Row → Option Command → Type 0
 AsksFor name rows None =
     (name ≢ codes "build") × (name ≢ codes "run") × (name ≢ codes "interp") × (name ≢ codes "dis")
-    × (name ≢ codes "check") × (name ≢ codes "symbols") × (name ≢ codes "trace")
+    × (name ≢ codes "check") × (name ≢ codes "symbols") × (name ≢ codes "stack")
+    × (name ≢ codes "trace")
 AsksFor name rows (Some command) = Asks name rows command
 
 -- the same of the subcommand that words name, where they name one

@@ -80,6 +80,9 @@ check_app = with_rule (new_app (codes "check")) files_rule
 abbrev pub symbols_app : App
 symbols_app = with_rule (new_app (codes "symbols")) files_rule
 
+abbrev pub stack_app : App
+stack_app = with_rule (new_app (codes "stack")) files_rule
+
 -- there is no word for the program before the first one, a command has to be named, and there is a
 -- version, but no command `help`
 abbrev pub program_app : App
@@ -99,8 +102,11 @@ executables_app = with_subcommand (with_subcommand program_app build_app.top) ru
 abbrev pub working_app : App
 working_app = with_subcommand (with_subcommand executables_app interp_app.top) dis_app.top
 
+abbrev pub telling_app : App
+telling_app = with_subcommand (with_subcommand working_app check_app.top) symbols_app.top
+
 abbrev pub showing_app : App
-showing_app = with_subcommand (with_subcommand working_app check_app.top) symbols_app.top
+showing_app = with_subcommand telling_app stack_app.top
 
 abbrev pub qbec_app : App
 qbec_app = with_subcommand showing_app trace_app.top

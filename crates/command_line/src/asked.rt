@@ -94,6 +94,13 @@ fn symbols_of<'a>(alloc: Global, found: &ArgMatches<'a>) -> Result<Command<'a>, 
     Ok(Command::Symbols { files })
 }
 
+fn stack_of<'a>(alloc: Global, found: &ArgMatches<'a>) -> Result<Command<'a>, AllocError>
+    ensures { IfOk result (Asks (codes "stack") (rows_of (found_of found.now))) }
+{
+    let files = words_of(alloc, found, FILES)?;
+    Ok(Command::Stack { files })
+}
+
 fn trace_of<'a>(
     alloc: Global,
     found: &ArgMatches<'a>,
@@ -133,6 +140,7 @@ pub fn asked<'a>(
         "dis" => Ok(disassemble_of(found)),
         "check" => check_of(alloc, found),
         "symbols" => symbols_of(alloc, found),
+        "stack" => stack_of(alloc, found),
         "trace" => trace_of(alloc, found, handed),
         _ => return Ok(None),
     };

@@ -2,7 +2,7 @@
 ghost use Rattle.std.specs.Prelude.{[], ◌∷◌, IfOk, List, Some, ℕ};
 ghost use Rattle.clap.specs.Simple.{new_app, new_rule, with_rule};
 ghost use Rattle.clap.specs.Walk.{Rule};
-ghost use Rattle.command_line.specs.Grammar.{HasSubcommand, IsRead, IsRuled, build_app, check_app, dis_app, files_rule, interp_app, last_rule, limit_rule, out_rule, path_rule, program_app, qbec_app, run_app, running_app, symbols_app, trace_app, words_rule};
+ghost use Rattle.command_line.specs.Grammar.{HasSubcommand, IsRead, IsRuled, build_app, check_app, dis_app, files_rule, interp_app, last_rule, limit_rule, out_rule, path_rule, program_app, qbec_app, run_app, running_app, stack_app, symbols_app, trace_app, words_rule};
 
 use clap::builder::ValueParser;
 use clap::{Arg, Command, value_parser};
@@ -29,7 +29,7 @@ const COMPILES: &str =
 
 /// What stands below the help of the program and of its commands.
 const STATUSES: &str =
-    "Exit status: the program's own of run, interp and trace, 0 of build, dis, check and symbols; 134 where the program halts, 124 at the limit, 125 where it faults, is undefined or runs out of stack, 126 where qbec refuses or can't go on. Each but the program's own comes with a line on standard error that says why.
+    "Exit status: the program's own of run, interp and trace, 0 of build, dis, check, symbols and stack; 134 where the program halts, 124 at the limit, 125 where it faults, is undefined or runs out of stack, 126 where qbec refuses or can't go on. Each but the program's own comes with a line on standard error that says why.
 
 Example: qbec build -o hello examples/hello.ssa && qbec run hello";
 
@@ -62,6 +62,11 @@ const SYMBOLS: &str =
 
 Example: qbec symbols examples/hello.ssa";
 
+const STACK: &str =
+    "Exit status: 0; 126 where the texts are refused or a file can't be read, and a line on standard error says why. Standard output has a line for each function, in the order of the texts: the bytes of stack that it needs, the most that a call of it takes with all that it calls, or - where nothing bounds that, and the name. The last line says the most that the program takes, whatever its argument words and however long it runs, or which calls come round to themselves.
+
+Example: qbec stack examples/hello.ssa";
+
 const TRACE: &str = "The argument words of the program stand behind '--'.
 
 Exit status: as of interp. Where the program doesn't exit, lines on standard error say where and why it ended, before the line that says how: the line of a text and the function, what its operands hold, and the calls that it stands in.
@@ -78,6 +83,7 @@ pub(crate) fn grammar<'a>(alloc: Global) -> Result<Command<'a>, AllocError>
     let program = with_subcommand(program, dis(alloc));
     let program = with_subcommand(program, check(alloc));
     let program = with_subcommand(program, symbols(alloc));
+    let program = with_subcommand(program, stack(alloc));
     with_subcommand(program, trace(alloc))
 }
 
@@ -177,6 +183,13 @@ fn symbols<'a>(alloc: Global) -> Result<Command<'a>, AllocError>
 {
     let about = "Shows where the names of texts stand in their executable";
     command(alloc, "symbols", about, SYMBOLS, files(alloc))
+}
+
+fn stack<'a>(alloc: Global) -> Result<Command<'a>, AllocError>
+    ensures { IfOk result (λ c. IsRead c stack_app) }
+{
+    let about = "Shows how much stack a program takes at most";
+    command(alloc, "stack", about, STACK, files(alloc))
 }
 
 fn trace<'a>(alloc: Global) -> Result<Command<'a>, AllocError>

@@ -62,6 +62,10 @@ pub enum Command<'a> {
     Symbols {
         files: Vec<&'a str>,
     },
+    /// Show how much stack the functions of the files, as texts in this order, need and take at most.
+    Stack {
+        files: Vec<&'a str>,
+    },
 }
 
 /// How many instructions or turns a run has where the words don't say: a thousand million.
@@ -70,7 +74,7 @@ pub const DEFAULT_LIMIT: u64 = 1_000_000_000;
 /// What the words after the program's name ask for.
 ///
 /// The words are those of a call such as `build -o OUT FILE...`, `run [--limit N] EXE WORD...`, `interp [--limit N] FILE WORD...`, `dis EXE`, `check FILE...`,
-/// `symbols FILE...` or `trace [--limit N] [--last K] FILE... [-- WORD...]`.
+/// `symbols FILE...`, `stack FILE...` or `trace [--limit N] [--last K] FILE... [-- WORD...]`.
 /// N is from 0 to 1,000,000,000,000, by default [`DEFAULT_LIMIT`], and K from 0 to 1,000, by default 0. A WORD that begins with `-` stands after `--`, and each WORD
 /// of a trace does.
 ///

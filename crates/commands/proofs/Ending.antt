@@ -1,5 +1,5 @@
 -- How commands end whose programs put out what they put out while they run.
-use Rattle.std.proofs.Common.{◌≡◌, ℕ, List, [], ◌∷◌, Bor, Result, Ok, Err, IfErr, OnErr, true, inl, inr, refl, ap, sym, ◌∙◌, subst}
+use Rattle.std.proofs.Common.{◌≡◌, ℕ, List, [], ◌∷◌, Bor, Result, Ok, Err, IfErr, OnErr, true, inl, inr, refl, ◌∙◌, subst}
 use Rattle.il_ast.specs.declared.program.Program.{Program}
 use Rattle.il_ast.specs.declared.value.End.{End}
 use Rattle.il_ast.specs.Meaning.{Behaviour, meaning}
@@ -12,11 +12,11 @@ use Rattle.rv_machine.specs.Runs.{RunEnds}
 use Rattle.rv_machine.specs.Start.{start_state}
 use Rattle.qbec.specs.Texts.{AreProgram}
 use Rattle.shell.specs.Disk.{DiskState, Holds}
-use Rattle.shell.specs.Sink.{SinkState, Sends}
+use Rattle.shell.specs.Sink.{SinkState}
 use Rattle.commands.specs.declared.failure.Failure.{Failure}
 use Rattle.commands.specs.declared.failure.Failure.TheVariants.{Output}
 use Rattle.commands.specs.Parts.{RunsTo, RunFails, MeansTo, InterpretFails, IsTraced, IsTold, TraceFails, AllHold}
-use Rattle.commands.specs.Pieces.{RunSends, RunBreaks, FileSends, FileBreaks, FileFails, Sent, Broken, CutOff, SendingFails, LinkedFails, TextsSend, TextsBreak, TextsCutOff, TextsFail, not_run}
+use Rattle.commands.specs.Pieces.{RunSends, RunBreaks, FileSends, FileFails, Sent, SendingFails, LinkedFails, TextsSend, TextsFail}
 use Rattle.commands.specs.Refusals.{FileIsRefused, TextsAreRefused}
 use Rattle.commands.specs.Runs.{RunsFile, TextsMean}
 use Rattle.commands.specs.Statuses.{stop_status, end_status}

@@ -5,3 +5,4 @@ pub mod Making
 pub mod Judging
 pub mod Sending
 pub mod Ending
+pub mod Staying

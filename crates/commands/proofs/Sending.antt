@@ -1,17 +1,17 @@
 -- Runs whose output goes out piece by piece.
-use Rattle.std.proofs.Common.{◌≡◌, ◌≢◌, ℕ, ◌+◌, ◌-◌, ◌≤◌, ◌<◌, ◌++◌, Bool, List, [], refl, ap, sym, ◌∙◌, subst, arith, append_assoc, append-nil}
+use Rattle.std.proofs.Common.{◌≡◌, ◌≢◌, ℕ, ◌+◌, ◌-◌, ◌≤◌, ◌++◌, Bool, List, [], refl, ap, sym, ◌∙◌, subst, arith, append_assoc, append-nil}
 use Rattle.std.specs.Prelude.{Option, Some, None}
 use Rattle.rv_isa.specs.State.{State}
 use Rattle.rv_machine.specs.declared.stop.Stop.{Stop}
 use Rattle.rv_machine.specs.declared.stop.Stop.TheVariants.{Limit}
 use Rattle.rv_machine.specs.Pieces.{IsPiece, emptied}
-use Rattle.rv_machine.proofs.PieceLaws.{Leads, Begins, begins, leads_here, leads_on, leads_to_end, leads_to_stop}
+use Rattle.rv_machine.proofs.PieceLaws.{Leads, begins, leads_here, leads_on, leads_to_end, leads_to_stop}
 use Rattle.il_ast.specs.declared.value.End.{End}
 use Rattle.il_ast.specs.declared.value.End.TheVariants.{Turns}
 use Rattle.il_ast.specs.Meaning.{Behaviour}
 use Rattle.il_interp.specs.declared.pieces.Running.{Running}
 use Rattle.il_interp.specs.Pieces.{comes_to, ending_of, held, left_of, put_before}
-use Rattle.il_interp.proofs.PieceLaws.{PutsFirst, left_begins, left_goes, left_over, no_turns, whole_piece}
+use Rattle.il_interp.proofs.PieceLaws.{left_begins, left_goes, left_over, no_turns, whole_piece}
 use Rattle.shell.specs.Sink.{SinkState, Went, Sends, Breaks, one_more}
 use Rattle.shell.proofs.SinkLemmas.{went_more}
 use Rattle.commands.specs.Pieces.{RunSends, RunBreaks, Sent, Broken, CutOff}

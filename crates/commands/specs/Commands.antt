@@ -3,7 +3,7 @@
 use Rattle.std.specs.Prelude.{◌≡◌, ◌⊎◌, ℕ, List, map}
 use Rattle.command_line.specs.Words.{AskFor, SaysWhy}
 use Rattle.command_line.specs.declared.Command.{Command}
-use Rattle.command_line.specs.declared.Command.TheVariants.{Build, Run, Interpret, Disassemble, Check, Symbols, Trace}
+use Rattle.command_line.specs.declared.Command.TheVariants.{Build, Run, Interpret, Disassemble, Check, Symbols, Stack, Trace}
 use Rattle.command_line.specs.declared.refusal.Refusal.{Refusal as CommandRefusal}
 use Rattle.command_line.specs.declared.refusal.Refusal.TheVariants.{Help, Mistake, Memory as NoRoom}
 use Rattle.shell.specs.Disk.{DiskState}
@@ -11,8 +11,10 @@ use Rattle.shell.specs.Sink.{SinkState, Sends, Breaks, Tells}
 use Rattle.commands.specs.declared.failure.Failure.{Failure}
 use Rattle.commands.specs.declared.failure.Failure.TheVariants.{Memory, Output}
 use Rattle.commands.specs.Messages.{line_of}
-use Rattle.commands.specs.Parts.{IsBuilt, BuildFails, RunsTo, RunFails, MeansTo, InterpretFails, IsDisassembled, DisassemblyFails, AreShown, SymbolsFail, IsTraced, TraceFails, IsChecked, CheckFails}
+use Rattle.commands.specs.Parts.{IsBuilt, BuildFails, RunsTo, RunFails, MeansTo, InterpretFails, IsDisassembled, DisassemblyFails, AreShown, ShowingLinesFails, IsTraced, TraceFails, IsChecked, CheckFails}
+use Rattle.commands.specs.StackLines.{ShowsStack}
 use Rattle.commands.specs.Statuses.{status_of}
+use Rattle.qbec.specs.Listing.{IsListed}
 
 -- what a disk and the two streams tell at one time
 pub record World : Type 0 where
@@ -39,7 +41,10 @@ Done (Check files) old new status =
     IsChecked old.disk (map (λ p. p.now) files.items) old.err new.err status
     × (new.disk ≡ old.disk) × (new.out ≡ old.out)
 Done (Symbols files) old new status =
-    (status ≡ 0) × AreShown old.disk (map (λ p. p.now) files.items) old.out new.out
+    (status ≡ 0) × AreShown IsListed old.disk (map (λ p. p.now) files.items) old.out new.out
+    × (new.disk ≡ old.disk) × (new.err ≡ old.err)
+Done (Stack files) old new status =
+    (status ≡ 0) × AreShown ShowsStack old.disk (map (λ p. p.now) files.items) old.out new.out
     × (new.disk ≡ old.disk) × (new.err ≡ old.err)
 Done (Trace limit last files words) old new status =
     IsTraced old.disk (map (λ p. p.now) files.items) (map (λ w. w.now) words.items) limit
@@ -58,7 +63,9 @@ Fails (Disassemble file) disk after old new f = DisassemblyFails disk after file
 Fails (Check files) disk after old new f =
     CheckFails disk after (map (λ p. p.now) files.items) f × (new ≡ old)
 Fails (Symbols files) disk after old new f =
-    SymbolsFail disk after (map (λ p. p.now) files.items) old new f
+    ShowingLinesFails IsListed disk after (map (λ p. p.now) files.items) old new f
+Fails (Stack files) disk after old new f =
+    ShowingLinesFails ShowsStack disk after (map (λ p. p.now) files.items) old new f
 Fails (Trace limit last files words) disk after old new f =
     TraceFails disk after (map (λ p. p.now) files.items) (map (λ w. w.now) words.items) limit old new
     f

@@ -5,6 +5,8 @@ pub mod Runs
 pub mod Refusals
 pub mod Verdicts
 pub mod Pieces
+pub mod StackLines
+pub mod Bounded
 pub mod Parts
 pub mod Commands
 pub mod Exits

@@ -16,7 +16,6 @@ use Rattle.shell.specs.Lines.{dis_lines}
 use Rattle.qbec.specs.declared.error.CompileError.{CompileError}
 use Rattle.qbec.specs.Compile.{IsCompiled}
 use Rattle.qbec.specs.Refusals.{Refuses as RefusesTexts}
-use Rattle.qbec.specs.Listing.{IsListed}
 use Rattle.commands.specs.declared.refusal.Refusal.TheVariants.{File}
 use Rattle.commands.specs.declared.failure.Failure.{Failure}
 use Rattle.commands.specs.declared.failure.Failure.TheVariants.{Memory, Refused, Unread, Unwritten, Output}
@@ -233,33 +232,39 @@ DisassemblyFails disk after path old new f =
     × (after ≡ disk) × (new ≡ old))
     ⊎ (IsCutShort disk path.now old new × (f ≡ Output) × (after ≡ disk))
 
--- ---- symbols
+-- ---- symbols and stack
 
--- the files hold texts, and the lines that say where the names of that program stand went out
-pub record AreShown (disk : DiskState) (paths : List (List ℕ)) (old new : SinkState) : Type 0 where
+-- what lines show of texts
+abbrev pub Shows : Type 1
+Shows = (texts : List (List ℕ)) → (lines : List ℕ) → Type 0
+
+-- the files hold texts, and lines that show so much of them went out
+pub record AreShown (shows : Shows) (disk : DiskState) (paths : List (List ℕ))
+    (old new : SinkState) : Type 0 where
   pub texts : List (List ℕ)
   pub held : AllHold disk.files paths texts
   pub lines : List ℕ
-  pub listed : IsListed texts lines
+  pub listed : shows texts lines
   pub sent : Sends old new lines
 
 -- or a beginning of the lines went out, and then standard output failed
-pub record AreCutShort (disk : DiskState) (paths : List (List ℕ)) (old new : SinkState) : Type 0 where
+pub record AreCutShort (shows : Shows) (disk : DiskState) (paths : List (List ℕ))
+    (old new : SinkState) : Type 0 where
   pub texts : List (List ℕ)
   pub held : AllHold disk.files paths texts
   pub lines : List ℕ
-  pub listed : IsListed texts lines
+  pub listed : shows texts lines
   pub broke : Breaks old new lines
 
--- a listing where a file is unread, there was no memory, or the texts are refused, and nothing was
--- put out; or standard output failed
-unfoldable pub SymbolsFail : (disk after : DiskState) → (paths : List (List ℕ)) →
+-- they aren't shown where a file is unread, there was no memory, or the texts are refused, and
+-- nothing was put out; or standard output failed
+unfoldable pub ShowingLinesFails : Shows → (disk after : DiskState) → (paths : List (List ℕ)) →
     (old new : SinkState) → Failure → Type 0
-SymbolsFail disk after paths old new f =
+ShowingLinesFails shows disk after paths old new f =
     (MissesFile disk after paths f × (new ≡ old)) ⊎ ((f ≡ Memory) × (after ≡ disk) × (new ≡ old))
     ⊎ ((texts : List (List ℕ)) × (e : CompileError) × AllHold disk.files paths texts
     × RefusesTexts e texts × (f ≡ Refused (compile_refusal e)) × (after ≡ disk) × (new ≡ old))
-    ⊎ (AreCutShort disk paths old new × (f ≡ Output) × (after ≡ disk))
+    ⊎ (AreCutShort shows disk paths old new × (f ≡ Output) × (after ≡ disk))
 
 -- ---- check
 

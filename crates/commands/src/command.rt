@@ -12,6 +12,7 @@ use crate::failure::Failure;
 use crate::files::put_out;
 use crate::list_symbols::list_symbols;
 use crate::run::{interpret, run};
+use crate::show_stack::show_stack;
 use crate::tell::{tell, tell_bytes};
 use crate::trace::trace;
 use command_line::refusal::Text;
@@ -110,6 +111,7 @@ fn perform<'a, D: Disk, O: Sink, E: Sink>(
             files.as_slice(),
             words.as_slice(),
         ),
+        Command::Stack { files } => show_stack(alloc, disk, out, files.as_slice()),
         Command::Symbols { files } => list_symbols(alloc, allocator, disk, out, files.as_slice()),
     }
 }
@@ -124,9 +126,10 @@ fn perform<'a, D: Disk, O: Sink, E: Sink>(
 /// | `dis EXE` | shows the instructions of the executable file |
 /// | `check FILE...` | says on `err` what is wrong with the files as texts, in order, each with its line |
 /// | `trace [--limit N] [--last K] FILE... [-- WORD...]` | interprets the files as texts, in order, as `interp` does one, and says on `err` where and why they ended, if they didn't exit, with the last K turns |
+/// | `stack FILE...` | shows how much stack the functions of the files, as texts in order, need, and the most that calls of them and the program take |
 /// | `symbols FILE...` | shows where the functions and the data of the files, as texts in order, stand in the executable that `build` makes with this strategy |
 ///
-/// A program's output goes to `out`, while it runs. The status is the program's own, or 0 of `build`, of `dis`, of `symbols`, and of `check` where the texts are a program, else 126. Where something ends otherwise, the line of the [`Failure`] goes
+/// A program's output goes to `out`, while it runs. The status is the program's own, or 0 of `build`, of `dis`, of `symbols`, of `stack`, and of `check` where the texts are a program, else 126. Where something ends otherwise, the line of the [`Failure`] goes
 /// to `err`, and its status is answered; that `err` fails changes nothing. Where `out` fails, that is the failure. Help goes to `out`, with status 0; other texts of
 /// the command line go to `err`, with status 126. What these texts say is shown by tests.
 ///

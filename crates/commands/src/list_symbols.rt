@@ -1,6 +1,7 @@
 //! `qbec symbols`.
 ghost use Rattle.std.specs.Prelude.{◌≡◌, map, IfOk, OnOk, IfErr};
-ghost use Rattle.commands.specs.Parts.{AreShown, SymbolsFail};
+ghost use Rattle.commands.specs.Parts.{AreShown, ShowingLinesFails};
+ghost use Rattle.qbec.specs.Listing.{IsListed};
 
 use crate::failure::Failure;
 use crate::files::{put_out, read_all, slices};
@@ -11,7 +12,7 @@ use shell::sink::Sink;
 use std::alloc::Global;
 
 /// Puts out where the names of the files stand, as texts, in an executable of them.
-#[tactic(auto, unfolding(crate::specs::Parts::SymbolsFail))]
+#[tactic(auto, unfolding(crate::specs::Parts::ShowingLinesFails))]
 pub(crate) fn list_symbols<'a, D: Disk, O: Sink>(
     alloc: Global,
     allocator: &mut dyn Strategy,
@@ -19,10 +20,10 @@ pub(crate) fn list_symbols<'a, D: Disk, O: Sink>(
     out: &mut O,
     paths: &[&'a str],
 ) -> Result<u8, Failure<'a>>
-    ensures shows { OnOk result (AreShown (D.told disk.old) (map (λ p. p.now) paths.now) (O.told out.old) (O.told out.new)) }
+    ensures shows { OnOk result (AreShown IsListed (D.told disk.old) (map (λ p. p.now) paths.now) (O.told out.old) (O.told out.new)) }
     ensures status { IfOk result (λ status. status ≡ 0) }
     ensures same { OnOk result (D.told disk.new ≡ D.told disk.old) }
-    ensures fails { IfErr result (SymbolsFail (D.told disk.old) (D.told disk.new) (map (λ p. p.now) paths.now) (O.told out.old) (O.told out.new)) }
+    ensures fails { IfErr result (ShowingLinesFails IsListed (D.told disk.old) (D.told disk.new) (map (λ p. p.now) paths.now) (O.told out.old) (O.told out.new)) }
 {
     let texts = read_all(alloc, disk, paths)?;
     let slices = slices(alloc, texts.as_slice())?;

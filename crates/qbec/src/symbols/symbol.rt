@@ -24,7 +24,7 @@ pub struct Symbol<'a> {
 }
 
 /// The name of a symbol of a text.
-pub(crate) fn name_in<'a>(texts: &'a [Checked], text: usize, symbol: SymbolNumber) -> &'a [u8]
+pub fn name_in<'a>(texts: &'a [Checked], text: usize, symbol: SymbolNumber) -> &'a [u8]
     ensures { result.now ≡ symbol_name texts.now text symbol }
 {
     match texts.get(text) {

@@ -1,0 +1,10 @@
+use Rattle.std.proofs.Common.{ℕ, List, Bor, map, subst}
+use Rattle.il_types.specs.declared.checked.Checked.{Checked}
+use Rattle.obj_link.specs.Refusals.{Refuses as LinkRefuses}
+use Rattle.qbec.proofs.CompileLemmas.{link_says}
+use Rattle.commands.proofs.stack_lines.stack_listing.Goals as goal
+
+pub returns-in-Ok-clause-refused : goal.returns-in-Ok-clause-refused
+returns-in-Ok-clause-refused c =
+    let truth = subst (λ (xs : List Checked). LinkRefuses c.in-Err-resolve.error xs) c.as_slice.ensures.value c.in-Err-resolve.ensures.truth in
+    link_says (map (λ (t : Bor (List ℕ)). t.now) c.args.texts.now) c.in-Ok.checked.items c.in-Ok.ensures.found c.in-Err-resolve.error c.link_refusal.result c.link_refusal.ensures truth
