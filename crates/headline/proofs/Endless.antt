@@ -61,12 +61,12 @@ endless_programs_run_on p words s executes endless =
       puts_no_more = λ m t h. (
         turns_beyond m,
         (
-          let g = later m in
-          let b = before m in
-          let same : b.now ≡ t = (let e : Going b.now ≡ Going t = sym b.first ∙ h in cc) in
-          subst (λ (o : List ℕ). IsBeginning t.output o) g.output
-          (subst (λ (x : State). IsBeginning x.output g.now.output) same (output_grows (g.steps - m) b.now g.now b.rest))
-        ),
+            let g = later m in
+            let b = before m in
+            let same : b.now ≡ t = (let e : Going b.now ≡ Going t = sym b.first ∙ h in cc) in
+            subst (λ (o : List ℕ). IsBeginning t.output o) g.output
+            (subst (λ (x : State). IsBeginning x.output g.now.output) same (output_grows (g.steps - m) b.now g.now b.rest))
+            ),
       );
     }
   where

@@ -1,5 +1,5 @@
 -- Code by other names takes what the code took, and names registers that there are.
-use Rattle.std.proofs.Common.{◌≡◌, ℕ, ◌+◌, ◌≤◌, Bool, true, false, ◌&&◌, nat_lt, nat_eq, if◌then◌else◌, List, [], ◌∷◌, length, Option, Some, None, refl, sym, ◌∙◌, ap, subst, arith}
+use Rattle.std.proofs.Common.{◌≡◌, ℕ, ◌+◌, ◌≤◌, Bool, true, false, ◌&&◌, nat_lt, nat_eq, if◌then◌else◌, List, [], ◌∷◌, Option, Some, None, refl, ◌∙◌, ap}
 use Rattle.std.specs.List.{list_all}
 use Rattle.std.specs.Option.{option_map_or}
 use Rattle.std.proofs.lemmas.Bool.{and_parts, and_from}
@@ -10,9 +10,9 @@ use Rattle.vcode.specs.declared.line.Line.TheVariants.{Tick, Set, Operate, Load,
 use Rattle.vcode.specs.declared.code.Block.{Block}
 use Rattle.vcode.specs.declared.function.VFunc.{VFunc}
 use Rattle.vcode.specs.Cost.{line_cost, jump_cost}
-use Rattle.vcode.specs.Named.{operand_keeps, line_keeps, jump_keeps, block_keeps, is_below}
+use Rattle.vcode.specs.Named.{operand_keeps, line_keeps, jump_keeps, is_below}
 use Rattle.vcode.specs.Regular.{leads_inside}
-use Rattle.vcode.specs.Replaced.{with_line, with_jump}
+use Rattle.vcode.specs.Replaced.{with_line}
 use Rattle.vcode.specs.Writes.{line_writes}
 use Rattle.vcode.proofs.Replacing.{measure_stays, Costs, line_cost_same, jump_cost_same, Low, line_low, jump_low, inside_same}
 use Rattle.vcode.proofs.Measuring.{no_more, measure, Measured, Empty, Put, within, Each, NoBlocks, OneMore}

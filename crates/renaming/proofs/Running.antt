@@ -1,9 +1,8 @@
 -- Code by other names follows the code: each name holds what its register holds.
-use Rattle.std.proofs.Common.{◌≡◌, ℕ, zero, suc, ◌+◌, Bool, true, false, ◌&&◌, nat_eq, if◌then◌else◌, List, [], ◌∷◌, map, Option, Some, None, refl, sym, ◌∙◌, ap, subst, slice_get, arith}
+use Rattle.std.proofs.Common.{◌≡◌, ℕ, zero, suc, ◌+◌, Bool, true, false, ◌&&◌, nat_eq, if◌then◌else◌, List, [], ◌∷◌, Option, Some, None, refl, sym, ◌∙◌, ap, subst, slice_get, arith}
 use Rattle.std.specs.List.{list_all}
 use Rattle.std.specs.Option.{option_map, option_map_or}
 use Rattle.std.proofs.lemmas.Bool.{and_parts, eqb-true}
-use Rattle.il_ast.specs.declared.operation.Class.{Class}
 use Rattle.il_ast.specs.declared.value.Value.{Value}
 use Rattle.il_ast.specs.declared.value.Value.TheVariants.{Integer, Pointer, Function}
 use Rattle.il_ast.specs.Memory.{Memory}
@@ -11,7 +10,6 @@ use Rattle.il_ast.specs.Keeps.{KeepsCode}
 use Rattle.il_ast.proofs.Truth.{equal_turned}
 use Rattle.vcode.specs.declared.place.Operand.{Operand}
 use Rattle.vcode.specs.declared.place.Operand.TheVariants.{At, Number, Name}
-use Rattle.vcode.specs.declared.place.Destination.{Destination}
 use Rattle.vcode.specs.declared.place.Argument.{Argument}
 use Rattle.vcode.specs.declared.line.Line.{Line}
 use Rattle.vcode.specs.declared.line.Line.TheVariants.{Tick, Set, Operate, Load, Store, Alloc, Blit, Call}
@@ -23,7 +21,7 @@ use Rattle.vcode.specs.Places.{Values, virtual, unknown}
 use Rattle.vcode.specs.Becomes.{with_these}
 use Rattle.vcode.specs.Coded.{classes_in}
 use Rattle.vcode.specs.Step.{value_of, read_all, bound, begin, step}
-use Rattle.vcode.specs.Replaced.{with_line, with_jump}
+use Rattle.vcode.specs.Replaced.{with_line}
 use Rattle.vcode.specs.Writes.{line_writes}
 use Rattle.vcode.specs.Acts.{asked, act, written, way}
 use Rattle.vcode.specs.Claims.{Claims}

@@ -1,5 +1,5 @@
 -- What the code keeps of names, as the definitions have it.
-use Rattle.std.specs.Prelude.{ℕ, if◌then◌else◌, Some}
+use Rattle.std.specs.Prelude.{if◌then◌else◌, Some}
 use Rattle.std.specs.Ordering.{nat_cmp}
 use Rattle.std.specs.BTreeMap.{get}
 use Rattle.renaming.specs.declared.names.Names.{Names as Kept}

@@ -106,7 +106,11 @@ pub fn with_tails(alloc: Global, text: &str, plan_text: &str) -> Option<String> 
 
 /// What a plan's text has for a block: behind how many of its lines, and the registers with their numbers. Each line of the text has a block, how many lines, a register
 /// and a number.
-fn sets_of(alloc: Global, block: usize, plan_text: &str) -> Option<constant_placement::sinking::known::Plan> {
+fn sets_of(
+    alloc: Global,
+    block: usize,
+    plan_text: &str,
+) -> Option<constant_placement::sinking::known::Plan> {
     let mut plan = constant_placement::sinking::known::Plan {
         behind: 0,
         sets: Seq::new(alloc),

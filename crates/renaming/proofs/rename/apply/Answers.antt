@@ -1,4 +1,4 @@
-use Rattle.std.proofs.Common.{◌≡◌, ℕ, ◌+◌, ◌≤◌, true, List, length, IfSome, sym, ◌∙◌, ap, subst, rules}
+use Rattle.std.proofs.Common.{◌≡◌, ℕ, ◌≤◌, true, List, IfSome, sym, subst, rules}
 use Rattle.vcode.specs.declared.code.Block.{Block}
 use Rattle.vcode.specs.Becomes.{Becomes}
 use Rattle.vcode.proofs.Results.{becomes}
