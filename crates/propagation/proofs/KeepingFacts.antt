@@ -1,5 +1,5 @@
 -- Code that is put by what is known takes no more than the code did, and names registers of the function.
-use Rattle.std.proofs.Common.{◌≡◌, ℕ, ◌+◌, ◌%◌, ◌^◌, ◌≤◌, Bool, true, false, not, ◌&&◌, nat_eq, nat_lt, nat_le, if◌then◌else◌, List, [], ◌∷◌, map, Option, Some, None, refl, sym, ◌∙◌, ap, arith}
+use Rattle.std.proofs.Common.{◌≡◌, ℕ, ◌+◌, ◌%◌, ◌^◌, ◌≤◌, Bool, true, false, not, ◌&&◌, nat_eq, nat_lt, nat_le, if◌then◌else◌, List, [], ◌∷◌, map, Option, Some, None, inl, inr, refl, sym, ◌∙◌, ap, arith}
 use Rattle.std.specs.Option.{option_map_or}
 use Rattle.std.specs.List.{list_all}
 use Rattle.std.proofs.lemmas.Bool.{and_parts, and_from}
@@ -34,7 +34,7 @@ use Rattle.propagation.specs.declared.constants.claim.Claim.{Claim}
 use Rattle.propagation.specs.declared.constants.claim.Entry.{Entry}
 use Rattle.propagation.specs.Claimed.{claims_at, making, claimed, known_at}
 use Rattle.propagation.specs.Facts.{Facts, operand_below, fact_below, kept_if, AreBelow}
-use Rattle.propagation.specs.Forwarded.{is_short, copied, propagate, regrouped, grouped, folded, operands_of, further, from_base, with_address, with_line, test_of, tested_by, with_test, with_branch, numbers_hold, decided, with_jump, AreForwarded, IsForwarded, AllForwarded}
+use Rattle.propagation.specs.Forwarded.{is_short, copied, propagate, regrouped, grouped, folded, operands_of, further, from_base, with_address, with_line, test_of, tested_by, with_test, with_branch, numbers_hold, decided, with_jump, IsPut, IsPutJump, AreForwarded, IsForwarded, AllForwarded}
 use Rattle.propagation.specs.After.{is_add, writes_it, fact_of, leaves, after}
 use Rattle.propagation.specs.Shortened.{shortened}
 use Rattle.propagation.proofs.Computing.{unchanged, any_cheaper}
@@ -332,16 +332,20 @@ short_costs (Alloc to size) = omega arith
 short_costs (Blit a b count) = omega arith
 short_costs (Call to callee args) = omega arith
 
-put_costs : (fs : Facts) (l m : Line ℕ) → m ≡ shortened (with_line fs l) → line_cost m ≤ line_cost l
-put_costs fs l m is = let same = ap line_cost is in let short = short_costs (with_line fs l) in let put = line_costs fs l in omega (arith, same, short, put)
+put_costs : (fs : Facts) (l m : Line ℕ) → IsPut fs l m → line_cost m ≤ line_cost l
+put_costs fs l m (inl is) = let same = ap line_cost is in omega (arith, same)
+put_costs fs l m (inr is) = let same = ap line_cost is in let short = short_costs (with_line fs l) in let put = line_costs fs l in omega (arith, same, short, put)
+
+put_measure : (fs : Facts) (l m : Line ℕ) → IsPut fs l m → measure m ≡ measure l
+put_measure fs l m (inl is) = ap measure is
+put_measure fs l m (inr is) = ap measure is ∙ unchanged measure (λ to op other a p q. refl, λ to op a b p. refl) (with_line fs l) ∙ measure_carried fs l
 
 lines_measured : (n : ℕ) (es : List Entry) (whole : List (Line ℕ)) (fs : Facts) (lines new : List (Line ℕ)) (j k : Jump ℕ) → AreForwarded n es whole fs lines new j k → Measured false lines new
 lines_measured n es whole fs [] [] j k f = Empty
 lines_measured n es whole fs [] (m ∷ new) j k f = absurd f
 lines_measured n es whole fs (l ∷ lines) [] j k f = absurd f
 lines_measured n es whole fs (l ∷ lines) (m ∷ new) j k f =
-    Put (ap measure f.0 ∙ unchanged measure (λ to op other a p q. refl, λ to op a b p. refl) (with_line fs l) ∙ measure_carried fs l) (λ e. put_costs fs l m f.0)
-    (lines_measured n es whole (after n m fs) lines new j k f.1)
+    Put (put_measure fs l m f.0) (λ e. put_costs fs l m f.0) (lines_measured n es whole (after n m fs) lines new j k f.1)
 
 -- lines that pay for every jump that costs no more pay for the one that is made of it
 jump_paid : (lines : List (Line ℕ)) (fs : Facts) (j : Jump ℕ) → ((k : Jump ℕ) → jump_cost k ≤ jump_cost j → affords 0 k lines ≡ true) → affords 0 (with_jump lines fs j) lines ≡ true
@@ -360,7 +364,7 @@ jump_paid lines fs (Return (Some a)) h = h (Return (Some (with_returned (propaga
 jump_paid lines fs Halt h = h Halt (omega arith)
 
 -- what is known after all lines, and the jump that it makes
-jump_made : (n : ℕ) (es : List Entry) (whole : List (Line ℕ)) (fs : Facts) (lines new : List (Line ℕ)) (j k : Jump ℕ) → AreForwarded n es whole fs lines new j k → (gs : Facts) × (k ≡ with_jump whole gs j)
+jump_made : (n : ℕ) (es : List Entry) (whole : List (Line ℕ)) (fs : Facts) (lines new : List (Line ℕ)) (j k : Jump ℕ) → AreForwarded n es whole fs lines new j k → (gs : Facts) × IsPutJump whole gs j k
 jump_made n es whole fs [] [] j k f = (fs, f.0)
 jump_made n es whole fs [] (m ∷ new) j k f = absurd f
 jump_made n es whole fs (l ∷ lines) [] j k f = absurd f
@@ -379,10 +383,26 @@ kept_below n b test (Some g) f h = by (b && (fact_below n g && test g)) refl h
 after_below : (n : ℕ) (l : Line ℕ) (fs : Facts) → AreBelow n (after n l fs)
 after_below n l fs r f h = kept_below n (nat_lt r n) (leaves l) (if writes_it l r then fact_of l else fs r) f h
 
+put_low : (n : ℕ) (fs : Facts) → AreBelow n fs → (l m : Line ℕ) → IsPut fs l m → line_keeps (is_below n) l ≡ true → line_keeps (is_below n) m ≡ true
+put_low n fs below l m (inl is) h = ap (line_keeps (is_below n)) is ∙ h
+put_low n fs below l m (inr is) h = ap (line_keeps (is_below n)) is ∙ (unchanged (line_keeps (is_below n)) (λ to op new a p q. refl, λ to op a b p. refl) (with_line fs l) ∙ line_low n fs below l h)
+
+put_jump_low : (whole : List (Line ℕ)) (n : ℕ) (fs : Facts) → AreBelow n fs → (j k : Jump ℕ) → IsPutJump whole fs j k → jump_keeps (is_below n) j ≡ true → jump_keeps (is_below n) k ≡ true
+put_jump_low whole n fs below j k (inl is) h = ap (jump_keeps (is_below n)) is ∙ h
+put_jump_low whole n fs below j k (inr is) h = ap (jump_keeps (is_below n)) is ∙ jump_low whole n fs below j h
+
+put_jump_inside : (whole : List (Line ℕ)) (n m : ℕ) (fs : Facts) (j k : Jump ℕ) → IsPutJump whole fs j k → leads_inside m j ≡ true → leads_inside m k ≡ true
+put_jump_inside whole n m fs j k (inl is) h = ap (leads_inside m) is ∙ h
+put_jump_inside whole n m fs j k (inr is) h = ap (leads_inside m) is ∙ jump_inside whole n m fs j h
+
+put_jump_paid : (lines : List (Line ℕ)) (fs : Facts) (j k : Jump ℕ) → IsPutJump lines fs j k → ((q : Jump ℕ) → jump_cost q ≤ jump_cost j → affords 0 q lines ≡ true) → affords 0 k lines ≡ true
+put_jump_paid lines fs j k (inl is) h = ap (λ (q : Jump ℕ). affords 0 q lines) is ∙ h j (omega arith)
+put_jump_paid lines fs j k (inr is) h = ap (λ (q : Jump ℕ). affords 0 q lines) is ∙ jump_paid lines fs j h
+
 lines_low : (n : ℕ) (es : List Entry) (whole : List (Line ℕ)) (fs : Facts) (lines new : List (Line ℕ)) (j k : Jump ℕ) → AreForwarded n es whole fs lines new j k → AreBelow n fs
     → (list_all (line_keeps (is_below n)) lines && jump_keeps (is_below n) j) ≡ true
     → (list_all (line_keeps (is_below n)) new && jump_keeps (is_below n) k) ≡ true
-lines_low n es whole fs [] [] j k f below h = ap (jump_keeps (is_below n)) f.0 ∙ jump_low whole n fs below j h
+lines_low n es whole fs [] [] j k f below h = put_jump_low whole n fs below j k f.0 h
 lines_low n es whole fs [] (m ∷ new) j k f below h = absurd f
 lines_low n es whole fs (l ∷ lines) [] j k f below h = absurd f
 lines_low n es whole fs (l ∷ lines) (m ∷ new) j k f below h =
@@ -391,7 +411,7 @@ lines_low n es whole fs (l ∷ lines) (m ∷ new) j k f below h =
     let rest = lines_low n es whole (after n m fs) lines new j k f.1 (after_below n m fs) (and_from (list_all (line_keeps (is_below n)) lines) (jump_keeps (is_below n) j) t.1 s.1) in
     let u = and_parts (list_all (line_keeps (is_below n)) new) (jump_keeps (is_below n) k) rest in
     and_from (line_keeps (is_below n) m && list_all (line_keeps (is_below n)) new) (jump_keeps (is_below n) k)
-    (and_from (line_keeps (is_below n) m) (list_all (line_keeps (is_below n)) new) (ap (line_keeps (is_below n)) f.0 ∙ (unchanged (line_keeps (is_below n)) (λ to op new a p q. refl, λ to op a b p. refl) (with_line fs l) ∙ line_low n fs below l t.0)) u.0) u.1
+    (and_from (line_keeps (is_below n) m) (list_all (line_keeps (is_below n)) new) (put_low n fs below l m f.0 t.0) u.0) u.1
 
 known_below : (n : ℕ) (claims : List Claim) (fs : Facts) → AreBelow n fs → AreBelow n (claimed n fs claims)
 known_below n [] fs below = below
@@ -405,9 +425,8 @@ block_serves n es i b c f =
     let measured = lines_measured n es c.lines (known_at n es i) b.lines c.lines b.jump c.jump f in
     record {
       within = within_tested b c measured
-          (λ paid. ap (λ (k : Jump ℕ). affords 0 k c.lines) made.1
-          ∙ jump_paid c.lines made.0 b.jump (λ k low. still_affords measured b.jump k low 0 0 (omega arith) paid));
-      inside = λ m h. ap (leads_inside m) made.1 ∙ jump_inside c.lines n m made.0 b.jump h;
+          (λ paid. put_jump_paid c.lines made.0 b.jump c.jump made.1 (λ k low. still_affords measured b.jump k low 0 0 (omega arith) paid));
+      inside = λ m h. put_jump_inside c.lines n m made.0 b.jump c.jump made.1 h;
       names = lines_low n es c.lines (known_at n es i) b.lines c.lines b.jump c.jump f (known_below n (claims_at es i) (λ r. None) (λ r g h. absurd (let no : ⊥ = cc in no)));
     }
 

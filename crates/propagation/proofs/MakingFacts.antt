@@ -13,8 +13,7 @@ use Rattle.propagation.specs.declared.constants.table.FactTable.{FactTable}
 use Rattle.propagation.specs.declared.constants.claim.Entry.{Entry}
 use Rattle.propagation.specs.Facts.{Facts, fact_names, asks_memory, fact_below, kept_if}
 use Rattle.propagation.specs.FactTable.{facts_of, changed, over}
-use Rattle.propagation.specs.Shortened.{shortened}
-use Rattle.propagation.specs.Forwarded.{with_line, AreForwarded, IsForwarded, AllForwarded}
+use Rattle.propagation.specs.Forwarded.{IsPut, AreForwarded, IsForwarded, AllForwarded}
 use Rattle.propagation.specs.After.{changes_memory, fact_of, after}
 use Rattle.il_ast.proofs.Truth.{equal_turned}
 
@@ -111,7 +110,7 @@ after_nothing n l fs writes low q =
 -- ---- lines
 
 pub lines_on : (n : ℕ) (es : List Entry) (whole : List (Line ℕ)) (t u : FactTable) (lines : List (Line ℕ)) (i : ℕ) (l m : Line ℕ) (rest : List (Line ℕ)) (j k : Jump ℕ) → i < length lines → l ≡ get_or lines i l
-    → m ≡ shortened (with_line (facts_of t) l) → ((q : ℕ) → facts_of u q ≡ after n m (facts_of t) q) → AreForwarded n es whole (facts_of u) (drop (i + 1) lines) rest j k
+    → IsPut (facts_of t) l m → ((q : ℕ) → facts_of u q ≡ after n m (facts_of t) q) → AreForwarded n es whole (facts_of u) (drop (i + 1) lines) rest j k
     → AreForwarded n es whole (facts_of t) (drop i lines) (m ∷ rest) j k
 lines_on n es whole t u lines i l m rest j k low at is known h =
     subst (λ (xs : List (Line ℕ)). AreForwarded n es whole (facts_of t) xs (m ∷ rest) j k) (sym (item_next lines i l low at))

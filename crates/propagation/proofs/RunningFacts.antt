@@ -1,5 +1,5 @@
 -- Code that is put by what is known follows the code, in the same states, in which all that is known is true.
-use Rattle.std.proofs.Common.{◌≡◌, ℕ, zero, suc, ◌+◌, ◌%◌, ◌^◌, ◌<◌, Bool, true, false, not, ◌&&◌, nat_eq, nat_lt, if◌then◌else◌, List, [], ◌∷◌, Option, Some, None, slice_get, refl, sym, ◌∙◌, ap, subst, arith}
+use Rattle.std.proofs.Common.{◌≡◌, ℕ, zero, suc, ◌+◌, ◌%◌, ◌^◌, ◌<◌, Bool, true, false, not, ◌&&◌, nat_eq, nat_lt, if◌then◌else◌, List, [], ◌∷◌, Option, Some, None, slice_get, inl, inr, refl, sym, ◌∙◌, ap, subst, arith}
 use Rattle.std.specs.Option.{option_map, option_and_then, option_map_or}
 use Rattle.std.proofs.lemmas.Bool.{and_parts, not-true, or_parts}
 use Rattle.std.proofs.lemmas.Bool.Decides.{nat_tests}
@@ -56,7 +56,7 @@ use Rattle.propagation.specs.Claimed.{claims_at, making, claimed as claimed_in, 
 use Rattle.propagation.specs.Facts.{Facts, names_it, fact_names, asks_memory, kept_if, fact_below, summed, Truth, AreTrue}
 use Rattle.propagation.specs.Shortened.{shortened}
 use Rattle.propagation.proofs.Computing.{numbers_compared, unchanged, shortened_act}
-use Rattle.propagation.specs.Forwarded.{is_short, copied, propagate, regrouped, grouped, folded, further, from_base, with_address, with_line, test_of, tested_by, with_test, with_branch, numbers_hold, decided, with_jump, AreForwarded, AllForwarded}
+use Rattle.propagation.specs.Forwarded.{is_short, copied, propagate, regrouped, grouped, folded, further, from_base, with_address, with_line, test_of, tested_by, with_test, with_branch, numbers_hold, decided, with_jump, IsPut, IsPutJump, AreForwarded, AllForwarded}
 use Rattle.propagation.specs.After.{is_add, sum_of, changes_memory, writes_it, fact_of, leaves, after}
 use Rattle.il_ast.proofs.Truth.{equals_itself, equal_turned}
 use Rattle.il_ast.proofs.Wrapping.{further_sum}
@@ -680,8 +680,16 @@ module _ (n : ℕ) (es : List Entry) where
   leads_true globals (Some c) memory values fs all (Return (Some a)) well = answering_claims globals memory values (read_result globals values c a)
   leads_true globals result memory values fs all Halt well = tt
 
-  line_follows : (fs : Facts) (l m : Line ℕ) → m ≡ shortened (with_line fs l) → Alike (claimed known) fs (after n m fs) l m
-  line_follows fs l m is =
+  put_writes_same : (fs : Facts) (l m : Line ℕ) → IsPut fs l m → line_writes m ≡ line_writes l
+  put_writes_same fs l m (inl is) = ap line_writes is
+  put_writes_same fs l m (inr is) = ap line_writes is ∙ unchanged line_writes (λ to op other a p q. refl, λ to op a b p. refl) (with_line fs l) ∙ put_writes fs l
+
+  put_act : (fs : Facts) (l m : Line ℕ) → IsPut fs l m → (globals : List Value) (memory : Memory) (ev : Values ℕ) → AreTrue globals (in_state memory ev) fs → act globals memory ev m ≡ act globals memory ev l
+  put_act fs l m (inl is) globals memory ev all = ap (act globals memory ev) is
+  put_act fs l m (inr is) globals memory ev all = ap (act globals memory ev) is ∙ shortened_act globals memory ev (with_line fs l) ∙ line_same globals (in_state memory ev) fs all l
+
+  line_follows : (fs : Facts) (l m : Line ℕ) → IsPut fs l m → Alike (claimed known) fs (after n m fs) l m
+  line_follows fs l m put =
       fact_line known fs (after n m fs) l m writes (λ globals memory ev all works. same globals memory ev all)
       (λ globals memory ev all o next may.
       subst (λ (x : Option ℕ). AreTrue globals (in_state next (written x o ev)) (after n m fs)) writes
@@ -689,18 +697,20 @@ module _ (n : ℕ) (es : List Entry) where
       (line_moves globals (in_state memory ev) m o next (subst (λ (a : Act). MayLeave memory a o next) (sym (same globals memory ev all)) may)) all))
     where
       writes : line_writes m ≡ line_writes l
-      writes = ap line_writes is ∙ unchanged line_writes (λ to op other a p q. refl, λ to op a b p. refl) (with_line fs l) ∙ put_writes fs l
+      writes = put_writes_same fs l m put
 
       same : (globals : List Value) (memory : Memory) (ev : Values ℕ) → AreTrue globals (in_state memory ev) fs → act globals memory ev m ≡ act globals memory ev l
-      same globals memory ev all = ap (act globals memory ev) is ∙ shortened_act globals memory ev (with_line fs l) ∙ line_same globals (in_state memory ev) fs all l
+      same = put_act fs l m put
 
-  jump_follows : (result : Option Class) (whole : List (Line ℕ)) (fs : Facts) (j k : Jump ℕ) → k ≡ with_jump whole fs j → LeadsWell es fs k → LeadAlike (claimed known) result fs j k
-  jump_follows result whole fs j k is well =
-      fact_jump known result fs j k same
-      (λ globals memory ev all. subst (λ (x : Way). Claimed known globals memory ev x) (same globals memory ev all) (leads_true globals result memory ev fs all k well))
-    where
-      same : (globals : List Value) (memory : Memory) (ev : Values ℕ) → AreTrue globals (in_state memory ev) fs → way globals result memory ev k ≡ way globals result memory ev j
-      same globals memory ev all = ap (way globals result memory ev) is ∙ jump_same whole globals result (in_state memory ev) fs all j
+  put_way : (result : Option Class) (whole : List (Line ℕ)) (fs : Facts) (j k : Jump ℕ) → IsPutJump whole fs j k → (globals : List Value) (memory : Memory) (ev : Values ℕ) → AreTrue globals (in_state memory ev) fs
+      → way globals result memory ev k ≡ way globals result memory ev j
+  put_way result whole fs j k (inl is) globals memory ev all = ap (way globals result memory ev) is
+  put_way result whole fs j k (inr is) globals memory ev all = ap (way globals result memory ev) is ∙ jump_same whole globals result (in_state memory ev) fs all j
+
+  jump_follows : (result : Option Class) (whole : List (Line ℕ)) (fs : Facts) (j k : Jump ℕ) → IsPutJump whole fs j k → LeadsWell es fs k → LeadAlike (claimed known) result fs j k
+  jump_follows result whole fs j k put well =
+      fact_jump known result fs j k (put_way result whole fs j k put)
+      (λ globals memory ev all. subst (λ (x : Way). Claimed known globals memory ev x) (put_way result whole fs j k put globals memory ev all) (leads_true globals result memory ev fs all k well))
 
 module _ (n : ℕ) (es : List Entry) (v w : Code ℕ) where
   lines_follow : (whole : List (Line ℕ)) (fs : Facts) (lines new : List (Line ℕ)) (j k : Jump ℕ) → AreForwarded n es whole fs lines new j k → Follows (claimed (known n es)) v w fs lines j new k

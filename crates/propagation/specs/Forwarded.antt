@@ -1,5 +1,5 @@
 -- Code in which operands and branches are put by what is known of registers.
-use Rattle.std.specs.Prelude.{◌≡◌, ℕ, ◌+◌, ◌%◌, ◌^◌, Bool, true, false, not, ◌&&◌, nat_eq, if◌then◌else◌, List, [], ◌∷◌, map, Option, Some, None}
+use Rattle.std.specs.Prelude.{◌≡◌, ◌⊎◌, ℕ, ◌+◌, ◌%◌, ◌^◌, Bool, true, false, not, ◌&&◌, nat_eq, if◌then◌else◌, List, [], ◌∷◌, map, Option, Some, None}
 use Rattle.std.specs.Option.{option_map, option_map_or}
 use Rattle.il_ast.specs.declared.operation.Class.{Class}
 use Rattle.il_ast.specs.declared.operation.Condition.{Condition}
@@ -140,18 +140,26 @@ with_jump lines fs (Branch on met otherwise) =
 with_jump lines fs (Return a) = Return (option_map (with_returned (propagate fs)) a)
 with_jump lines fs Halt = Halt
 
+-- a line in the place of one: that itself, or as it is put by what is known, in its short form
+abbrev pub IsPut : Facts → (l m : Line ℕ) → Type 0
+IsPut fs l m = (m ≡ l) ⊎ (m ≡ shortened (with_line fs l))
+
+-- a jump in the place of one, after all these lines
+abbrev pub IsPutJump : (lines : List (Line ℕ)) → Facts → (j k : Jump ℕ) → Type 0
+IsPutJump lines fs j k = (k ≡ j) ⊎ (k ≡ with_jump lines fs j)
+
 -- ---- blocks
 
--- the lines and the jump, put by what is known, which is `fs` before them, and the lines then in
--- their short form; `whole` is all lines of the new block; what is claimed where it leads is known
+-- the lines and the jump, each put by what is known, which is `fs` before them, or as it was; `whole`
+-- is all lines of the new block; what is claimed where it leads is known
 abbrev pub AreForwarded : (n : ℕ) → List Entry → (whole : List (Line ℕ)) → Facts →
     (lines new : List (Line ℕ)) → (jump next : Jump ℕ) → Type 0
 AreForwarded n entries whole fs [] [] j k =
-    (k ≡ with_jump whole fs j) × LeadsWell entries fs k
+    IsPutJump whole fs j k × LeadsWell entries fs k
 AreForwarded n entries whole fs [] (m ∷ new) j k = ⊥
 AreForwarded n entries whole fs (l ∷ lines) [] j k = ⊥
 AreForwarded n entries whole fs (l ∷ lines) (m ∷ new) j k =
-    (m ≡ shortened (with_line fs l)) × AreForwarded n entries whole (after n m fs) lines new j k
+    IsPut fs l m × AreForwarded n entries whole (after n m fs) lines new j k
 
 -- a block, from what is claimed where it begins
 abbrev pub IsForwarded : (n : ℕ) → List Entry → (block : ℕ) → (b c : Block ℕ) → Type 0

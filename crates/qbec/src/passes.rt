@@ -9,7 +9,7 @@ use code_motion::hoist::hoist_invariants;
 use constant_placement::hoisting::constants::hoist_constants;
 use constant_placement::sinking::sink::sink_constants;
 use dead_code::remove::remove_dead_code;
-use propagation::constants::propagate::propagate_constants;
+use propagation::constants::propagate::{fold_branches, propagate_constants};
 use propagation::copies::read::propagate_copies;
 use renaming::rename::rename_webs;
 use sign_extensions::copies::copy_whole_words;
@@ -31,12 +31,13 @@ pub enum Pass {
     CopyPropagation,
     ConstantHoisting,
     TailDuplication,
+    BranchFolding,
     BlockPlacement,
 }
 
 /// The passes in their order. Dead lines go before values are numbered, since they would count as readers of these, and once more behind that. What code motion sets in
 /// front of loops is found there by value numbering; what that finds is carried on by constant propagation.
-pub const PASSES: [Pass; 14] = [
+pub const PASSES: [Pass; 16] = [
     Pass::SignExtensions,
     Pass::JumpThreading,
     Pass::Renaming,
@@ -50,6 +51,8 @@ pub const PASSES: [Pass; 14] = [
     Pass::CopyPropagation,
     Pass::ConstantHoisting,
     Pass::TailDuplication,
+    Pass::BranchFolding,
+    Pass::DeadCode,
     Pass::BlockPlacement,
 ];
 
@@ -68,6 +71,7 @@ impl Pass {
             Pass::CopyPropagation => "copy_propagation",
             Pass::ConstantHoisting => "constant_hoisting",
             Pass::TailDuplication => "tail_duplication",
+            Pass::BranchFolding => "branch_folding",
             Pass::BlockPlacement => "block_placement",
         }
     }
@@ -92,6 +96,7 @@ impl Pass {
             Pass::CopyPropagation => propagate_copies(alloc, function),
             Pass::ConstantHoisting => hoist_constants(alloc, function),
             Pass::TailDuplication => duplicate_tails(alloc, function),
+            Pass::BranchFolding => fold_branches(alloc, function),
             Pass::BlockPlacement => place_blocks(alloc, function),
         }
     }

@@ -1,14 +1,11 @@
 //! What is claimed where blocks begin: a guess, of which nothing is proved.
 use crate::constants::claim::{Claim, Entry};
 use crate::constants::walk::Walk;
-use cfg_live::low_registers::LowRegisters;
-use cfg_live::uses::line_writes;
 use il_ast::list::Seq;
 use std::alloc::{AllocError, Global};
 use vcode::code::Block;
 use vcode::function::VFunc;
-use vcode::line::{Jump, Line};
-use vcode::place::Operand;
+use vcode::line::Jump;
 
 /// How often the guess goes over a function at most.
 const ROUNDS: usize = 8;
@@ -152,64 +149,12 @@ fn as_entries(alloc: Global, guesses: Vec<Guess>) -> Result<Vec<Entry>, AllocErr
     Ok(entries)
 }
 
-/// Which registers are set to numbers, and which are written otherwise, of those with numbers below 128.
-#[derive(Clone, Copy)]
-struct Writes {
-    numbers: LowRegisters,
-    others: LowRegisters,
-}
-
-impl Writes {
-    /// With what a line writes.
-    fn with(self, line: &Line<u32>) -> Writes {
-        match line {
-            Line::Set {
-                to,
-                value: Operand::Number(_),
-            } => Writes {
-                numbers: self.numbers.with(*to),
-                ..self
-            },
-            _ => match line_writes(line) {
-                Some(register) => Writes {
-                    others: self.others.with(register),
-                    ..self
-                },
-                None => self,
-            },
-        }
-    }
-
-    fn with_all(self, lines: &[Line<u32>]) -> Writes {
-        let mut writes = self;
-        for line in lines {
-            writes = writes.with(line);
-        }
-        writes
-    }
-}
-
-/// Whether a register is written with numbers alone: else none holds one behind the block that sets it, but where several ways join.
-fn holds_number(function: &VFunc) -> bool {
-    let mut writes = Writes {
-        numbers: LowRegisters::new(),
-        others: LowRegisters::new(),
-    };
-    for block in function.code.blocks.as_slice() {
-        writes = writes.with_all(block.lines.as_slice());
-    }
-    function.registers > 128 || !writes.numbers.without(writes.others).is_empty()
-}
-
 /// What is claimed where each block begins: that registers hold what they do behind every block that leads there. Nothing, where that isn't found in a few rounds.
 ///
 /// # Errors
 ///
 /// Only where memory was refused.
 pub(crate) fn entries(alloc: Global, function: &VFunc) -> Result<Vec<Entry>, AllocError> {
-    if !holds_number(function) {
-        return Ok(Vec::new(alloc));
-    }
     let blocks = function.code.blocks.as_slice();
     let mut walk = Walk::new(alloc, function)?;
     let mut guesses = unknown(alloc, blocks.len())?;

@@ -7,7 +7,7 @@ ghost use Rattle.vcode.specs.Coded.{virtual_code};
 ghost use Rattle.propagation.specs.declared.constants.claim.Entry.{Entry};
 ghost use Rattle.propagation.specs.FactTable.{facts_of, IsTable};
 ghost use Rattle.propagation.specs.Claimed.{claimed};
-ghost use Rattle.propagation.specs.Forwarded.{AreForwarded, IsForwarded, AllForwarded};
+ghost use Rattle.propagation.specs.Forwarded.{IsPut, IsPutJump, AreForwarded, IsForwarded, AllForwarded};
 ghost use Rattle.propagation.specs.After.{changes_memory, sum_of, fact_of, after};
 
 use crate::constants::claim::{Claim, Entry, claims_at, leads_well};
@@ -21,7 +21,7 @@ use il_ast::list::Seq;
 use std::alloc::{AllocError, Global};
 use vcode::code::Block;
 use vcode::function::VFunc;
-use vcode::line::{Comparison, Line, Operation};
+use vcode::line::{Comparison, Jump, Line, Operation};
 use vcode::place::{Destination, Operand};
 
 fn changes_memory(line: &Line<u32>) -> bool
@@ -76,6 +76,54 @@ fn fact_of(line: &Line<u32>) -> Option<Fact>
     }
 }
 
+/// How much is put by what is known.
+#[derive(Clone, Copy)]
+enum Extent {
+    /// operands, lines and jumps
+    Operands,
+
+    /// branches whose outcome is known, and copies that change nothing
+    Outcomes,
+}
+
+/// Whether a line sets a register to what it holds.
+fn is_idle(line: &Line<u32>) -> bool {
+    match line {
+        Line::Set {
+            to,
+            value: Operand::At(from),
+        } => *to == *from,
+        _ => false,
+    }
+}
+
+/// A line, put by what is known as far as that goes.
+fn put_line(
+    alloc: Global,
+    table: &FactTable,
+    extent: Extent,
+    line: &Line<u32>,
+) -> Result<Line<u32>, AllocError>
+    ensures { IfOk result (λ m. IsPut (facts_of table.now) line.now m) }
+{
+    let put = shortened(forwarded(alloc, table, line)?);
+    match extent {
+        Extent::Outcomes if !is_idle(&put) => line.try_clone(alloc),
+        _ => Ok(put),
+    }
+}
+
+/// The jump behind these lines, put by what is known as far as that goes.
+fn put_jump(table: &FactTable, extent: Extent, lines: &[Line<u32>], from: &Jump<u32>) -> Jump<u32>
+    ensures { IsPutJump lines.now (facts_of table.now) from.now result }
+{
+    let put = jump(table, lines, from);
+    match (extent, put) {
+        (Extent::Outcomes, Jump::Branch { .. } | Jump::Return(_)) => *from,
+        _ => put,
+    }
+}
+
 /// A line was done.
 fn pass(table: &mut FactTable, line: &Line<u32>)
     requires table { IsTable table.old }
@@ -115,6 +163,7 @@ fn claim_all(table: &mut FactTable, claims: &[Claim])
 fn forwarded_lines(
     alloc: Global,
     table: &mut FactTable,
+    extent: Extent,
     lines: &[Line<u32>],
 ) -> Result<Vec<Line<u32>>, AllocError>
     requires table { IsTable table.old }
@@ -126,8 +175,7 @@ fn forwarded_lines(
 {
     let mut made = Vec::with_capacity(alloc, lines.len())?;
     for line in lines {
-        let carried = forwarded(alloc, table, line)?;
-        let put = shortened(carried);
+        let put = put_line(alloc, table, extent, line)?;
         pass(table, &put);
         made.push(put)?;
     }
@@ -139,6 +187,7 @@ fn forwarded_block(
     alloc: Global,
     entries: &[Entry],
     table: &mut FactTable,
+    extent: Extent,
     number: usize,
     block: &Block<u32>,
 ) -> Result<Option<Block<u32>>, AllocError>
@@ -156,8 +205,8 @@ fn forwarded_block(
     }
     table.begin(number);
     claim_all(table, claims);
-    let lines = forwarded_lines(alloc, table, lines)?;
-    let jump = jump(table, &lines, &block.jump);
+    let lines = forwarded_lines(alloc, table, extent, lines)?;
+    let jump = put_jump(table, extent, &lines, &block.jump);
     if !leads_well(table, entries, &jump) {
         return Ok(None);
     }
@@ -171,6 +220,7 @@ fn forwarded_blocks(
     alloc: Global,
     entries: &[Entry],
     table: &mut FactTable,
+    extent: Extent,
     blocks: &[Block<u32>],
 ) -> Result<Option<Seq<Block<u32>>>, AllocError>
     requires table { IsTable table.old }
@@ -179,7 +229,7 @@ fn forwarded_blocks(
 {
     let mut made = Vec::with_capacity(alloc, blocks.len())?;
     for (number, block) in blocks.iter().enumerate() {
-        match forwarded_block(alloc, entries, table, number, block)? {
+        match forwarded_block(alloc, entries, table, extent, number, block)? {
             Some(block) => made.push(block)?,
             None => return Ok(None),
         }
@@ -191,6 +241,7 @@ fn forwarded_blocks(
 fn propagated(
     alloc: Global,
     function: &VFunc,
+    extent: Extent,
     entries: &[Entry],
 ) -> Result<Option<VFunc>, AllocError>
     ensures { IfOk result (λ o. IfSome o (λ w. Keeps (virtual_code function.now) (virtual_code w))) }
@@ -199,7 +250,13 @@ fn propagated(
         return Ok(None);
     }
     let mut table = FactTable::new(alloc, function.registers)?;
-    match forwarded_blocks(alloc, entries, &mut table, function.code.blocks.as_slice())? {
+    match forwarded_blocks(
+        alloc,
+        entries,
+        &mut table,
+        extent,
+        function.code.blocks.as_slice(),
+    )? {
         Some(blocks) => {
             let made = function.with_blocks(alloc, function.registers, blocks)?;
             Ok(Some(made))
@@ -213,9 +270,9 @@ fn propagated_by_any(alloc: Global, function: &VFunc) -> Result<Option<VFunc>, A
     ensures { IfOk result (λ o. IfSome o (λ w. Keeps (virtual_code function.now) (virtual_code w))) }
 {
     let entries = entries(alloc, function)?;
-    match propagated(alloc, function, entries.as_slice())? {
+    match propagated(alloc, function, Extent::Operands, entries.as_slice())? {
         Some(made) => Ok(Some(made)),
-        None => propagated(alloc, function, &[]),
+        None => propagated(alloc, function, Extent::Operands, &[]),
     }
 }
 
@@ -231,6 +288,21 @@ pub fn propagate_constants(alloc: Global, function: VFunc) -> Result<VFunc, Allo
     ensures { IfOk result (λ w. Keeps (virtual_code function) (virtual_code w)) }
 {
     match propagated_by_any(alloc, &function)? {
+        Some(made) => Ok(made),
+        None => Ok(function),
+    }
+}
+
+/// The function, in which a branch whose outcome is known by the lines of its block is a jump, and a copy of what a register holds is one of the register itself. Nothing
+/// else is put, so constants that stand in registers are read there. It takes time and memory as the text is long.
+///
+/// # Errors
+///
+/// Only where memory was refused.
+pub fn fold_branches(alloc: Global, function: VFunc) -> Result<VFunc, AllocError>
+    ensures { IfOk result (λ w. Keeps (virtual_code function) (virtual_code w)) }
+{
+    match propagated(alloc, &function, Extent::Outcomes, &[])? {
         Some(made) => Ok(made),
         None => Ok(function),
     }

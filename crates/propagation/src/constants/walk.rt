@@ -29,6 +29,8 @@ pub(crate) struct Walk {
     found: Vec<u32>,
     /// when each register was last claimed
     claimed: Vec<u64>,
+    /// how often each register is written in the function, 2 for more
+    writes: Vec<u8>,
     clock: u64,
     begun: u64,
 }
@@ -40,11 +42,30 @@ fn names(operand: &Operand<u32>, register: u32) -> bool {
     }
 }
 
-/// Numbers alone are worth a claim: a copy that is read later keeps two registers alive at once.
-fn is_number(value: &Operand<u32>) -> bool {
-    match value {
-        Operand::Number(_) => true,
-        _ => false,
+/// One more write of the register, of which 2 are told from more no longer.
+fn count_write(writes: &mut [u8], register: u32) {
+    if let Some(count) = writes.get_mut(register as usize) {
+        *count = if *count == 0 { 1 } else { 2 };
+    }
+}
+
+/// How often each register is written, a parameter at the begin too.
+fn writes_of(alloc: Global, function: &VFunc) -> Result<Vec<u8>, AllocError> {
+    let mut writes = vec![in alloc; 0u8; function.registers as usize]?;
+    for param in function.code.params.as_slice() {
+        count_write(writes.as_mut_slice(), param.place);
+    }
+    for block in function.code.blocks.as_slice() {
+        count_writes(writes.as_mut_slice(), block.lines.as_slice());
+    }
+    Ok(writes)
+}
+
+fn count_writes(writes: &mut [u8], lines: &[Line<u32>]) {
+    for line in lines {
+        if let Some(register) = line_writes(line) {
+            count_write(writes, register);
+        }
     }
 }
 
@@ -64,14 +85,26 @@ impl Walk {
         written.resize(function.registers as usize, 0)?;
         let mut claimed = Vec::new(alloc);
         claimed.resize(function.registers as usize, 0)?;
+        let writes = writes_of(alloc, function)?;
         Ok(Walk {
             held,
             written,
             claimed,
+            writes,
             found: Vec::new(alloc),
             clock: 0,
             begun: 0,
         })
+    }
+
+    /// Whether it is worth a claim that the register holds that: a number, or what another register does if no other line writes the register. The copy of a register
+    /// that is written at two places mostly stays, and keeps both alive.
+    fn is_worth(&self, register: u32, value: &Operand<u32>) -> bool {
+        match value {
+            Operand::Number(_) => true,
+            Operand::At(_) => self.writes.get(register as usize).copied() == Some(1),
+            Operand::Name(_) => false,
+        }
     }
 
     /// Whether the operand wasn't written since.
@@ -132,7 +165,7 @@ impl Walk {
     }
 
     fn find(&mut self, register: u32, value: Operand<u32>) -> Result<(), AllocError> {
-        let is_worth = is_number(&value);
+        let is_worth = self.is_worth(register, &value);
         self.write(register, Some(value));
         if is_worth {
             self.found.push(register)?;
@@ -202,7 +235,10 @@ impl Walk {
         self.clock = self.clock.saturating_add(1);
         for register in found.as_slice() {
             if let Some(value) = self.value(*register) {
-                if claims.len() < CLAIMS && is_number(&value) && self.is_new(*register) {
+                if claims.len() < CLAIMS
+                    && self.is_worth(*register, &value)
+                    && self.is_new(*register)
+                {
                     claims.push(Claim {
                         register: *register,
                         value,

@@ -1,5 +1,6 @@
 //! Which constants are worth a register.
-use crate::hoisting::choice::free::free_registers;
+use crate::hoisting::choice::named::{free_registers, how_often_named};
+use crate::hoisting::choice::pressure::{Pressure, pressure_of};
 use crate::hoisting::choice::regions::{Region, Regions, find_regions};
 use crate::hoisting::choice::saving::where_read;
 use crate::hoisting::choice::uses::{Key, Use, may_save, uses_of};
@@ -93,16 +94,43 @@ fn choices(alloc: Global, worthy: &[Use]) -> Result<Vec<Choice>, AllocError> {
     Ok(choices)
 }
 
+/// What the constants that were chosen so far leave to others.
+#[derive(Drop)]
+struct Room<'a> {
+    regions: &'a Regions,
+    pressure: Pressure,
+
+    /// by number, how many constants a region holds
+    held: Vec<usize>,
+}
+
+impl Room<'_> {
+    /// Whether one more constant has a register of the machine in a region, or is worth more than what has it now; so it is held there.
+    fn takes(&mut self, one: &Use) -> bool {
+        let has_calls = match self.regions.list.get(one.region) {
+            Some(region) => region.has_calls,
+            None => false,
+        };
+        match self.held.get_mut(one.region) {
+            Some(held) if !has_calls || self.pressure.displaced(one.region, *held) < one.gain => {
+                *held = held.saturating_add(1);
+                true
+            }
+            _ => false,
+        }
+    }
+}
+
 /// By number, the regions in which it is worth it to hold the constant.
 fn held_regions(
     alloc: Global,
+    room: &mut Room<'_>,
     worthy: &[Use],
     key: Key,
-    count: usize,
 ) -> Result<Vec<bool>, AllocError> {
-    let mut held = vec![in alloc; false; count]?;
+    let mut held = vec![in alloc; false; room.held.len()]?;
     for one in worthy {
-        if one.key == key {
+        if one.key == key && room.takes(one) {
             if let Some(mark) = held.get_mut(one.region) {
                 *mark = true;
             }
@@ -146,13 +174,13 @@ fn setting(alloc: Global, blocks: &[Block<u32>], holds: &[bool]) -> Result<Vec<b
 fn chosen_for(
     alloc: Global,
     blocks: &[Block<u32>],
-    regions: &Regions,
+    room: &mut Room<'_>,
     worthy: &[Use],
     key: Key,
     register: u32,
 ) -> Result<Chosen, AllocError> {
-    let held = held_regions(alloc, worthy, key, regions.list.len())?;
-    let holds = holding(alloc, blocks, regions, held.as_slice())?;
+    let held = held_regions(alloc, room, worthy, key)?;
+    let holds = holding(alloc, blocks, room.regions, held.as_slice())?;
     let sets = setting(alloc, blocks, holds.as_slice())?;
     Ok(Chosen {
         register,
@@ -180,9 +208,9 @@ fn has_loops(depths: &[u32]) -> bool {
 fn chosen_in(
     alloc: Global,
     function: &VFunc,
-    regions: &Regions,
+    room: &mut Room<'_>,
+    named: &[i64],
     worthy: &[Use],
-    choices: &[Choice],
 ) -> Result<Vec<Chosen>, AllocError> {
     let blocks = function.code.blocks.as_slice();
     let most = if blocks.len() < LONG {
@@ -190,11 +218,12 @@ fn chosen_in(
     } else {
         MOST
     };
-    let free = free_registers(alloc, function, most)?;
+    let choices = choices(alloc, worthy)?;
+    let free = free_registers(alloc, named, most)?;
     let mut chosen = Vec::new(alloc);
     for (k, register) in free.iter().enumerate() {
-        if let Some(choice) = from_last(choices, k) {
-            chosen.push(chosen_for(alloc, blocks, regions, worthy, choice.key, *register)?)?;
+        if let Some(choice) = from_last(choices.as_slice(), k) {
+            chosen.push(chosen_for(alloc, blocks, room, worthy, choice.key, *register)?)?;
         }
     }
     Ok(chosen)
@@ -209,13 +238,21 @@ fn chosen_in_loops(
     let blocks = function.code.blocks.as_slice();
     let regions = find_regions(alloc, blocks, predecessors, depths)?;
     let worthy = worthy_uses(alloc, blocks, depths, &regions)?;
-    let choices = choices(alloc, worthy.as_slice())?;
+    if worthy.is_empty() {
+        return Ok(Vec::new(alloc));
+    }
+    let named = how_often_named(alloc, function, depths)?;
+    let mut room = Room {
+        regions: &regions,
+        pressure: pressure_of(alloc, function, &regions, named.as_slice())?,
+        held: vec![in alloc; 0usize; regions.list.len()]?,
+    };
     chosen_in(
         alloc,
         function,
-        &regions,
+        &mut room,
+        named.as_slice(),
         worthy.as_slice(),
-        choices.as_slice(),
     )
 }
 

@@ -7,7 +7,7 @@ use Rattle.propagation.specs.declared.constants.claim.Entry.{Entry}
 use Rattle.propagation.specs.Facts.{Facts}
 use Rattle.propagation.specs.FactTable.{facts_of}
 use Rattle.propagation.specs.Claimed.{claimed, known_at}
-use Rattle.propagation.specs.Forwarded.{with_jump, AreForwarded}
+use Rattle.propagation.specs.Forwarded.{IsPutJump, AreForwarded}
 use Rattle.propagation.proofs.constants.propagate.forwarded_block.Goals as goal
 
 pub returns-clause-block : goal.returns-clause-block
@@ -18,7 +18,7 @@ returns-clause-block c =
     let from : List (Line ℕ) = c.as_slice-lines.result.now in
     let claims : List Claim = c.claims_at-claims.result.now in
     let old : Jump ℕ = c.args.block.now.jump in
-    let new : Jump ℕ = c.jump-jump.result in
+    let new : Jump ℕ = c.put_jump-jump.result in
     let start : Facts = facts_of c.claim_all.new.table in
     let begun : length c.begin.new.self.written.items ≡ n = c.begin.ensures.count in
     let count : length c.claim_all.new.table.written.items ≡ n = c.claim_all.ensures.count ∙ begun in
@@ -27,8 +27,8 @@ returns-clause-block c =
     ∙ ap (λ (fs : Facts). claimed n fs claims) (fun_ext c.begin.ensures.nothing)
     ∙ ap (λ (cs : List Claim). claimed n (λ r. None) cs) c.claims_at-claims.ensures
     in
-    let made : new ≡ with_jump items (facts_of c.forwarded_lines.new.table) old =
-    c.jump-jump.ensures ∙ ap (λ (xs : List (Line ℕ)). with_jump xs (facts_of c.forwarded_lines.new.table) old) c.deref.ensures.value in
+    let made : IsPutJump items (facts_of c.forwarded_lines.new.table) old new =
+    subst (λ (xs : List (Line ℕ)). IsPutJump xs (facts_of c.forwarded_lines.new.table) old new) c.deref.ensures.value c.put_jump-jump.ensures in
     let all : AreForwarded n es items start from items old new =
     subst (λ m. AreForwarded m es items start from items old new) count (c.in_ok-lines.ensures.lines es items old new (made, c.leads_well.ensures c.if-not-leads_well.false)) in
     subst (λ (xs : List (Line ℕ)). AreForwarded n es xs (known_at n es c.args.number) c.args.block.now.lines xs old new) (sym c.from_vec.ensures)

@@ -2,7 +2,6 @@ use Rattle.std.proofs.Common.{◌≡◌, ℕ, List, [], ◌∷◌, ◌++◌, len
 use Rattle.std.proofs.lemmas.List.{drop_all, append-nil}
 use Rattle.vcode.specs.declared.line.Line.{Line}
 use Rattle.propagation.specs.FactTable.{facts_of}
-use Rattle.propagation.specs.Shortened.{shortened}
 use Rattle.propagation.specs.Forwarded.{AreForwarded}
 use Rattle.propagation.specs.After.{after}
 use Rattle.propagation.proofs.MakingFacts.{lines_on}
@@ -21,11 +20,11 @@ loop-line-preserved c =
       runs = c.loop-line.invariant.runs;
       made = λ es rest whole j k h.
           subst (λ (xs : List (Line ℕ)). AreForwarded n es whole (facts_of c.args.table.now) c.args.lines.now xs j k)
-          (sym (ap (λ (xs : List (Line ℕ)). xs ++ rest) c.in_ok-push.ensures.items ∙ append_one c.loop-line.made.items c.shortened-put.result rest))
-          (c.loop-line.invariant.made es (c.shortened-put.result ∷ rest) whole j k
-          (lines_on n es whole t u c.args.lines.now c.loop-line.line-index c.line-item.result c.shortened-put.result rest j k c.loop-line-test.true c.line-item.is
-          (c.shortened-put.ensures ∙ ap shortened c.in_ok-carried.ensures)
-          (λ q. c.pass.ensures.after q ∙ ap (λ m. after m c.shortened-put.result (facts_of t) q) c.loop-line.invariant.count) h));
+          (sym (ap (λ (xs : List (Line ℕ)). xs ++ rest) c.in_ok-push.ensures.items ∙ append_one c.loop-line.made.items c.in_ok-put.put rest))
+          (c.loop-line.invariant.made es (c.in_ok-put.put ∷ rest) whole j k
+          (lines_on n es whole t u c.args.lines.now c.loop-line.line-index c.line-item.result c.in_ok-put.put rest j k c.loop-line-test.true c.line-item.is
+          c.in_ok-put.ensures
+          (λ q. c.pass.ensures.after q ∙ ap (λ m. after m c.in_ok-put.put (facts_of t) q) c.loop-line.invariant.count) h));
     }
 
 pub returns-clause-lines : goal.returns-clause-lines

@@ -1,0 +1,165 @@
+//! Which registers live over the calls of loops.
+use crate::hoisting::choice::regions::Regions;
+use cfg_live::live::live;
+use cfg_live::sets::Live;
+use std::alloc::{AllocError, Global};
+use vcode::code::Block;
+use vcode::function::VFunc;
+use vcode::line::Line;
+
+/// How many registers of the machine a callee keeps.
+const KEPT: usize = 12;
+
+/// Of so many calls of a region it is asked what lives over them.
+const CALLS: usize = 16;
+
+/// A call, the region that it lies in, and the point behind it.
+#[derive(Clone, Copy, PartialEq, Eq, PartialOrd, Ord)]
+struct Called {
+    region: usize,
+    point: usize,
+
+    /// the register that the result goes to, or none of the function
+    result: u32,
+}
+
+/// What registers of the machine that callees keep are wanted for, in each region.
+#[derive(Drop)]
+pub(crate) struct Pressure {
+    /// by region, how often the registers are named that live over its calls, the most often named first
+    over_calls: Vec<Vec<i64>>,
+}
+
+impl Pressure {
+    /// How often that register is named which would have to leave its place to a value that lives over the calls of a region, besides so many that do already:
+    /// 0 where a place is free.
+    pub(crate) fn displaced(&self, region: usize, others: usize) -> i64 {
+        let place = KEPT.saturating_sub(1).saturating_sub(others);
+        match self.over_calls.get(region) {
+            Some(counts) if others < KEPT => counts.get(place).copied().unwrap_or(0),
+            Some(_) => i64::MAX,
+            None => 0,
+        }
+    }
+}
+
+fn push_calls(
+    calls: &mut Vec<Called>,
+    region: usize,
+    first: usize,
+    block: &Block<u32>,
+) -> Result<(), AllocError> {
+    let mut point = first;
+    for line in block.lines.as_slice() {
+        match line {
+            Line::Tick { .. } => {}
+            _ => point = point.saturating_add(1),
+        }
+        if let Line::Call { to, .. } = line {
+            let result = match to {
+                Some(to) => to.place,
+                None => u32::MAX,
+            };
+            calls.push(Called {
+                region,
+                point,
+                result,
+            })?;
+        }
+    }
+    Ok(())
+}
+
+/// The first point behind a block that begins at this one.
+fn point_behind(first: usize, block: &Block<u32>) -> usize {
+    let mut point = first;
+    for line in block.lines.as_slice() {
+        match line {
+            Line::Tick { .. } => {}
+            _ => point = point.saturating_add(1),
+        }
+    }
+    point.saturating_add(1)
+}
+
+/// The calls in loops, in the order of regions.
+fn calls_in(
+    alloc: Global,
+    blocks: &[Block<u32>],
+    regions: &Regions,
+) -> Result<Vec<Called>, AllocError> {
+    let mut calls = Vec::new(alloc);
+    let mut point = 0usize;
+    for (number, block) in blocks.iter().enumerate() {
+        let region = regions.number(number);
+        if region != 0 {
+            push_calls(&mut calls, region, point, block)?;
+        }
+        point = point_behind(point, block);
+    }
+    calls.sort()?;
+    Ok(calls)
+}
+
+/// Marks the registers that live over a call.
+fn mark_living(marks: &mut [bool], live: &Live, call: &Called) {
+    for (register, mark) in marks.iter_mut().enumerate() {
+        let is_result = register as u32 == call.result;
+        *mark = *mark || (!is_result && live.holds(call.point, register as u32));
+    }
+}
+
+/// How often each of the marked registers is named, the most often named first.
+fn counts_of(alloc: Global, marks: &[bool], named: &[i64]) -> Result<Vec<i64>, AllocError> {
+    let mut counts = Vec::new(alloc);
+    for (mark, count) in marks.iter().zip(named) {
+        if *mark {
+            counts.push(*count)?;
+        }
+    }
+    counts.sort()?;
+    counts.reverse();
+    counts.truncate(KEPT);
+    Ok(counts)
+}
+
+/// How often the registers are named that live over these calls.
+fn counts_over(
+    alloc: Global,
+    live: &Live,
+    calls: &[Called],
+    named: &[i64],
+) -> Result<Vec<i64>, AllocError> {
+    if calls.is_empty() {
+        return Ok(Vec::new(alloc));
+    }
+    let mut marks = vec![in alloc; false; named.len()]?;
+    for call in calls.iter().take(CALLS) {
+        mark_living(marks.as_mut_slice(), live, call);
+    }
+    counts_of(alloc, marks.as_slice(), named)
+}
+
+/// What lives over the calls of each region.
+///
+/// # Errors
+///
+/// Only where memory was refused.
+pub(crate) fn pressure_of(
+    alloc: Global,
+    function: &VFunc,
+    regions: &Regions,
+    named: &[i64],
+) -> Result<Pressure, AllocError> {
+    let calls = calls_in(alloc, function.code.blocks.as_slice(), regions)?;
+    let live = live(alloc, function)?;
+    let mut over = Vec::with_capacity(alloc, regions.list.len())?;
+    let mut rest = calls.as_slice();
+    for region in 0..regions.list.len() {
+        let count = rest.iter().take_while(|call| call.region == region).count();
+        let (own, others) = rest.split_at(count);
+        over.push(counts_over(alloc, &live, own, named)?)?;
+        rest = others;
+    }
+    Ok(Pressure { over_calls: over })
+}
