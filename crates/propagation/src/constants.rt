@@ -7,12 +7,13 @@
 //! A fact is of the register that is written, so there is one for each register at most. It counts as long as no register that it names was written since, nor
 //! memory, where it asks that (a comparison may be of pointers). The table has times for that, so that each line takes one step (`specs/FactTable`).
 //!
-//! That a register holds a number is carried across blocks too: what is claimed where each block begins
+//! That a register holds a number, or what another does, is carried across blocks too: what is claimed where each block begins
 //! (`specs/Claimed`) is a guess (`entries`, by a `walk` along the blocks), at most 128 claims a block. Where a block ends, a test finds each claim of the blocks to
 //! which it may lead among what is known; if one isn't, the function is made anew with no claims. So no proof rests on the guess.
 //!
-//! The contract says that the code is kept, in the words of every pass. Each operand and jump is what is known makes it, by all facts that are claimed where its
-//! block begins or that the lines before it make known, and none of these lines makes false (`specs/Forwarded`).
+//! The contract says that the code is kept, in the words of every pass. Each line and jump is what it was, or what is known makes it, by all facts that are claimed where its
+//! block begins or that the lines before it make known, and none of these lines makes false (`specs/Forwarded`). So how much is put is a choice: behind the last
+//! passes, [`propagate::fold_branches`] makes jumps of branches whose outcome is known, and leaves operands as they are.
 
 mod claim;
 mod entries;

@@ -1,8 +1,9 @@
-//! # Constant propagation and copy propagation
+//! # Constant propagation, copy propagation and branch folding
 //!
-//! Two passes on virtual code that put other operands into lines, and leave the lines that are then of no use to others:
+//! Three passes on virtual code that put other operands and jumps into it, and leave the lines that are then of no use to others:
 //!
-//! - [`constants::propagate::propagate_constants`] carries on what registers hold: numbers, also over the ends of blocks, and within a block copies, sums and comparisons;
+//! - [`constants::propagate::propagate_constants`] carries on what registers hold: numbers and copies, also over the ends of blocks, and within a block sums and comparisons;
+//! - [`constants::propagate::fold_branches`] makes jumps of branches whose outcome is known by their block, and puts nothing else;
 //! - [`copies::read::propagate_copies`] lets lines read a copy in the place of its source, so that both may have one place.
 //!
 //! The contracts say that the code is kept, in the words of every pass.

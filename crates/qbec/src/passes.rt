@@ -35,7 +35,7 @@ pub enum Pass {
     BlockPlacement,
 }
 
-/// The passes in their order. Dead lines go before values are numbered, since they would count as readers of these, and once more behind that. What code motion sets in
+/// The passes in their order. Dead lines go before values are numbered, since they would count as readers of these, and once more behind that, and where branches were folded. What code motion sets in
 /// front of loops is found there by value numbering; what that finds is carried on by constant propagation.
 pub const PASSES: [Pass; 16] = [
     Pass::SignExtensions,
