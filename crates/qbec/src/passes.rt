@@ -37,7 +37,7 @@ pub enum Pass {
 
 /// The passes in their order. Dead lines go before values are numbered, since they would count as readers of these, and once more behind that, and where branches were folded. What code motion sets in
 /// front of loops is found there by value numbering; what that finds is carried on by constant propagation.
-pub const PASSES: [Pass; 16] = [
+pub const PASSES: [Pass; 17] = [
     Pass::SignExtensions,
     Pass::JumpThreading,
     Pass::Renaming,
@@ -53,6 +53,7 @@ pub const PASSES: [Pass; 16] = [
     Pass::TailDuplication,
     Pass::BranchFolding,
     Pass::DeadCode,
+    Pass::CopyPropagation,
     Pass::BlockPlacement,
 ];
 

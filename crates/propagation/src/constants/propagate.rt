@@ -82,17 +82,51 @@ enum Extent {
     /// operands, lines and jumps
     Operands,
 
-    /// branches whose outcome is known, and copies that change nothing
-    Outcomes,
+    /// copies, and branches whose outcome is known: no number takes the place of a register but in another copy
+    Copies,
 }
 
-/// Whether a line sets a register to what it holds.
-fn is_idle(line: &Line<u32>) -> bool {
-    match line {
-        Line::Set {
-            to,
-            value: Operand::At(from),
-        } => *to == *from,
+/// Whether one operand is a register where the other is.
+fn are_alike(one: &Operand<u32>, other: &Operand<u32>) -> bool {
+    match (one, other) {
+        (Operand::At(_), Operand::At(_)) => true,
+        (Operand::At(_), _) | (_, Operand::At(_)) => false,
+        _ => true,
+    }
+}
+
+/// Whether a line reads registers where the other does. A copy may become a number.
+fn reads_alike(one: &Line<u32>, other: &Line<u32>) -> bool {
+    match (one, other) {
+        (Line::Set { .. }, _) => true,
+        (
+            Line::Operate { left, right, .. },
+            Line::Operate {
+                left: first,
+                right: second,
+                ..
+            },
+        ) => are_alike(left, first) && are_alike(right, second),
+        (Line::Load { at, .. }, Line::Load { at: new, .. }) => are_alike(&at.base, &new.base),
+        (
+            Line::Store { value, at, .. },
+            Line::Store {
+                value: new,
+                at: there,
+                ..
+            },
+        ) => are_alike(value, new) && are_alike(&at.base, &there.base),
+        _ => false,
+    }
+}
+
+/// Whether a jump is one way, or reads registers where the other does.
+fn jumps_alike(one: &Jump<u32>, other: &Jump<u32>) -> bool {
+    match (one, other) {
+        (_, Jump::Goto(_)) => true,
+        (Jump::Branch { on, .. }, Jump::Branch { on: new, .. }) => {
+            are_alike(&on.left, &new.left) && are_alike(&on.right, &new.right)
+        }
         _ => false,
     }
 }
@@ -108,7 +142,7 @@ fn put_line(
 {
     let put = shortened(forwarded(alloc, table, line)?);
     match extent {
-        Extent::Outcomes if !is_idle(&put) => line.try_clone(alloc),
+        Extent::Copies if !reads_alike(line, &put) => line.try_clone(alloc),
         _ => Ok(put),
     }
 }
@@ -118,8 +152,8 @@ fn put_jump(table: &FactTable, extent: Extent, lines: &[Line<u32>], from: &Jump<
     ensures { IsPutJump lines.now (facts_of table.now) from.now result }
 {
     let put = jump(table, lines, from);
-    match (extent, put) {
-        (Extent::Outcomes, Jump::Branch { .. } | Jump::Return(_)) => *from,
+    match extent {
+        Extent::Copies if !jumps_alike(from, &put) => *from,
         _ => put,
     }
 }
@@ -293,8 +327,8 @@ pub fn propagate_constants(alloc: Global, function: VFunc) -> Result<VFunc, Allo
     }
 }
 
-/// The function, in which a branch whose outcome is known by the lines of its block is a jump, and a copy of what a register holds is one of the register itself. Nothing
-/// else is put, so constants that stand in registers are read there. It takes time and memory as the text is long.
+/// The function, in which a branch whose outcome is known by the lines of its block is a jump, and what is copied is read in the place of its copy. No number takes the
+/// place of a register but in a copy, so constants that stand in registers are read there. It takes time and memory as the text is long.
 ///
 /// # Errors
 ///
@@ -302,7 +336,7 @@ pub fn propagate_constants(alloc: Global, function: VFunc) -> Result<VFunc, Allo
 pub fn fold_branches(alloc: Global, function: VFunc) -> Result<VFunc, AllocError>
     ensures { IfOk result (λ w. Keeps (virtual_code function) (virtual_code w)) }
 {
-    match propagated(alloc, &function, Extent::Outcomes, &[])? {
+    match propagated(alloc, &function, Extent::Copies, &[])? {
         Some(made) => Ok(made),
         None => Ok(function),
     }

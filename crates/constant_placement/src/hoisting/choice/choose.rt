@@ -219,7 +219,7 @@ fn chosen_in(
         MOST
     };
     let choices = choices(alloc, worthy)?;
-    let free = free_registers(alloc, named, most)?;
+    let free = free_registers(alloc, function.registers, named, most)?;
     let mut chosen = Vec::new(alloc);
     for (k, register) in free.iter().enumerate() {
         if let Some(choice) = from_last(choices.as_slice(), k) {

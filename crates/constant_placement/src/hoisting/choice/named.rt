@@ -114,20 +114,22 @@ pub(crate) fn how_often_named(
     Ok(names.counts)
 }
 
-/// Registers that are named nowhere, at most so many.
+/// The first registers of the function that it names nowhere, at most `most`.
 ///
 /// # Errors
 ///
 /// Only where memory was refused.
 pub(crate) fn free_registers(
     alloc: Global,
+    registers: u32,
     named: &[i64],
     most: usize,
 ) -> Result<Vec<u32>, AllocError> {
     let mut free = Vec::new(alloc);
-    for (register, count) in named.iter().enumerate() {
-        if *count == 0 && free.len() < most {
-            free.push(register as u32)?;
+    for register in 0..registers {
+        let is_free = named.get(register as usize).copied() == Some(0);
+        if is_free && free.len() < most {
+            free.push(register)?;
         }
     }
     Ok(free)

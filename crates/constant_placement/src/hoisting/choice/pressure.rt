@@ -101,11 +101,13 @@ fn calls_in(
     Ok(calls)
 }
 
-/// Marks the registers that live over a call.
-fn mark_living(marks: &mut [bool], live: &Live, call: &Called) {
-    for (register, mark) in marks.iter_mut().enumerate() {
-        let is_result = register as u32 == call.result;
-        *mark = *mark || (!is_result && live.holds(call.point, register as u32));
+/// Marks those of so many registers that live over a call.
+fn mark_living(marks: &mut [bool], live: &Live, call: &Called, registers: u32) {
+    for register in 0..registers {
+        let is_living = register != call.result && live.holds(call.point, register);
+        if let Some(mark) = marks.get_mut(register as usize) {
+            *mark = *mark || is_living;
+        }
     }
 }
 
@@ -128,6 +130,7 @@ fn counts_over(
     alloc: Global,
     live: &Live,
     calls: &[Called],
+    registers: u32,
     named: &[i64],
 ) -> Result<Vec<i64>, AllocError> {
     if calls.is_empty() {
@@ -135,7 +138,7 @@ fn counts_over(
     }
     let mut marks = vec![in alloc; false; named.len()]?;
     for call in calls.iter().take(CALLS) {
-        mark_living(marks.as_mut_slice(), live, call);
+        mark_living(marks.as_mut_slice(), live, call, registers);
     }
     counts_of(alloc, marks.as_slice(), named)
 }
@@ -158,7 +161,7 @@ pub(crate) fn pressure_of(
     for region in 0..regions.list.len() {
         let count = rest.iter().take_while(|call| call.region == region).count();
         let (own, others) = rest.split_at(count);
-        over.push(counts_over(alloc, &live, own, named)?)?;
+        over.push(counts_over(alloc, &live, own, function.registers, named)?)?;
         rest = others;
     }
     Ok(Pressure { over_calls: over })
