@@ -36,7 +36,7 @@ pub enum Pass {
 
 /// The passes in their order. Dead lines go before values are numbered, since they would count as readers of these, and once more behind that. What code motion sets in
 /// front of loops is found there by value numbering; what that finds is carried on by constant propagation.
-pub const PASSES: [Pass; 14] = [
+pub const PASSES: [Pass; 17] = [
     Pass::SignExtensions,
     Pass::JumpThreading,
     Pass::Renaming,
@@ -50,6 +50,9 @@ pub const PASSES: [Pass; 14] = [
     Pass::CopyPropagation,
     Pass::ConstantHoisting,
     Pass::TailDuplication,
+    Pass::ValueNumbering,
+    Pass::CopyPropagation,
+    Pass::DeadCode,
     Pass::BlockPlacement,
 ];
 
