@@ -37,7 +37,7 @@ pub enum Pass {
 
 /// The passes in their order. Dead lines go before values are numbered, since they would count as readers of these, and once more behind that, and where branches were folded. What code motion sets in
 /// front of loops is found there by value numbering; what that finds is carried on by constant propagation.
-pub const PASSES: [Pass; 17] = [
+pub const PASSES: [Pass; 18] = [
     Pass::SignExtensions,
     Pass::JumpThreading,
     Pass::Renaming,
@@ -51,7 +51,8 @@ pub const PASSES: [Pass; 17] = [
     Pass::CopyPropagation,
     Pass::ConstantHoisting,
     Pass::TailDuplication,
-    Pass::BranchFolding,
+Pass::BranchFolding,
+    Pass::ValueNumbering,
     Pass::DeadCode,
     Pass::CopyPropagation,
     Pass::BlockPlacement,

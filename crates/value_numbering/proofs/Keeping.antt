@@ -30,7 +30,7 @@ use Rattle.value_numbering.specs.Narrow.{IsNarrow}
 use Rattle.value_numbering.specs.Extensions.{is_base}
 use Rattle.value_numbering.specs.Shifts.{IsHalfway}
 use Rattle.rv_isa.specs.declared.instruction.LoadOp.{LoadOp}
-use Rattle.value_numbering.specs.Reused.{Made, Itself, Copy, Narrow, FirstRegrouped, SecondRegrouped, Halfway, Reloaded, Again, is_dear, is_no_number, claims_at, AreReused, IsReused, AllReused}
+use Rattle.value_numbering.specs.Reused.{Made, Itself, Copy, Narrow, FirstRegrouped, SecondRegrouped, FirstOffset, SecondOffset, Halfway, Reloaded, Again, is_dear, is_no_number, claims_at, AreReused, IsReused, AllReused}
 use Rattle.value_numbering.proofs.Running.{runs}
 
 -- ---- what lines take
@@ -40,6 +40,8 @@ measure_same n facts l m Itself = refl
 measure_same n facts l m (Narrow is low) = refl
 measure_same n facts l m (FirstRegrouped is) = refl
 measure_same n facts l m (SecondRegrouped is) = refl
+measure_same n facts l m (FirstOffset is) = refl
+measure_same n facts l m (SecondOffset is) = refl
 measure_same n facts l m (Halfway is) = refl
 measure_same n facts l m (Reloaded is) = refl
 measure_same n facts l m (Again {k = k} first second) = measure_same n facts k m second ∙ measure_same n facts l k first
@@ -109,6 +111,9 @@ halfway_cost n facts to r y by whole rest is =
     let cost = shift_cost rest low in
     let least = operand_least (Number by) in omega (arith, cost, least)
 
+short_cost : (k : ℕ) → is_immediate k ≡ true → (let a : Operand ℕ = Number k in operand_cost a) ≡ 1
+short_cost k h = ap (λ (b : Bool). if b then 1 else 9) h
+
 base_cost : (n : ℕ) (a : Operand ℕ) → is_base n a ≡ true → operand_cost a ≤ 3
 base_cost n (At r) h = omega arith
 base_cost n (Name g) h = omega arith
@@ -127,6 +132,8 @@ cost_less n facts l m Itself = itself_least (line_cost l)
 cost_less n facts l m (Narrow {size = size} {a = a} {at = at} {q = q} is low) = narrow_cost facts size a at q is
 cost_less n facts l m (FirstRegrouped is) = omega arith
 cost_less n facts l m (SecondRegrouped is) = omega arith
+cost_less n facts l m (FirstOffset {number = k} is) = let cost = short_cost k is.short in omega (arith, cost)
+cost_less n facts l m (SecondOffset {number = k} is) = let cost = short_cost k is.short in omega (arith, cost)
 cost_less n facts l m (Halfway {to = to} {y = y} {by = by} {whole = whole} {rest = rest} is) = halfway_cost n facts to (source facts y) y by whole rest is
 cost_less n facts l m (Reloaded {to = to} {y = y} {k = k} {o = o} {op = op} {at = at} is) = reloaded_cost n to y k o op at is.base
 cost_less n facts l m (Again {k = k} first second) =
@@ -160,6 +167,8 @@ made_low n facts l m Itself h = h
 made_low n facts l m (Narrow {size = size} {a = a} {at = at} {q = q} is low) h = and_from (is_below n q) (operand_keeps (is_below n) at.base) (lt-ltb q n low) (and_parts (operand_keeps (is_below n) a) (operand_keeps (is_below n) at.base) h).1
 made_low n facts l m (FirstRegrouped {to = to} {part = part} {rest = rest} is) h = sum_low n to part rest (and_parts (is_below n to) _ h).0 is.first is.second
 made_low n facts l m (SecondRegrouped {to = to} {part = part} {rest = rest} is) h = sum_low n to part rest (and_parts (is_below n to) _ h).0 is.first is.second
+made_low n facts l m (FirstOffset {to = to} {part = part} is) h = and_from (is_below n to) (is_below n part && true) (and_parts (is_below n to) _ h).0 (and_from (is_below n part) true (lt-ltb part n is.low) refl)
+made_low n facts l m (SecondOffset {to = to} {part = part} is) h = and_from (is_below n to) (is_below n part && true) (and_parts (is_below n to) _ h).0 (and_from (is_below n part) true (lt-ltb part n is.low) refl)
 made_low n facts l m (Halfway {to = to} {whole = whole} is) h = and_from (is_below n to) (is_below n whole && true) (and_parts (is_below n to) _ h).0 (and_from (is_below n whole) true (lt-ltb whole n is.low) refl)
 made_low n facts l m (Reloaded {to = to} {at = at} is) h = and_from (is_below n to) (operand_keeps (is_below n) at.base) (and_parts (is_below n to) _ h).0 (base_low n at.base is.base)
 made_low n facts l m (Again {k = k} first second) h = made_low n facts k m second (made_low n facts l k first h)

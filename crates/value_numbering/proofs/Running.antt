@@ -57,10 +57,11 @@ use Rattle.value_numbering.specs.Extensions.{other_way}
 use Rattle.value_numbering.proofs.Extending.{itself_same, reloaded_same, gives_one}
 use Rattle.value_numbering.specs.Narrow.{IsNarrow}
 use Rattle.value_numbering.specs.Regrouped.{Adds, IsSum, InOrder, Turned, IsRegrouped}
+use Rattle.value_numbering.specs.Offsets.{IsOffset}
 use Rattle.value_numbering.proofs.Regrouping.{turned as sum_turned, regrouped}
 use Rattle.value_numbering.specs.Shifts.{IsHalfway}
 use Rattle.value_numbering.proofs.Shifting.{less_back}
-use Rattle.value_numbering.specs.Reused.{Holds, Found, Already, Counted, Made, Itself, Copy, Narrow, FirstRegrouped, SecondRegrouped, Halfway, Reloaded, Again, claims_at, order_met, order_missed, IsKnown, Listed, OfCopies, Bounded, is_limit, limits, bounds, AllKnown, LeadsWell, AreReused, AllReused}
+use Rattle.value_numbering.specs.Reused.{Holds, Found, Already, Counted, Made, Itself, Copy, Narrow, FirstRegrouped, SecondRegrouped, FirstOffset, SecondOffset, Halfway, Reloaded, Again, claims_at, order_met, order_missed, IsKnown, Listed, OfCopies, Bounded, is_limit, limits, bounds, AllKnown, LeadsWell, AreReused, AllReused}
 use Rattle.il_ast.proofs.Truth.{equal_turned}
 
 -- ---- all facts are true
@@ -537,6 +538,15 @@ regrouped_true globals m values n facts y added part rest all is =
     ∙ regrouped m (values is.kept) (values added) (values rest)
     ∙ ap (λ (x : Option Value). operated m (Reg Add) x (values added)) (sym (sum_true globals m values facts y (At is.kept) (At rest) all is.sum))
 
+-- so a number may be added last
+offset_true : (globals : List Value) (m : Memory) (values : Values ℕ) (n : ℕ) (facts : List Fact) (y added part k : ℕ) → AreTrue globals m values facts → IsOffset n facts y added part k
+    → operated m (Reg Add) (values part) (number k) ≡ operated m (Reg Add) (values y) (values added)
+offset_true globals m values n facts y added part k all is =
+    ap (λ (x : Option Value). operated m (Reg Add) x (number k))
+    (sum_true globals m values facts part (At is.kept) (copied facts (At added)) all is.known ∙ ap (λ (x : Option Value). operated m (Reg Add) (values is.kept) x) (copied_same globals m values facts all (At added)))
+    ∙ regrouped m (values is.kept) (values added) (number k)
+    ∙ ap (λ (x : Option Value). operated m (Reg Add) x (values added)) (sym (adds_true globals m values facts y (At is.kept) (Number k) all is.sum))
+
 -- so an extension that is shifted to the left is what it was halfway, shifted back by less
 halfway_true : (globals : List Value) (m : Memory) (values : Values ℕ) (n : ℕ) (facts : List Fact) (y by whole rest : ℕ) → AreTrue globals m values facts → IsHalfway n facts (source facts y) by whole rest
     → operated m (Reg Srl) (values whole) (number rest) ≡ operated m (Reg Sll) (values y) (number by)
@@ -564,6 +574,9 @@ made_same globals m values n facts l k all (Copy {f = f} {r = r} is dear low kno
 made_same globals m values n facts l k all (FirstRegrouped {y = y} {added = added} {part = part} {rest = rest} is) = (ap Gives (regrouped_true globals m values n facts y added part rest all is), refl)
 made_same globals m values n facts l k all (SecondRegrouped {y = y} {added = added} {part = part} {rest = rest} is) =
     (ap Gives (regrouped_true globals m values n facts y added part rest all is ∙ sum_turned m (values y) (values added)), refl)
+made_same globals m values n facts l k all (FirstOffset {y = y} {added = added} {part = part} {number = j} is) = (ap Gives (offset_true globals m values n facts y added part j all is), refl)
+made_same globals m values n facts l k all (SecondOffset {y = y} {added = added} {part = part} {number = j} is) =
+    (ap Gives (offset_true globals m values n facts y added part j all is ∙ sum_turned m (values y) (values added)), refl)
 made_same globals m values n facts l k all (Halfway {y = y} {by = by} {whole = whole} {rest = rest} is) = (ap Gives (halfway_true globals m values n facts y by whole rest all is), refl)
 made_same globals m values n facts l k all (Reloaded {to = to} {y = y} {k = number} {o = o} {op = op} {at = at} is) =
     let value : Expression = canonical facts (Operated o (At y) (Number number)) in (
@@ -980,6 +993,8 @@ writes_same n facts l k Itself = refl
 writes_same n facts l k (Narrow is low) = refl
 writes_same n facts l k (FirstRegrouped is) = refl
 writes_same n facts l k (SecondRegrouped is) = refl
+writes_same n facts l k (FirstOffset is) = refl
+writes_same n facts l k (SecondOffset is) = refl
 writes_same n facts l k (Halfway is) = refl
 writes_same n facts l k (Reloaded is) = refl
 writes_same n facts l k (Again {k = j} first second) = writes_same n facts j k second ∙ writes_same n facts l j first

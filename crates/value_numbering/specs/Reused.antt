@@ -27,6 +27,7 @@ use Rattle.value_numbering.specs.Steps.{linear_in, stands, is_word, after}
 use Rattle.value_numbering.specs.Narrow.{IsNarrow}
 use Rattle.value_numbering.specs.Extensions.{IsItself, IsReloaded}
 use Rattle.value_numbering.specs.Regrouped.{IsRegrouped}
+use Rattle.value_numbering.specs.Offsets.{IsOffset}
 use Rattle.value_numbering.specs.Shifts.{IsHalfway}
 
 abbrev pub is_no_number : Operand ℕ → Bool
@@ -49,14 +50,16 @@ pub data Holds (facts : List Fact) (r : ℕ) (e : Expression) : Type 0 where
 
 -- a line itself; or a copy of a register of the function that holds what the line computes; or a
 -- store of a register that has the bits that are stored; or a sum of three, of which the sum of two
--- is known; or an extension that is shifted to the left, as what it was halfway, shifted back by
--- less; or an extension of what was loaded, as another load; or one of these in the place of another
+-- is known, or to which a number is added last; or an extension that is shifted to the left, as what
+-- it was halfway, shifted back by less; or an extension of what was loaded, as another load; or one of these in the place of another
 pub data Made (registers : ℕ) (facts : List Fact) : Line ℕ → Line ℕ → Type 0 where
   Itself : {l : Line ℕ} → Made registers facts l l
   Copy : {l : Line ℕ} {f : Fact} {r : ℕ} → computed l ≡ Some f → is_dear f.value ≡ true → r < registers → Holds facts r (canonical facts f.value) → Made registers facts l (Set f.register (At r))
   Narrow : {size : Size} {a : Operand ℕ} {at : Address ℕ} {q : ℕ} → IsNarrow facts size a q → q < registers → Made registers facts (Store size a at) (Store size (At q) at)
   FirstRegrouped : {to y added part rest : ℕ} → IsRegrouped registers facts y added part rest → Made registers facts (Operate to (Reg Add) (At y) (At added)) (Operate to (Reg Add) (At part) (At rest))
   SecondRegrouped : {to y added part rest : ℕ} → IsRegrouped registers facts y added part rest → Made registers facts (Operate to (Reg Add) (At added) (At y)) (Operate to (Reg Add) (At part) (At rest))
+  FirstOffset : {to y added part number : ℕ} → IsOffset registers facts y added part number → Made registers facts (Operate to (Reg Add) (At y) (At added)) (Operate to (Reg Add) (At part) (Number number))
+  SecondOffset : {to y added part number : ℕ} → IsOffset registers facts y added part number → Made registers facts (Operate to (Reg Add) (At added) (At y)) (Operate to (Reg Add) (At part) (Number number))
   Halfway : {to y by whole rest : ℕ} → IsHalfway registers facts (source facts y) by whole rest → Made registers facts (Operate to (Reg Sll) (At y) (Number by)) (Operate to (Reg Srl) (At whole) (Number rest))
   Reloaded : {to y k : ℕ} {o : Operation} {op : LoadOp} {at : Address ℕ} → IsReloaded registers facts (canonical facts (Operated o (At y) (Number k))) op at → Made registers facts (Operate to o (At y) (Number k)) (Load to op at)
   Again : {l k m : Line ℕ} → Made registers facts l k → Made registers facts k m → Made registers facts l m

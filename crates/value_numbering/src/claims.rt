@@ -18,8 +18,11 @@ const CLAIMS: usize = 32;
 /// For how many facts there is room at first.
 const ROOM: usize = 16;
 
-/// How often the blocks are gone through, at most: until nothing changes.
-const ROUNDS: usize = 8;
+/// How often less is claimed of a block than before, at most; then nothing is.
+const CHANGES: u32 = 8;
+
+/// How many blocks are looked at for each block, at most: until nothing changes.
+const STEPS_A_BLOCK: usize = 64;
 
 /// The facts that are known on all ways to a block that were gone so far; none where no way was.
 #[derive(Drop)]
@@ -28,6 +31,9 @@ struct Claim {
 
     /// whether the block is still to be gone through with these
     is_new: bool,
+
+    /// how often they became fewer
+    changes: u32,
 }
 
 fn pass_lines(
@@ -218,6 +224,23 @@ fn first_claim(
     Ok(known)
 }
 
+/// Leaves those of the facts that are known on one more way; none where they become fewer too often. Says whether they do.
+fn narrow(claim: &mut Claim, facts: &[Fact], order: &Option<Order>) -> bool {
+    let Some(known) = &mut claim.facts else {
+        return false;
+    };
+    let before = known.len();
+    known.retain(|fact| is_known(facts, order, fact));
+    if known.len() == before {
+        return false;
+    }
+    if claim.changes >= CHANGES {
+        known.clear();
+    }
+    claim.changes = claim.changes.saturating_add(1);
+    true
+}
+
 /// One more way leads to the block, on which these facts are known; says whether that changes what is claimed.
 fn meet(
     alloc: Global,
@@ -227,22 +250,17 @@ fn meet(
     facts: &[Fact],
     order: &Option<Order>,
 ) -> Result<bool, AllocError> {
-    match &mut claim.facts {
-        Some(known) => {
-            let before = known.len();
-            known.retain(|fact| is_known(facts, order, fact));
-            let is_less = known.len() != before;
-            claim.is_new = claim.is_new || is_less;
-            Ok(is_less)
-        }
-        None => {
-            claim.facts = Some(first_claim(alloc, writing, block, facts, order)?);
-            claim.is_new = true;
-            Ok(true)
-        }
+    if claim.facts.is_some() {
+        let changes = narrow(claim, facts, order);
+        claim.is_new = claim.is_new || changes;
+        return Ok(changes);
     }
+    claim.facts = Some(first_claim(alloc, writing, block, facts, order)?);
+    claim.is_new = true;
+    Ok(true)
 }
 
+/// The same at one of all blocks; answers its number if that changes what is claimed of it, and none that a block has if not.
 fn meet_at(
     alloc: Global,
     writing: &Writing,
@@ -250,28 +268,30 @@ fn meet_at(
     block: usize,
     facts: &[Fact],
     order: &Option<Order>,
-) -> Result<bool, AllocError> {
-    match claims.get_mut(block) {
-        Some(claim) => meet(alloc, writing, block, claim, facts, order),
-        None => Ok(false),
-    }
+) -> Result<usize, AllocError> {
+    let changes = match claims.get_mut(block) {
+        Some(claim) => meet(alloc, writing, block, claim, facts, order)?,
+        None => false,
+    };
+    Ok(if changes { block } else { usize::MAX })
 }
 
+/// Goes on from the end of a block; says which is the first of the blocks that it leads to of which less is claimed now.
 fn lead(
     alloc: Global,
     writing: &Writing,
     claims: &mut [Claim],
     jump: &Jump<u32>,
     facts: &[Fact],
-) -> Result<bool, AllocError> {
+) -> Result<usize, AllocError> {
     match jump {
         Jump::Goto(block) => meet_at(alloc, writing, claims, *block, facts, &None),
         Jump::Branch { on, met, otherwise } => {
             let first = meet_at(alloc, writing, claims, *met, facts, &order_met(on))?;
             let second = meet_at(alloc, writing, claims, *otherwise, facts, &order_missed(on))?;
-            Ok(first || second)
+            Ok(first.min(second))
         }
-        Jump::Return(_) | Jump::Halt => Ok(false),
+        Jump::Return(_) | Jump::Halt => Ok(usize::MAX),
     }
 }
 
@@ -299,7 +319,7 @@ fn begin(claims: &mut [Claim], block: usize, facts: &mut Vec<Fact>) -> Result<bo
     }
 }
 
-/// Goes through a block, from what is known where it begins to the blocks that it leads to; says whether that changes what is claimed of them.
+/// Goes through a block, if that is due, from what is known where it begins to the blocks that it leads to; says which block is next.
 fn spread(
     alloc: Global,
     writing: &Writing,
@@ -308,16 +328,18 @@ fn spread(
     registers: u32,
     number: usize,
     block: &Block<u32>,
-) -> Result<bool, AllocError> {
+) -> Result<usize, AllocError> {
+    let next = number.saturating_add(1);
     if begin(claims, number, facts)? {
         pass_lines(alloc, facts, registers, block.lines.as_slice())?;
-        lead(alloc, writing, claims, &block.jump, facts.as_slice())
+        let first = lead(alloc, writing, claims, &block.jump, facts.as_slice())?;
+        Ok(first.min(next))
     } else {
-        Ok(false)
+        Ok(next)
     }
 }
 
-/// Goes through all blocks; says whether that changes what is claimed.
+/// Goes through the blocks in the order of the text, and back to the first of those of which less is claimed than when they were gone through, until there is none.
 fn spread_all(
     alloc: Global,
     writing: &Writing,
@@ -325,12 +347,17 @@ fn spread_all(
     facts: &mut Vec<Fact>,
     registers: u32,
     blocks: &[Block<u32>],
-) -> Result<bool, AllocError> {
-    let mut changes = false;
-    for (number, block) in blocks.iter().enumerate() {
-        changes = spread(alloc, writing, claims, facts, registers, number, block)? || changes;
+) -> Result<(), AllocError> {
+    let mut number = 0usize;
+    for _ in 0..blocks.len().saturating_mul(STEPS_A_BLOCK) {
+        match blocks.get(number) {
+            Some(block) => {
+                number = spread(alloc, writing, claims, facts, registers, number, block)?;
+            }
+            None => return Ok(()),
+        }
     }
-    Ok(changes)
+    Ok(())
 }
 
 fn note_write(
@@ -408,6 +435,7 @@ fn first_claims(alloc: Global, blocks: usize) -> Result<Vec<Claim>, AllocError> 
         claims.push(Claim {
             facts,
             is_new: true,
+            changes: 0,
         })?;
     }
     Ok(claims)
@@ -437,17 +465,13 @@ pub(crate) fn claims(
     let mut claims = first_claims(alloc, blocks.len())?;
     let writing = writing_of(alloc, registers, blocks)?;
     let mut facts = Vec::with_capacity(alloc, ROOM)?;
-    for _ in 0..ROUNDS {
-        if !spread_all(
-            alloc,
-            &writing,
-            claims.as_mut_slice(),
-            &mut facts,
-            registers,
-            blocks,
-        )? {
-            break;
-        }
-    }
+    spread_all(
+        alloc,
+        &writing,
+        claims.as_mut_slice(),
+        &mut facts,
+        registers,
+        blocks,
+    )?;
     listed(alloc, claims)
 }

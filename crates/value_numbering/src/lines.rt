@@ -9,6 +9,7 @@ use crate::extensions::{itself, reloaded_line};
 use crate::fact::{Expression, Fact, computed};
 use crate::known::{canonical, holder};
 use crate::narrow::narrow;
+use crate::offsets::offset_line;
 use crate::regroup::regrouped_line;
 use crate::shifts::halfway_line;
 use crate::steps::{linear_in, pass};
@@ -120,11 +121,21 @@ fn narrower(facts: &[Fact], registers: u32, line: &Line<u32>) -> Option<Line<u32
     }
 }
 
+/// A sum that is added otherwise.
+fn other_sum(facts: &[Fact], registers: u32, line: &Line<u32>) -> Option<Line<u32>>
+    ensures { IfSome result (λ m. Made registers facts.now line.now m) }
+{
+    match regrouped_line(facts, registers, line) {
+        Some(sum) => Some(sum),
+        None => offset_line(facts, registers, line),
+    }
+}
+
 /// A line that computes the same of other registers, or loads it.
 fn other(facts: &[Fact], registers: u32, line: &Line<u32>) -> Option<Line<u32>>
     ensures { IfSome result (λ m. Made registers facts.now line.now m) }
 {
-    match regrouped_line(facts, registers, line) {
+    match other_sum(facts, registers, line) {
         Some(sum) => Some(sum),
         None => match halfway_line(facts, registers, line) {
             Some(shift) => Some(shift),

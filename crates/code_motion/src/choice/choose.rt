@@ -3,6 +3,8 @@ use crate::choice::candidates::may_plan;
 use crate::choice::credit::credit;
 use crate::choice::growing::{Linear, find_growth, plan_steps, product_of};
 use crate::choice::halves::plan_halves;
+use crate::choice::offsets::plan_offsets;
+use crate::choice::reads::count_reads;
 use crate::choice::written::{Spot, Written};
 use crate::plan::{BlockPlan, Computation, Plan};
 use flow::loops::{Loop, find_loops, largest_first};
@@ -16,7 +18,7 @@ use vcode::line::{Line, Operation};
 use vcode::place::Operand;
 
 /// How many computations are done in front of a loop, at most.
-const MOST: usize = 6;
+const MOST: usize = 32;
 
 /// The plans that are made, one loop after another.
 #[derive(Drop)]
@@ -418,18 +420,33 @@ fn push_to(blocks: &mut [BlockPlan], plan: Computation) -> Result<(), AllocError
     }
 }
 
+/// The plans for the lines of a block.
+fn in_block(
+    alloc: Global,
+    plans: &mut Plans,
+    reads: &[u32],
+    number: usize,
+    block: &Block<u32>,
+) -> Result<BlockPlan, AllocError> {
+    let mut in_front = plan_halves(alloc, plans, number, block)?;
+    plan_offsets(plans, &mut in_front, reads, number, block)?;
+    Ok(BlockPlan {
+        in_front,
+        behind: Vec::new(alloc),
+    })
+}
+
 /// The plans, block by block; with those for the lines of each block.
 fn by_block(
     alloc: Global,
     plans: &mut Plans,
+    registers: u32,
     blocks: &[Block<u32>],
 ) -> Result<Vec<BlockPlan>, AllocError> {
+    let reads = count_reads(alloc, registers, blocks)?;
     let mut lists = Vec::with_capacity(alloc, blocks.len())?;
     for (number, block) in blocks.iter().enumerate() {
-        lists.push(BlockPlan {
-            in_front: plan_halves(alloc, plans, number, block)?,
-            behind: Vec::new(alloc),
-        })?;
+        lists.push(in_block(alloc, plans, reads.as_slice(), number, block)?)?;
     }
     Ok(lists)
 }
@@ -459,7 +476,12 @@ fn choice_of(
     plans: &mut Plans,
     function: &VFunc,
 ) -> Result<Option<Plan>, AllocError> {
-    let mut blocks = by_block(alloc, plans, function.code.blocks.as_slice())?;
+    let mut blocks = by_block(
+        alloc,
+        plans,
+        function.registers,
+        function.code.blocks.as_slice(),
+    )?;
     if plans.next == function.registers {
         return Ok(None);
     }

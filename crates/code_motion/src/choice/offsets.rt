@@ -1,0 +1,207 @@
+//! Addresses that are sums of a register and of what another register and a number give. The sum of the two registers is set in front of them; `value_numbering` adds the number last then, and so it becomes the offset of the
+//! loads and stores there.
+use crate::choice::choose::{Plans, pay};
+use crate::plan::Computation;
+use cfg_live::uses::line_writes;
+use rv_isa::instruction::RegOp;
+use std::alloc::AllocError;
+use vcode::code::Block;
+use vcode::cost::is_immediate;
+use vcode::limits::PLACES;
+use vcode::line::{Line, Operation};
+use vcode::place::{Address, Operand};
+
+/// How many lines in front of a sum, and behind it, are looked at.
+const WINDOW: usize = 8;
+
+/// A register, and a number that is added to it.
+#[derive(Clone, Copy)]
+struct Offset {
+    base: u32,
+    number: u64,
+}
+
+/// The sum of another register and a number that a line gives the register.
+fn offset_in(line: &Line<u32>, register: u32) -> Option<Offset> {
+    match line {
+        Line::Operate {
+            to,
+            operation: Operation::Reg(RegOp::Add),
+            left: Operand::At(base),
+            right: Operand::Number(number),
+        } if *to == register && *base != register && is_immediate(*number) => Some(Offset {
+            base: *base,
+            number: *number,
+        }),
+        _ => None,
+    }
+}
+
+/// What is known of a register behind a line.
+fn behind(known: Option<Offset>, line: &Line<u32>, register: u32) -> Option<Offset> {
+    match line_writes(line) {
+        Some(written) => {
+            if written == register {
+                return offset_in(line, register);
+            }
+            match known {
+                Some(offset) if offset.base == written => None,
+                _ => known,
+            }
+        }
+        None => known,
+    }
+}
+
+/// The sum of another register and a number that the register is in front of the line with this number.
+fn offset_of(lines: &[Line<u32>], number: usize, register: u32) -> Option<Offset> {
+    let mut known = None;
+    for line in lines.iter().take(number).skip(number.saturating_sub(WINDOW)) {
+        known = behind(known, line, register);
+    }
+    known
+}
+
+fn address_of(line: &Line<u32>) -> Option<Address<u32>> {
+    match line {
+        Line::Load { at, .. } | Line::Store { at, .. } => Some(*at),
+        _ => None,
+    }
+}
+
+/// Whether the line reads the register as an address which, with the number, is still one of an instruction.
+fn takes(line: &Line<u32>, register: u32, number: u64) -> bool {
+    match address_of(line) {
+        Some(at) => {
+            let offset = i64::from(at.offset.value).cast_unsigned();
+            at.base == Operand::At(register) && is_immediate(offset.wrapping_add(number))
+        }
+        None => false,
+    }
+}
+
+/// How many of the lines from this one on do so, until the register is written.
+fn count_takes(lines: &[Line<u32>], from: usize, register: u32, number: u64) -> u32 {
+    let mut count = 0u32;
+    for line in lines.iter().skip(from).take(WINDOW) {
+        if takes(line, register, number) {
+            count = count.saturating_add(1);
+        }
+        if line_writes(line) == Some(register) {
+            return count;
+        }
+    }
+    count
+}
+
+/// How often a register is read.
+fn reads_of(reads: &[u32], register: u32) -> u32 {
+    reads.get(register as usize).copied().unwrap_or(0)
+}
+
+/// A sum of two registers that is wanted in front of a line.
+#[derive(Clone, Copy)]
+struct Sum {
+    base: u32,
+    added: u32,
+}
+
+/// The sum that is wanted where `register` is the sum of another register and a number, which nothing else reads, and `to` is read as an address alone.
+fn sum_of(
+    lines: &[Line<u32>],
+    reads: &[u32],
+    number: usize,
+    to: u32,
+    register: u32,
+    added: u32,
+) -> Option<Sum> {
+    if reads_of(reads, register) != 1 {
+        return None;
+    }
+    let offset = offset_of(lines, number, register)?;
+    let taken = count_takes(lines, number.saturating_add(1), to, offset.number);
+    if taken != 0 && taken == reads_of(reads, to) {
+        Some(Sum {
+            base: offset.base,
+            added,
+        })
+    } else {
+        None
+    }
+}
+
+fn sum_at(lines: &[Line<u32>], reads: &[u32], number: usize) -> Option<Sum> {
+    match lines.get(number) {
+        Some(
+            Line::Operate {
+                to,
+                operation: Operation::Reg(RegOp::Add),
+                left: Operand::At(left),
+                right: Operand::At(right),
+            },
+        ) => match sum_of(lines, reads, number, *to, *left, *right) {
+            Some(sum) => Some(sum),
+            None => sum_of(lines, reads, number, *to, *right, *left),
+        },
+        _ => None,
+    }
+}
+
+/// The register that takes the sum, if the block pays for that.
+fn plan_sum(plans: &mut Plans, block: usize, sum: Sum) -> Option<Computation> {
+    let plan = Computation {
+        block,
+        register: plans.next,
+        operation: Operation::Reg(RegOp::Add),
+        left: Operand::At(sum.base),
+        right: Operand::At(sum.added),
+    };
+    if plan.register >= PLACES - 1 || !pay(plans.credits.as_mut_slice(), block, &plan.line()) {
+        return None;
+    }
+    plans.next = plan.register.saturating_add(1);
+    Some(plan)
+}
+
+/// Puts what is computed in front of a line to what is computed in front of others.
+fn put_front(
+    fronts: &mut Vec<Option<Computation>>,
+    number: usize,
+    plan: Option<Computation>,
+) -> Result<(), AllocError> {
+    if number >= fronts.len() {
+        fronts.resize(number.saturating_add(1), None)?;
+    }
+    if let Some(front) = fronts.get_mut(number) {
+        *front = plan;
+    }
+    Ok(())
+}
+
+/// Whether nothing is computed in front of the line yet.
+fn is_free(fronts: &[Option<Computation>], number: usize) -> bool {
+    match fronts.get(number) {
+        Some(Some(_)) => false,
+        _ => true,
+    }
+}
+
+/// Adds such sums to what is computed in front of the lines of a block.
+pub(crate) fn plan_offsets(
+    plans: &mut Plans,
+    fronts: &mut Vec<Option<Computation>>,
+    reads: &[u32],
+    number: usize,
+    block: &Block<u32>,
+) -> Result<(), AllocError> {
+    let lines = block.lines.as_slice();
+    for at in 0..lines.len() {
+        if let Some(sum) = sum_at(lines, reads, at) {
+            if is_free(fronts.as_slice(), at) {
+                let plan = plan_sum(plans, number, sum);
+                put_front(fronts, at, plan)?;
+            }
+        }
+    }
+    Ok(())
+}
