@@ -51,7 +51,7 @@ pub const PASSES: [Pass; 18] = [
     Pass::CopyPropagation,
     Pass::ConstantHoisting,
     Pass::TailDuplication,
-Pass::BranchFolding,
+    Pass::BranchFolding,
     Pass::ValueNumbering,
     Pass::DeadCode,
     Pass::CopyPropagation,
