@@ -15,6 +15,7 @@
 #![tactic(auto)]
 
 mod call;
+mod comparison;
 mod data;
 mod definition;
 mod label;
@@ -31,4 +32,5 @@ mod syntax;
 mod temporary;
 pub mod text;
 pub mod trace;
+mod wanted;
 pub mod warning;
