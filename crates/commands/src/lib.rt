@@ -28,6 +28,7 @@ mod files;
 pub mod invoke;
 pub mod laws;
 mod list_symbols;
+pub mod other_lines;
 mod pieces;
 mod process;
 pub mod refusal;
