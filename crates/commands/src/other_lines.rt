@@ -24,21 +24,12 @@ impl OtherLines {
     }
 }
 
-/// What else is wrong with the text with this number, of this path, that is refused so. Where memory for the lines was refused there are none.
+/// What else is wrong with the text with this number, of this path, that is refused so.
+///
+/// # Errors
+///
+/// Only where memory was refused.
 pub(crate) fn other_lines(
-    alloc: Global,
-    path: &str,
-    number: usize,
-    bytes: &[u8],
-    refusal: &CompileError,
-) -> OtherLines {
-    match lines_of(alloc, path, number, bytes, refusal) {
-        Ok(lines) => lines,
-        Err(_) => OtherLines::none(alloc),
-    }
-}
-
-fn lines_of(
     alloc: Global,
     path: &str,
     number: usize,

@@ -90,7 +90,7 @@ fn push_refused_text(
         CompileError::Memory => Err(AllocError),
         refusal => {
             let note = text_note(alloc, number, bytes, &refusal)?;
-            let others = other_lines(alloc, path, number, bytes, &refusal);
+            let others = other_lines(alloc, path, number, bytes, &refusal)?;
             findings.push(Finding {
                 refusal,
                 note,
