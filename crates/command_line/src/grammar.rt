@@ -50,7 +50,8 @@ const INTERPRET: &str =
 
 Example: qbec interp --limit 100000 examples/hello.ssa";
 
-const DISASSEMBLE: &str = "Exit status: 0, or 126 where EXE is refused. With --explain a line behind that of a refusal says in words what is wrong with EXE.
+const DISASSEMBLE: &str =
+    "Exit status: 0, or 126 where EXE is refused. With --explain a line behind that of a refusal says in words what is wrong with EXE.
 
 Example: qbec dis hello";
 

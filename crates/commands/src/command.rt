@@ -129,7 +129,9 @@ fn perform<'a, D: Disk, O: Sink, E: Sink>(
 {
     match command {
         Command::Build {
-            out: target, files, ..
+            out: target,
+            files,
+            ..
         } => build(
             alloc,
             allocator,
@@ -139,7 +141,10 @@ fn perform<'a, D: Disk, O: Sink, E: Sink>(
             explanation,
         ),
         Command::Run {
-            limit, file, words, ..
+            limit,
+            file,
+            words,
+            ..
         } => run(
             alloc,
             disk,
@@ -150,7 +155,10 @@ fn perform<'a, D: Disk, O: Sink, E: Sink>(
             explanation,
         ),
         Command::Interpret {
-            limit, file, words, ..
+            limit,
+            file,
+            words,
+            ..
         } => interpret(
             alloc,
             disk,

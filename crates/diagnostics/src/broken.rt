@@ -1,10 +1,10 @@
 //! All places of a text that break rules.
+use crate::data::{has_wrong_alignment, has_wrong_fields};
 use crate::definition::{line_of, symbol_of};
 use crate::label::targets;
 use crate::phi::is_wrong;
 use crate::place::{Does, Step, steps};
 use crate::size::{is_long_blit, is_wrong_alloc};
-use crate::data::{has_wrong_alignment, has_wrong_fields};
 use il_ast::block::Block;
 use il_ast::function::Func;
 use il_ast::instruction::{Inst, Jump};
@@ -83,11 +83,7 @@ fn take_repeated(counts: &mut Vec<u8>, number: usize) -> bool {
     }
 }
 
-fn add_repeated_globals(
-    alloc: Global,
-    breaks: &mut Breaks,
-    text: &Text,
-) -> Result<(), AllocError> {
+fn add_repeated_globals(alloc: Global, breaks: &mut Breaks, text: &Text) -> Result<(), AllocError> {
     let mut counts = vec![in alloc; 0u8; text.symbols.len()]?;
     for definition in text.definitions.as_slice() {
         name(&mut counts, symbol_of(definition).number());

@@ -56,12 +56,7 @@ fn add_each(
     }
 }
 
-fn add_operand(
-    words: &mut TextMaker,
-    linked: &Linked<'_>,
-    function: &InText<&Func>,
-    operand: Val,
-) {
+fn add_operand(words: &mut TextMaker, linked: &Linked<'_>, function: &InText<&Func>, operand: Val) {
     match operand {
         Val::Global(symbol) => add_callee(words, linked, function.text, symbol),
         Val::Temp(temp) => add_temp(words, function.item, temp),

@@ -8,8 +8,8 @@ use crate::label::{add_jump_to_entry, add_open_end, add_repeated_local, add_unkn
 use crate::limit::text_limit;
 use crate::note::{Note, make_note};
 use crate::phi::add_uncovered;
-use crate::remark::{Remark, Remarks};
 use crate::place::steps;
+use crate::remark::{Remark, Remarks};
 use crate::size::{add_long_blit, add_wrong_alloc};
 use crate::syntax::add_unexpected;
 use crate::temporary::{add_misfit, add_two_classes, add_undefined, add_wrong_return};

@@ -126,12 +126,7 @@ fn unfit(value: Option<Value>, class: Class) -> Option<&'static str> {
     }
 }
 
-fn add_operand(
-    words: &mut TextMaker,
-    source: &Source<'_>,
-    function: &InText<&Func>,
-    operand: Val,
-) {
+fn add_operand(words: &mut TextMaker, source: &Source<'_>, function: &InText<&Func>, operand: Val) {
     match operand {
         Val::Int(number) => words.add_number(number),
         Val::Temp(temp) => add_temp(words, function.item, temp),
@@ -151,9 +146,14 @@ fn add_reason(
     let held = |operand: Val| value_of(source, running, function.text, operand);
     match place.instruction(source.linked) {
         Some(Inst::Unary { op, value, .. }) => add_of_unary(words, running, *op, held(*value)),
-        Some(Inst::Binary {
-            op, left, right, ..
-        }) => add_of_binary(words, running, *op, held(*left), held(*right)),
+        Some(
+            Inst::Binary {
+                op,
+                left,
+                right,
+                ..
+            },
+        ) => add_of_binary(words, running, *op, held(*left), held(*right)),
         Some(Inst::Store { size, at, .. }) => {
             let _ = add_no_access(words, running, held(*at), bytes_stored(*size));
         }
