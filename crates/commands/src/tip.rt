@@ -11,8 +11,20 @@ pub(crate) fn tip(words: &[&str]) -> &'static str {
         ["build", rest @ ..] if any_output(rest) => {
             "tip: the executable file to write stands behind -o\n"
         }
+        ["check" | "symbols" | "stack" | "trace", rest @ ..] if any_explain(rest) => {
+            "tip: this command says why without --explain\n"
+        }
         _ => "",
     }
+}
+
+fn any_explain(words: &[&str]) -> bool {
+    for word in words {
+        if *word == "--explain" {
+            return true;
+        }
+    }
+    false
 }
 
 /// Whether one of the words is an option for the output that other compilers have.
