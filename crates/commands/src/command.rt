@@ -1,5 +1,5 @@
 //! What the user asks for, done.
-ghost use Rattle.std.specs.Prelude.{◌≡◌, map, IfOk, IfErr, OnErr};
+ghost use Rattle.std.specs.Prelude.{◌≡◌, true, false, map, IfOk, IfErr, OnErr};
 ghost use Rattle.shell.specs.Sink.{Tells};
 ghost use Rattle.commands.specs.Commands.{Done, Fails, Ends, IsExplained, IsHelp, IsMistake, IsShown, is_explained};
 ghost use Rattle.commands.specs.Messages.{line_of};
@@ -33,21 +33,38 @@ pub fn report<E: Sink>(failure: Failure<'_>, err: &mut E) -> u8
     failure.status()
 }
 
-/// The same, with these lines behind it where they are asked for.
+/// The same, where no words are asked for.
 #[tactic(auto, unfolding(crate::specs::Commands::IsExplained))]
+fn report_alone<E: Sink>(failure: Failure<'_>, err: &mut E) -> u8
+    ensures { IsExplained false failure.entry (E.told err.old) (E.told err.new) result }
+{
+    report(failure, err)
+}
+
+/// The same, with these lines behind it.
+#[tactic(auto, unfolding(crate::specs::Commands::IsExplained))]
+fn report_with<E: Sink>(failure: Failure<'_>, lines: &[String], err: &mut E) -> u8
+    ensures { IsExplained true failure.entry (E.told err.old) (E.told err.new) result }
+{
+    let status = report(failure, err);
+    tell_lines(lines, err);
+    status
+}
+
+/// The same, with these lines behind it where the command asks for words.
 fn report_explained<E: Sink>(
     failure: Failure<'_>,
-    is_asked: bool,
+    command: &Command<'_>,
     lines: &[String],
     err: &mut E,
 ) -> u8
-    ensures { IsExplained is_asked failure.entry (E.told err.old) (E.told err.new) result }
+    ensures { IsExplained (is_explained command.now) failure.entry (E.told err.old) (E.told err.new) result }
 {
-    let status = report(failure, err);
-    if is_asked {
-        tell_lines(lines, err);
+    if is_explained(command) {
+        report_with(failure, lines, err)
+    } else {
+        report_alone(failure, err)
     }
-    status
 }
 
 /// Whether words are asked for where a command fails: by an option, or by a command that says more than its line.
@@ -229,13 +246,12 @@ pub fn command<D: Disk, O: Sink, E: Sink>(
 {
     match command_of(alloc, words) {
         Ok(command) => {
-            let is_asked = is_explained(&command);
-            let mut explanation = Explanation::new(alloc, is_asked);
+            let mut explanation = Explanation::new(alloc, is_explained(&command));
             match perform(alloc, &command, allocator, disk, out, err, &mut explanation) {
                 Ok(status) => status,
                 Err(failure) => {
                     explanation.add_fault(&failure, disk);
-                    report_explained(failure, is_asked, explanation.lines(), err)
+                    report_explained(failure, &command, explanation.lines(), err)
                 }
             }
         }
