@@ -8,7 +8,6 @@ use crate::size::{is_long_blit, is_wrong_alloc};
 use il_ast::block::Block;
 use il_ast::function::Func;
 use il_ast::instruction::{Inst, Jump};
-use il_ast::label::Label;
 use il_ast::operand::Val;
 use il_ast::operation::{Class, Extension, UnaryOp};
 use il_ast::text::{Definition, Text};
@@ -183,7 +182,7 @@ fn add_insts(breaks: &mut Breaks, block: &Block, is_entry: bool) {
 }
 
 /// Adds what is wrong with the end of a block.
-fn add_end(breaks: &mut Breaks, block: &Block, entry: Option<Label>, known: &[bool]) {
+fn add_end(breaks: &mut Breaks, block: &Block, entry: Option<usize>, known: &[bool]) {
     let jump = match &block.jump {
         Some(jump) => jump,
         None => {
@@ -192,31 +191,35 @@ fn add_end(breaks: &mut Breaks, block: &Block, entry: Option<Label>, known: &[bo
         }
     };
     let (one, other) = targets(block);
-    add_target(breaks, jump.line, one, entry, known);
-    add_target(breaks, jump.line, other, entry, known);
+    if let Some(label) = one {
+        add_target(breaks, jump.line, label.number(), entry, known);
+    }
+    if let Some(label) = other {
+        add_target(breaks, jump.line, label.number(), entry, known);
+    }
 }
 
 /// Adds what is wrong with the label that a jump leads to.
 fn add_target(
     breaks: &mut Breaks,
     line: usize,
-    target: Option<Label>,
-    entry: Option<Label>,
+    label: usize,
+    entry: Option<usize>,
     known: &[bool],
 ) {
-    if let Some(label) = target {
-        if !is_known(known, label.number()) {
-            breaks.add(Rule::KnownLabels, line);
-        } else if target == entry {
-            breaks.add(Rule::EntryNotTarget, line);
-        }
+    if !is_known(known, label) {
+        breaks.add(Rule::KnownLabels, line);
+    } else if Some(label) == entry {
+        breaks.add(Rule::EntryNotTarget, line);
     }
 }
 
 /// The label of the first block, where no other block has it.
-fn entry_of(blocks: &[Block], counts: &[u8]) -> Option<Label> {
+fn entry_of(blocks: &[Block], counts: &[u8]) -> Option<usize> {
     match blocks.first() {
-        Some(entry) if counts.get(entry.label.number()).copied() == Some(1) => Some(entry.label),
+        Some(entry) if counts.get(entry.label.number()).copied() == Some(1) => {
+            Some(entry.label.number())
+        }
         _ => None,
     }
 }

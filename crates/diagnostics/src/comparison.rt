@@ -66,27 +66,42 @@ fn add_operand(words: &mut TextMaker, linked: &Linked<'_>, function: &InText<&Fu
 
 /// The function that an instruction compares with a number.
 fn compared(linked: &Linked<'_>, text: usize, held: &[Holds], inst: &Inst) -> Option<Val> {
-    let (left, right) = match inst {
+    match inst {
         Inst::Binary {
             to: _,
             op: BinaryOp::Compare(_, Class::L),
             left,
             right,
-        } => (*left, *right),
-        _ => return None,
-    };
-    match (left, right) {
-        (Val::Int(_), other) | (other, Val::Int(_)) if is_function(linked, text, held, other) => {
-            Some(other)
-        }
+        } => either(linked, text, held, left, right),
         _ => None,
     }
 }
 
-fn is_function(linked: &Linked<'_>, text: usize, held: &[Holds], operand: Val) -> bool {
+/// That of two operands that is a function, where the other one is a number.
+fn either(
+    linked: &Linked<'_>,
+    text: usize,
+    held: &[Holds],
+    left: &Val,
+    right: &Val,
+) -> Option<Val> {
+    if is_number(left) && is_function(linked, text, held, right) {
+        return Some(*right);
+    }
+    if is_number(right) && is_function(linked, text, held, left) {
+        return Some(*left);
+    }
+    None
+}
+
+fn is_number(operand: &Val) -> bool {
+    matches!(operand, Val::Int(_))
+}
+
+fn is_function(linked: &Linked<'_>, text: usize, held: &[Holds], operand: &Val) -> bool {
     match operand {
         Val::Int(_) => false,
-        Val::Global(symbol) => matches!(target(linked, text, symbol), Some(Target::Code(_))),
+        Val::Global(symbol) => matches!(target(linked, text, *symbol), Some(Target::Code(_))),
         Val::Temp(temp) => held.get(temp.number()).copied() == Some(Holds::Function),
     }
 }

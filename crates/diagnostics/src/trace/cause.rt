@@ -63,7 +63,7 @@ fn taken_target(
     let (one, other) = targets(block);
     match &block.jump {
         Some(jump) => match jump.item {
-            Jump::Branch { on, .. } => match value_of(source, running, text, on) {
+            Jump::Branch { on, .. } => match value_of(source, running, text, &on) {
                 Some(Value::Integer(number)) if number % 0x1_0000_0000 == 0 => other,
                 _ => one,
             },
@@ -105,9 +105,9 @@ fn add_unfit_operand(
 ) -> bool {
     for step in steps {
         if let Some(operand) = value_read(step, label) {
-            let value = value_of(source, running, function.text, operand);
+            let value = value_of(source, running, function.text, &operand);
             if let Some(reason) = unfit(value, step.class) {
-                add_operand(words, source, function, operand);
+                add_operand(words, source, function, &operand);
                 words.add(reason);
                 return true;
             }
@@ -126,11 +126,16 @@ fn unfit(value: Option<Value>, class: Class) -> Option<&'static str> {
     }
 }
 
-fn add_operand(words: &mut TextMaker, source: &Source<'_>, function: &InText<&Func>, operand: Val) {
+fn add_operand(
+    words: &mut TextMaker,
+    source: &Source<'_>,
+    function: &InText<&Func>,
+    operand: &Val,
+) {
     match operand {
-        Val::Int(number) => words.add_number(number),
-        Val::Temp(temp) => add_temp(words, function.item, temp),
-        Val::Global(symbol) => add_symbol(words, source, function.text, symbol),
+        Val::Int(number) => words.add_number(*number),
+        Val::Temp(temp) => add_temp(words, function.item, *temp),
+        Val::Global(symbol) => add_symbol(words, source, function.text, *symbol),
     }
 }
 
@@ -143,9 +148,12 @@ fn add_reason(
     place: Place,
     block: &Block,
 ) {
-    let held = |operand: Val| value_of(source, running, function.text, operand);
+    let text = function.text;
     match place.instruction(source.linked) {
-        Some(Inst::Unary { op, value, .. }) => add_of_unary(words, running, *op, held(*value)),
+        Some(Inst::Unary { op, value, .. }) => {
+            let value = value_of(source, running, text, value);
+            add_of_unary(words, running, *op, value)
+        }
         Some(
             Inst::Binary {
                 op,
@@ -153,19 +161,27 @@ fn add_reason(
                 right,
                 ..
             },
-        ) => add_of_binary(words, running, *op, held(*left), held(*right)),
+        ) => {
+            let left = value_of(source, running, text, left);
+            let right = value_of(source, running, text, right);
+            add_of_binary(words, running, *op, left, right)
+        }
         Some(Inst::Store { size, at, .. }) => {
-            let _ = add_no_access(words, running, held(*at), bytes_stored(*size));
+            let at = value_of(source, running, text, at);
+            let _ = add_no_access(words, running, at, bytes_stored(*size));
         }
         Some(Inst::Blit { from, to, count }) => {
-            add_of_blit(words, running, held(*from), held(*to), *count)
+            let from = value_of(source, running, text, from);
+            let to = value_of(source, running, text, to);
+            add_of_blit(words, running, from, to, *count)
         }
         Some(Inst::Call { to, callee, args }) => {
             let call = Call {
                 to: *to,
                 args: args.as_slice(),
             };
-            add_of_call(words, source, running, function, held(*callee), &call)
+            let callee = value_of(source, running, text, callee);
+            add_of_call(words, source, running, function, callee, &call)
         }
         Some(Inst::Alloc { .. }) => words.add(NO_MEANING),
         None => add_of_jump(words, source, running, function, block),
@@ -267,14 +283,14 @@ fn add_of_write(
     call: &Call<'_>,
 ) {
     let (at, count) = match call.args {
-        [_, at, count] => (at.value, count.value),
+        [_, at, count] => (at, count),
         _ => {
             words.add(NO_MEANING);
             return;
         }
     };
-    let at = value_of(source, running, function.text, at);
-    match value_of(source, running, function.text, count) {
+    let at = value_of(source, running, function.text, &at.value);
+    match value_of(source, running, function.text, &count.value) {
         Some(Value::Integer(count)) => {
             if !add_no_access(words, running, at, count) && !add_blank(words, running, at, count) {
                 words.add(NO_MEANING);
@@ -299,8 +315,8 @@ fn add_of_jump(
     match item {
         Jump::Return(None) => words.add("no value is returned, and the call wants one"),
         Jump::Return(Some(operand)) => {
-            let value = value_of(source, running, function.text, operand);
-            add_operand(words, source, function, operand);
+            let value = value_of(source, running, function.text, &operand);
+            add_operand(words, source, function, &operand);
             let class = function.item.result.unwrap_or(Class::L);
             words.add(unfit(value, class).unwrap_or(" can't be returned"));
         }

@@ -58,7 +58,7 @@ pub fn add_needs(
 fn called(source: &Source<'_>, running: &Running<'_>, place: Place) -> Option<usize> {
     let text = function_at(source, place.function)?.text;
     match place.instruction(source.linked) {
-        Some(Inst::Call { callee, .. }) => match value_of(source, running, text, *callee) {
+        Some(Inst::Call { callee, .. }) => match value_of(source, running, text, callee) {
             Some(Value::Function(Callee::Defined(number))) => Some(number),
             _ => None,
         },

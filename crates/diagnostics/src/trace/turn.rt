@@ -135,7 +135,7 @@ fn add_operand(
             add_held(words, source, running, running.value(temp.number()));
         }
         Val::Global(symbol) => {
-            let held = value_of(source, running, function.text, operand);
+            let held = value_of(source, running, function.text, &operand);
             if let Some(Value::Pointer { .. }) = held {
                 words.add("    ");
                 add_symbol(words, source, function.text, symbol);
@@ -162,12 +162,12 @@ pub fn value_of(
     source: &Source<'_>,
     running: &Running<'_>,
     text: usize,
-    operand: Val,
+    operand: &Val,
 ) -> Option<Value> {
     match operand {
-        Val::Int(number) => Some(Value::Integer(number)),
+        Val::Int(number) => Some(Value::Integer(*number)),
         Val::Temp(temp) => running.value(temp.number()),
-        Val::Global(symbol) => match target_of(source, text, symbol) {
+        Val::Global(symbol) => match target_of(source, text, *symbol) {
             Some(Target::Object(number)) => Some(Value::Pointer {
                 block: number as u128,
                 offset: 0,
