@@ -1,5 +1,5 @@
 -- What words ask for: which argument each part of a command is taken from.
-use Rattle.std.specs.Prelude.{◌≡◌, ◌≢◌, ℕ, ◌^◌, ◌<◌, List, [], map, codes, Option, Some, None, unwrap_or}
+use Rattle.std.specs.Prelude.{◌≡◌, ◌≢◌, ℕ, Bool, true, false, ◌^◌, ◌<◌, List, [], map, codes, Option, Some, None, unwrap_or}
 use Rattle.std.specs.Str.Parse.{IsNumeral, digits_value, without_leading_plus}
 use Rattle.clap.specs.Walk.{Row, first_of, one_of, all_of}
 use Rattle.command_line.specs.declared.Command.{Command}
@@ -27,18 +27,25 @@ IsLimit rows limit = IsNumber (codes "limit") 1000000000 rows limit
 abbrev pub IsLast : List Row → ℕ → Type 0
 IsLast rows last = IsNumber (codes "last") 0 rows last
 
+-- whether the flag `--explain` stands there
+pub record IsExplain (rows : List Row) (flag : Bool) : Type 0 where
+  pub given : one_of (codes "explain") rows ≡ Some (codes "true") → flag ≡ true
+  pub unset : one_of (codes "explain") rows ≡ Some (codes "false") → flag ≡ false
+  pub missing : one_of (codes "explain") rows ≡ None → flag ≡ false
+
 -- the subcommand of this name, with these values of its arguments, asks for the command
 abbrev pub Asks : (name : List ℕ) → List Row → Command → Type 0
-Asks name rows (Build out files) =
-    (name ≡ codes "build") × (out.now ≡ word_in rows (codes "OUT"))
+Asks name rows (Build explain out files) =
+    (name ≡ codes "build") × IsExplain rows explain × (out.now ≡ word_in rows (codes "OUT"))
     × (map (λ s. s.now) files.items ≡ words_in rows (codes "FILES"))
-Asks name rows (Run limit file words) =
-    (name ≡ codes "run") × IsLimit rows limit × (file.now ≡ word_in rows (codes "EXE"))
+Asks name rows (Run explain limit file words) =
+    (name ≡ codes "run") × IsExplain rows explain × IsLimit rows limit × (file.now ≡ word_in rows (codes "EXE"))
     × (map (λ s. s.now) words.items ≡ words_in rows (codes "WORDS"))
-Asks name rows (Interpret limit file words) =
-    (name ≡ codes "interp") × IsLimit rows limit × (file.now ≡ word_in rows (codes "FILE"))
+Asks name rows (Interpret explain limit file words) =
+    (name ≡ codes "interp") × IsExplain rows explain × IsLimit rows limit × (file.now ≡ word_in rows (codes "FILE"))
     × (map (λ s. s.now) words.items ≡ words_in rows (codes "WORDS"))
-Asks name rows (Disassemble file) = (name ≡ codes "dis") × (file.now ≡ word_in rows (codes "EXE"))
+Asks name rows (Disassemble explain file) =
+    (name ≡ codes "dis") × IsExplain rows explain × (file.now ≡ word_in rows (codes "EXE"))
 Asks name rows (Check files) =
     (name ≡ codes "check") × (map (λ s. s.now) files.items ≡ words_in rows (codes "FILES"))
 Asks name rows (Symbols files) =

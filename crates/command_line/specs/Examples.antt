@@ -18,6 +18,9 @@ read f words = option_map (λ p. f p.0 p.1) (subcommand_of qbec_app words)
 abbrev pub build_words : List (List ℕ)
 build_words = codes "build" ∷ codes "x" ∷ codes "-o" ∷ codes "a" ∷ codes "y" ∷ []
 
+abbrev pub explain_words : List (List ℕ)
+explain_words = codes "build" ∷ codes "x" ∷ codes "--explain" ∷ codes "-o" ∷ codes "a" ∷ []
+
 abbrev pub run_words : List (List ℕ)
 run_words = codes "run" ∷ codes "--limit=5" ∷ codes "e" ∷ codes "w" ∷ codes "--" ∷ codes "-n" ∷ []
 
@@ -31,6 +34,11 @@ pub record Examples : Type 0 where
       ≡ Some (Some (codes "a"))
   pub build_files : read (λ name rows. all_of (codes "FILES") rows) build_words
       ≡ Some (Some (codes "x" ∷ codes "y" ∷ []))
+  pub build_explain : read (λ name rows. one_of (codes "explain") rows) build_words
+      ≡ Some (Some (codes "false"))
+  pub explain_is_clean : faults explain_words ≡ []
+  pub explain : read (λ name rows. one_of (codes "explain") rows) explain_words
+      ≡ Some (Some (codes "true"))
   pub run_is_clean : faults run_words ≡ []
   pub run_limit : read (λ name rows. one_of (codes "limit") rows) run_words ≡ Some (Some (codes "5"))
   pub run_words_are : read (λ name rows. all_of (codes "WORDS") rows) run_words

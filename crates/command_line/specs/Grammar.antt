@@ -4,6 +4,7 @@ use Rattle.std.specs.declared.alloc.AllocError.{AllocError}
 use Rattle.clap.specs.Lexer.{usize_max}
 use Rattle.clap.specs.Walk.{Rule, rule_of}
 use Rattle.clap.specs.Simple.{App, app_of, new_app, new_rule, new_shape, with_rule, with_subcommand}
+use Rattle.clap.specs.declared.builder.action.ArgAction.TheVariants.{SetTrue}
 use Rattle.clap.specs.declared.builder.arg.Arg.{Arg}
 use Rattle.clap.specs.declared.builder.command.Command.{Command}
 use Rattle.clap.specs.declared.builder.command.Command.TheViews.{out-Command as fields_of}
@@ -41,6 +42,13 @@ last_rule = record (new_rule (codes "last")) {
   defaults = codes "0" ∷ [];
 }
 
+-- --explain
+abbrev pub explain_rule : Rule
+explain_rule = record (new_rule (codes "explain")) {
+  long = Some (codes "explain");
+  action = Some SetTrue;
+}
+
 -- EXE, or FILE
 abbrev pub path_rule : List ℕ → Rule
 path_rule name = record (new_rule name) { required = true }
@@ -55,12 +63,14 @@ words_rule = record (new_rule (codes "WORDS")) {
 -- ---- the commands
 
 abbrev pub build_app : App
-build_app = with_rule (with_rule (new_app (codes "build")) out_rule) files_rule
+build_app =
+    with_rule (with_rule (with_rule (new_app (codes "build")) out_rule) explain_rule) files_rule
 
 -- a command that runs a program within a limit
 abbrev pub running_app : (command file : List ℕ) → App
 running_app command file =
-    with_rule (with_rule (with_rule (new_app command) limit_rule) (path_rule file)) words_rule
+    with_rule (with_rule (with_rule (with_rule (new_app command) limit_rule) explain_rule)
+    (path_rule file)) words_rule
 
 abbrev pub run_app : App
 run_app = running_app (codes "run") (codes "EXE")
@@ -72,7 +82,7 @@ abbrev pub trace_app : App
 trace_app = with_rule (with_rule (with_rule (new_app (codes "trace")) limit_rule) last_rule) files_rule
 
 abbrev pub dis_app : App
-dis_app = with_rule (new_app (codes "dis")) (path_rule (codes "EXE"))
+dis_app = with_rule (with_rule (new_app (codes "dis")) explain_rule) (path_rule (codes "EXE"))
 
 abbrev pub check_app : App
 check_app = with_rule (new_app (codes "check")) files_rule

@@ -2,9 +2,9 @@
 ghost use Rattle.std.specs.Prelude.{◌≡◌, IfOk, codes, map};
 ghost use Rattle.clap.specs.Matches.{found_of};
 ghost use Rattle.clap.specs.Walk.{rows_of};
-ghost use Rattle.command_line.specs.Asked.{Asks, AsksFor, HandsOn, IsLast, IsLimit, MayHandOn, word_in, words_in};
+ghost use Rattle.command_line.specs.Asked.{Asks, AsksFor, HandsOn, IsExplain, IsLast, IsLimit, MayHandOn, word_in, words_in};
 
-use crate::grammar::{EXECUTABLE, FILES, LAST, LIMIT, OUT, TEXT, WORDS};
+use crate::grammar::{EXECUTABLE, EXPLAIN, FILES, LAST, LIMIT, OUT, TEXT, WORDS};
 use crate::{Command, DEFAULT_LIMIT};
 use clap::ArgMatches;
 use std::alloc::{AllocError, Global};
@@ -40,11 +40,18 @@ fn last_of(found: &ArgMatches<'_>) -> u64
     found.get_one::<u64>(LAST).unwrap_or(0)
 }
 
+fn explain_of(found: &ArgMatches<'_>) -> bool
+    ensures { IsExplain (rows_of (found_of found.now)) result }
+{
+    found.get_flag(EXPLAIN)
+}
+
 fn build_of<'a>(alloc: Global, found: &ArgMatches<'a>) -> Result<Command<'a>, AllocError>
     ensures { IfOk result (Asks (codes "build") (rows_of (found_of found.now))) }
 {
     let files = words_of(alloc, found, FILES)?;
     Ok(Command::Build {
+        explain: explain_of(found),
         out: word_of(found, OUT),
         files,
     })
@@ -55,6 +62,7 @@ fn run_of<'a>(alloc: Global, found: &ArgMatches<'a>) -> Result<Command<'a>, Allo
 {
     let words = words_of(alloc, found, WORDS)?;
     Ok(Command::Run {
+        explain: explain_of(found),
         limit: limit_of(found),
         file: word_of(found, EXECUTABLE),
         words,
@@ -66,6 +74,7 @@ fn interpret_of<'a>(alloc: Global, found: &ArgMatches<'a>) -> Result<Command<'a>
 {
     let words = words_of(alloc, found, WORDS)?;
     Ok(Command::Interpret {
+        explain: explain_of(found),
         limit: limit_of(found),
         file: word_of(found, TEXT),
         words,
@@ -76,6 +85,7 @@ fn disassemble_of<'a>(found: &ArgMatches<'a>) -> Command<'a>
     ensures { Asks (codes "dis") (rows_of (found_of found.now)) result }
 {
     Command::Disassemble {
+        explain: explain_of(found),
         file: word_of(found, EXECUTABLE),
     }
 }

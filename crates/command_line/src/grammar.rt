@@ -2,10 +2,10 @@
 ghost use Rattle.std.specs.Prelude.{[], ◌∷◌, IfOk, List, Some, ℕ};
 ghost use Rattle.clap.specs.Simple.{new_app, new_rule, with_rule};
 ghost use Rattle.clap.specs.Walk.{Rule};
-ghost use Rattle.command_line.specs.Grammar.{HasSubcommand, IsRead, IsRuled, build_app, check_app, dis_app, files_rule, interp_app, last_rule, limit_rule, out_rule, path_rule, program_app, qbec_app, run_app, running_app, stack_app, symbols_app, trace_app, words_rule};
+ghost use Rattle.command_line.specs.Grammar.{HasSubcommand, IsRead, IsRuled, build_app, check_app, dis_app, explain_rule, files_rule, interp_app, last_rule, limit_rule, out_rule, path_rule, program_app, qbec_app, run_app, running_app, stack_app, symbols_app, trace_app, words_rule};
 
 use clap::builder::ValueParser;
-use clap::{Arg, Command, value_parser};
+use clap::{Arg, ArgAction, Command, value_parser};
 use std::alloc::{AllocError, Global};
 
 /// The names of the arguments.
@@ -16,6 +16,8 @@ pub(crate) const FILES: &str = "FILES";
 pub(crate) const LIMIT: &str = "limit";
 
 pub(crate) const LAST: &str = "last";
+
+pub(crate) const EXPLAIN: &str = "explain";
 
 pub(crate) const EXECUTABLE: &str = "EXE";
 
@@ -29,26 +31,27 @@ const COMPILES: &str =
 
 /// What stands below the help of the program and of its commands.
 const STATUSES: &str =
-    "Exit status: the program's own of run, interp and trace, 0 of build, dis, check, symbols and stack; 134 where the program halts, 124 at the limit, 125 where it faults, is undefined or runs out of stack, 126 where qbec refuses or can't go on. Each but the program's own comes with a line on standard error that says why.
+    "Exit status: the program's own of run, interp and trace, 0 of build, dis, check, symbols and stack; 134 where the program halts, 124 at the limit, 125 where it faults, is undefined or runs out of stack, 126 where qbec refuses or can't go on. Each but the program's own comes with a line on standard error that says why. qbec check FILE..., or --explain, says it in words.
 
 Example: qbec build -o hello examples/hello.ssa && qbec run hello";
 
 const BUILD: &str =
-    "Exit status: 0, and OUT can be executed; 126 where the texts are refused or a file can't be read or written, and a line on standard error says why.
+    "Exit status: 0, and OUT can be executed; 126 where the texts are refused or a file can't be read or written, and a line on standard error says why. With --explain there are more lines behind it, those of qbec check: each mistake in words, with its file and its line.
 
-Example: qbec build -o hello examples/hello.ssa";
+Example: qbec build --explain -o hello examples/hello.ssa";
 
 const RUN: &str =
-    "Exit status: the program's own; 134 where it halts, 124 at the limit, 125 where it faults, 126 where EXE or the words are refused.
+    "Exit status: the program's own; 134 where it halts, 124 at the limit, 125 where it faults, 126 where EXE or the words are refused. With --explain a line behind that of a refusal says in words what is wrong with EXE.
 
 Example: qbec run --limit 100000 echo -- -n word";
 
 const INTERPRET: &str =
-    "Exit status: the program's own; 134 where it halts, 124 at the limit, 125 where it is undefined or runs out of stack, 126 where FILE or the words are refused.
+    "Exit status: the program's own; 134 where it halts, 124 at the limit, 125 where it is undefined or runs out of stack, 126 where FILE or the words are refused. With --explain there are more lines behind that of a refusal, those of qbec check: each mistake in words, with its line.
 
 Example: qbec interp --limit 100000 examples/hello.ssa";
 
-const DISASSEMBLE: &str = "Exit status: 0, or 126 where EXE is refused.
+const DISASSEMBLE: &str =
+    "Exit status: 0, or 126 where EXE is refused. With --explain a line behind that of a refusal says in words what is wrong with EXE.
 
 Example: qbec dis hello";
 
@@ -132,7 +135,9 @@ fn build<'a>(alloc: Global) -> Result<Command<'a>, AllocError>
     ensures { IfOk result (λ c. IsRead c build_app) }
 {
     let about = "Compiles texts to an executable file";
-    command(alloc, "build", about, BUILD, out(alloc))?.arg(files(alloc))
+    command(alloc, "build", about, BUILD, out(alloc))?
+        .arg(explain(alloc))?
+        .arg(files(alloc))
 }
 
 /// A command that runs a program within a limit: it with its other arguments.
@@ -144,7 +149,10 @@ fn running<'a>(
 ) -> Result<Command<'a>, AllocError>
     ensures { (name : List ℕ) → IsRead command.entry (with_rule (new_app name) limit_rule) → IfOk result (λ c. IsRead c (running_app name file.now)) }
 {
-    command.arg(path(alloc, file, file_help))?.arg(words(alloc))
+    command
+        .arg(explain(alloc))?
+        .arg(path(alloc, file, file_help))?
+        .arg(words(alloc))
 }
 
 fn run<'a>(alloc: Global) -> Result<Command<'a>, AllocError>
@@ -168,7 +176,7 @@ fn dis<'a>(alloc: Global) -> Result<Command<'a>, AllocError>
 {
     let about = "Shows the instructions of an executable file";
     let file = path(alloc, EXECUTABLE, "The executable file");
-    command(alloc, "dis", about, DISASSEMBLE, file)
+    command(alloc, "dis", about, DISASSEMBLE, explain(alloc))?.arg(file)
 }
 
 fn check<'a>(alloc: Global) -> Result<Command<'a>, AllocError>
@@ -225,6 +233,15 @@ fn path<'a>(alloc: Global, name: &'a str, help: &'a str) -> Arg<'a>
     ensures { IsRuled result (path_rule name.now) }
 {
     Arg::new(alloc, name).required(true).help(help)
+}
+
+fn explain<'a>(alloc: Global) -> Arg<'a>
+    ensures { IsRuled result explain_rule }
+{
+    Arg::new(alloc, EXPLAIN)
+        .long(EXPLAIN)
+        .action(ArgAction::SetTrue)
+        .help("Says in words why something is refused")
 }
 
 /// An option of this name, a number that help calls `value`.

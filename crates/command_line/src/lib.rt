@@ -26,25 +26,29 @@ use std::alloc::{AllocError, Global};
 /// What the user asks for.
 #[derive(Drop)]
 pub enum Command<'a> {
-    /// Compile the files, as texts in this order, to the executable file `out`.
+    /// Compile the files, as texts in this order, to the executable file `out`. Here and below, `explain` asks for words where something is refused.
     Build {
+        explain: bool,
         out: &'a str,
         files: Vec<&'a str>,
     },
     /// Run the executable file with these argument words for at most `limit` instructions.
     Run {
+        explain: bool,
         limit: u64,
         file: &'a str,
         words: Vec<&'a str>,
     },
     /// Interpret the text in `file` with these argument words for at most `limit` turns.
     Interpret {
+        explain: bool,
         limit: u64,
         file: &'a str,
         words: Vec<&'a str>,
     },
     /// Show the instructions of the executable file.
     Disassemble {
+        explain: bool,
         file: &'a str,
     },
     /// Say what is wrong with the files, as texts in this order.
@@ -73,8 +77,8 @@ pub const DEFAULT_LIMIT: u64 = 1_000_000_000;
 
 /// What the words after the program's name ask for.
 ///
-/// The words are those of a call such as `build -o OUT FILE...`, `run [--limit N] EXE WORD...`, `interp [--limit N] FILE WORD...`, `dis EXE`, `check FILE...`,
-/// `symbols FILE...`, `stack FILE...` or `trace [--limit N] [--last K] FILE... [-- WORD...]`.
+/// The words are those of a call such as `build [--explain] -o OUT FILE...`, `run [--explain] [--limit N] EXE WORD...`, `interp [--explain] [--limit N] FILE WORD...`,
+/// `dis [--explain] EXE`, `check FILE...`, `symbols FILE...`, `stack FILE...` or `trace [--limit N] [--last K] FILE... [-- WORD...]`.
 /// N is from 0 to 1,000,000,000,000, by default [`DEFAULT_LIMIT`], and K from 0 to 1,000, by default 0. A WORD that begins with `-` stands after `--`, and each WORD
 /// of a trace does.
 ///

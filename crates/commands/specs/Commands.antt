@@ -1,6 +1,6 @@
 -- What each command did, over a disk, standard output and standard error: what they told before and
 -- after.
-use Rattle.std.specs.Prelude.{◌≡◌, ◌⊎◌, ℕ, List, map}
+use Rattle.std.specs.Prelude.{◌≡◌, ◌⊎◌, ℕ, Bool, true, false, List, map}
 use Rattle.command_line.specs.Words.{AskFor, SaysWhy}
 use Rattle.command_line.specs.declared.Command.{Command}
 use Rattle.command_line.specs.declared.Command.TheVariants.{Build, Run, Interpret, Disassemble, Check, Symbols, Stack, Trace}
@@ -25,16 +25,16 @@ pub record World : Type 0 where
 -- it was done, with this status, and no call of the disk or of standard output failed; but for
 -- what is found by a check, and the end of a trace, nothing went to standard error
 abbrev pub Done : Command → (old new : World) → (status : ℕ) → Type 0
-Done (Build out files) old new status =
+Done (Build explain out files) old new status =
     (status ≡ 0) × IsBuilt old.disk new.disk (map (λ p. p.now) files.items) out.now
     × (new.out ≡ old.out) × (new.err ≡ old.err)
-Done (Run limit file words) old new status =
+Done (Run explain limit file words) old new status =
     RunsTo old.disk file.now (map (λ w. w.now) words.items) limit old.out new.out status
     × (new.disk ≡ old.disk) × (new.err ≡ old.err)
-Done (Interpret limit file words) old new status =
+Done (Interpret explain limit file words) old new status =
     MeansTo old.disk file.now (map (λ w. w.now) words.items) limit old.out new.out status
     × (new.disk ≡ old.disk) × (new.err ≡ old.err)
-Done (Disassemble file) old new status =
+Done (Disassemble explain file) old new status =
     (status ≡ 0) × IsDisassembled old.disk file.now old.out new.out
     × (new.disk ≡ old.disk) × (new.err ≡ old.err)
 Done (Check files) old new status =
@@ -53,13 +53,13 @@ Done (Trace limit last files words) old new status =
 
 -- it failed so
 abbrev pub Fails : Command → (disk after : DiskState) (old new : SinkState) → Failure → Type 0
-Fails (Build out files) disk after old new f =
+Fails (Build explain out files) disk after old new f =
     BuildFails disk after (map (λ p. p.now) files.items) out f × (new ≡ old)
-Fails (Run limit file words) disk after old new f =
+Fails (Run explain limit file words) disk after old new f =
     RunFails disk after file (map (λ w. w.now) words.items) limit old new f
-Fails (Interpret limit file words) disk after old new f =
+Fails (Interpret explain limit file words) disk after old new f =
     InterpretFails disk after file (map (λ w. w.now) words.items) limit old new f
-Fails (Disassemble file) disk after old new f = DisassemblyFails disk after file old new f
+Fails (Disassemble explain file) disk after old new f = DisassemblyFails disk after file old new f
 Fails (Check files) disk after old new f =
     CheckFails disk after (map (λ p. p.now) files.items) f × (new ≡ old)
 Fails (Symbols files) disk after old new f =
@@ -74,6 +74,26 @@ Fails (Trace limit last files words) disk after old new f =
 -- status is the failure's
 abbrev pub Reported : Failure → (before after : SinkState) → (status : ℕ) → Type 0
 Reported f before after status = (status ≡ status_of f) × Tells before after (line_of f)
+
+-- whether words behind the line are asked for: by an option, or by a command that says more than it
+abbrev pub is_explained : Command → Bool
+is_explained (Build explain out files) = explain
+is_explained (Run explain limit file words) = explain
+is_explained (Interpret explain limit file words) = explain
+is_explained (Disassemble explain file) = explain
+is_explained (Check files) = true
+is_explained (Symbols files) = true
+is_explained (Stack files) = true
+is_explained (Trace limit last files words) = true
+
+-- it was reported so; and where words are asked for, some bytes went to standard error behind the line,
+-- as far as that took them
+unfoldable pub IsExplained : (asked : Bool) → Failure → (before after : SinkState) →
+    (status : ℕ) → Type 0
+IsExplained false f before after status = Reported f before after status
+IsExplained true f before after status =
+    (status ≡ status_of f) × ((words : List ℕ) × (between : SinkState)
+    × Tells before between (line_of f) × Tells between after words)
 
 -- a text of help went to standard output, or that failed, or there was no memory for the text.
 -- Which text it is isn't said
@@ -102,6 +122,6 @@ unfoldable pub Ends : (words : List (List ℕ)) (old new : World) → (status : 
 Ends words old new status =
     ((c : Command) × AskFor words c × Done c old new status)
     ⊎ ((c : Command) × (f : Failure) × AskFor words c × Fails c old.disk new.disk old.out new.out f
-    × Reported f old.err new.err status)
+    × IsExplained (is_explained c) f old.err new.err status)
     ⊎ ((r : CommandRefusal) × SaysWhy words r × IsShown r old.out new.out old.err new.err status
     × (new.disk ≡ old.disk))

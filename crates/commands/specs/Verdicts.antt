@@ -87,10 +87,12 @@ code_of Memory = codes "E7"
 abbrev pub path_of : (paths : List (List ℕ)) (text : ℕ) → List ℕ
 path_of paths text = unwrap_or (slice_get paths text) (codes "?")
 
+-- the line of a reason, among lines of what else is wrong with the text
 unfoldable pub error_line : (paths : List (List ℕ)) → Finding → List ℕ
 error_line paths f =
-    path_of paths f.note.text ++ codes ":" ++ decimal f.note.line ++ codes ": error: "
-    ++ string_bytes f.note.words ++ codes " [" ++ code_of f.refusal ++ codes "]\n"
+    string_bytes f.others.before ++ path_of paths f.note.text ++ codes ":" ++ decimal f.note.line
+    ++ codes ": error: " ++ string_bytes f.note.words ++ codes " [" ++ code_of f.refusal
+    ++ codes "]\n" ++ string_bytes f.others.behind
 
 unfoldable pub warning_line : (paths : List (List ℕ)) → Note → List ℕ
 warning_line paths note =

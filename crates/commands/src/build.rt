@@ -4,6 +4,7 @@ ghost use Rattle.commands.specs.declared.failure.Failure.TheVariants.{Refused};
 ghost use Rattle.commands.specs.Parts.{IsUnwritten, IsWritten, IsMade, MakingFails, IsBuilt, BuildFails};
 ghost use Rattle.commands.specs.Refusals.{compile_refusal};
 
+use crate::explanation::Explanation;
 use crate::failure::Failure;
 use crate::files::{read_all, slices, write};
 use qbec::compile::compile;
@@ -51,6 +52,7 @@ pub(crate) fn build<'a, D: Disk>(
     disk: &mut D,
     out: &'a str,
     paths: &[&'a str],
+    explanation: &mut Explanation,
 ) -> Result<u8, Failure<'a>>
     ensures status { IfOk result (λ status. status ≡ 0) }
     ensures built { OnOk result (IsBuilt (D.told disk.old) (D.told disk.new) (map (λ p. p.now) paths.now) out.now) }
@@ -58,6 +60,7 @@ pub(crate) fn build<'a, D: Disk>(
 {
     let texts = read_all(alloc, disk, paths)?;
     let slices = slices(alloc, texts.as_slice())?;
+    explanation.add_texts(paths, slices.as_slice());
     make(alloc, allocator, disk, out, slices.as_slice())?;
     Ok(0)
 }

@@ -14,7 +14,7 @@ use shell::sink::Sink;
 use std::alloc::{AllocError, Global};
 
 /// Writes these lines, as far as standard error takes them.
-fn tell_lines<E: Sink>(lines: &[String], err: &mut E)
+pub(crate) fn tell_lines<E: Sink>(lines: &[String], err: &mut E)
     ensures { Tells (E.told err.old) (E.told err.new) (concat (map string_bytes lines.now)) }
 {
     let _ = put_lines(err, lines);

@@ -1,19 +1,21 @@
 //! What the user asks for, done.
-ghost use Rattle.std.specs.Prelude.{◌≡◌, map, IfOk, IfErr, OnErr};
+ghost use Rattle.std.specs.Prelude.{◌≡◌, true, false, map, IfOk, IfErr, OnErr};
 ghost use Rattle.shell.specs.Sink.{Tells};
-ghost use Rattle.commands.specs.Commands.{Done, Fails, Ends, IsHelp, IsMistake, IsShown};
+ghost use Rattle.commands.specs.Commands.{Done, Fails, Ends, IsExplained, IsHelp, IsMistake, IsShown, is_explained};
 ghost use Rattle.commands.specs.Messages.{line_of};
 ghost use Rattle.commands.specs.Statuses.{status_of};
 
 use crate::build::build;
-use crate::check::check;
+use crate::check::{check, tell_lines};
 use crate::disassemble::disassemble;
+use crate::explanation::Explanation;
 use crate::failure::Failure;
 use crate::files::put_out;
 use crate::list_symbols::list_symbols;
 use crate::run::{interpret, run};
 use crate::show_stack::show_stack;
 use crate::tell::{tell, tell_bytes};
+use crate::tip::tip;
 use crate::trace::trace;
 use command_line::refusal::Text;
 use command_line::{Command, Refusal, command_of};
@@ -31,6 +33,56 @@ pub fn report<E: Sink>(failure: Failure<'_>, err: &mut E) -> u8
     failure.status()
 }
 
+/// The same, where no words are asked for.
+#[tactic(auto, unfolding(crate::specs::Commands::IsExplained))]
+fn report_alone<E: Sink>(failure: Failure<'_>, err: &mut E) -> u8
+    ensures { IsExplained false failure.entry (E.told err.old) (E.told err.new) result }
+{
+    report(failure, err)
+}
+
+/// The same, with these lines behind it.
+#[tactic(auto, unfolding(crate::specs::Commands::IsExplained))]
+fn report_with<E: Sink>(failure: Failure<'_>, lines: &[String], err: &mut E) -> u8
+    ensures { IsExplained true failure.entry (E.told err.old) (E.told err.new) result }
+{
+    let status = report(failure, err);
+    tell_lines(lines, err);
+    status
+}
+
+/// The same, with these lines behind it where the command asks for words.
+fn report_explained<E: Sink>(
+    failure: Failure<'_>,
+    command: &Command<'_>,
+    lines: &[String],
+    err: &mut E,
+) -> u8
+    ensures { IsExplained (is_explained command.now) failure.entry (E.told err.old) (E.told err.new) result }
+{
+    if is_explained(command) {
+        report_with(failure, lines, err)
+    } else {
+        report_alone(failure, err)
+    }
+}
+
+/// Whether words are asked for where a command fails: by an option, or by a command that says more than its line.
+fn is_explained(command: &Command<'_>) -> bool
+    ensures { result ≡ is_explained command.now }
+{
+    match command {
+        Command::Build { explain, .. }
+        | Command::Run { explain, .. }
+        | Command::Interpret { explain, .. }
+        | Command::Disassemble { explain, .. } => *explain,
+        Command::Check { .. }
+        | Command::Trace { .. }
+        | Command::Symbols { .. }
+        | Command::Stack { .. } => true,
+    }
+}
+
 /// Puts out a text of help.
 #[tactic(auto, unfolding(crate::specs::Commands::IsHelp))]
 fn show_help<O: Sink, E: Sink>(alloc: Global, text: &Text, out: &mut O, err: &mut E) -> u8
@@ -45,12 +97,13 @@ fn show_help<O: Sink, E: Sink>(alloc: Global, text: &Text, out: &mut O, err: &mu
     }
 }
 
-/// Writes what is wrong with the command line to standard error.
+/// Writes what is wrong with the words to standard error, and what to type in their place.
 #[tactic(auto, unfolding(crate::specs::Commands::IsMistake))]
-fn show_mistake<E: Sink>(alloc: Global, text: &Text, err: &mut E) -> u8
+fn show_mistake<E: Sink>(alloc: Global, text: &Text, words: &[&str], err: &mut E) -> u8
     ensures { IsMistake (E.told err.old) (E.told err.new) result }
 {
-    match format!(in alloc; "{text}") {
+    let tip = tip(words);
+    match format!(in alloc; "{text}{tip}") {
         Ok(text) => {
             tell_bytes(text.as_bytes(), err);
             126
@@ -59,13 +112,19 @@ fn show_mistake<E: Sink>(alloc: Global, text: &Text, err: &mut E) -> u8
     }
 }
 
-/// Shows a text of the command line.
-fn show<O: Sink, E: Sink>(alloc: Global, refusal: Refusal, out: &mut O, err: &mut E) -> u8
+/// Shows a text of the command line for words.
+fn show<O: Sink, E: Sink>(
+    alloc: Global,
+    refusal: Refusal,
+    words: &[&str],
+    out: &mut O,
+    err: &mut E,
+) -> u8
     ensures { IsShown refusal (O.told out.old) (O.told out.new) (E.told err.old) (E.told err.new) result }
 {
     match refusal {
         Refusal::Help(text) => show_help(alloc, &text, out, err),
-        Refusal::Mistake(text) => show_mistake(alloc, &text, err),
+        Refusal::Mistake(text) => show_mistake(alloc, &text, words, err),
         Refusal::Memory => report(Failure::Memory, err),
     }
 }
@@ -77,6 +136,7 @@ fn perform<'a, D: Disk, O: Sink, E: Sink>(
     disk: &mut D,
     out: &mut O,
     err: &mut E,
+    explanation: &mut Explanation,
 ) -> Result<u8, Failure<'a>>
     ensures done { IfOk result (Done command.now
         (record { disk = D.told disk.old; out = O.told out.old; err = E.told err.old })
@@ -85,16 +145,47 @@ fn perform<'a, D: Disk, O: Sink, E: Sink>(
     ensures fails { IfErr result (Fails command.now (D.told disk.old) (D.told disk.new) (O.told out.old) (O.told out.new)) }
 {
     match command {
-        Command::Build { out: target, files } => {
-            build(alloc, allocator, disk, *target, files.as_slice())
-        }
-        Command::Run { limit, file, words } => {
-            run(alloc, disk, out, *limit, *file, words.as_slice())
-        }
-        Command::Interpret { limit, file, words } => {
-            interpret(alloc, disk, out, *limit, *file, words.as_slice())
-        }
-        Command::Disassemble { file } => disassemble(alloc, disk, out, *file),
+        Command::Build {
+            out: target,
+            files,
+            ..
+        } => build(
+            alloc,
+            allocator,
+            disk,
+            *target,
+            files.as_slice(),
+            explanation,
+        ),
+        Command::Run {
+            limit,
+            file,
+            words,
+            ..
+        } => run(
+            alloc,
+            disk,
+            out,
+            *limit,
+            *file,
+            words.as_slice(),
+            explanation,
+        ),
+        Command::Interpret {
+            limit,
+            file,
+            words,
+            ..
+        } => interpret(
+            alloc,
+            disk,
+            out,
+            *limit,
+            *file,
+            words.as_slice(),
+            explanation,
+        ),
+        Command::Disassemble { file, .. } => disassemble(alloc, disk, out, *file, explanation),
         Command::Check { files } => check(alloc, disk, err, files.as_slice()),
         Command::Trace {
             limit,
@@ -110,9 +201,12 @@ fn perform<'a, D: Disk, O: Sink, E: Sink>(
             *last,
             files.as_slice(),
             words.as_slice(),
+            explanation,
         ),
-        Command::Stack { files } => show_stack(alloc, disk, out, files.as_slice()),
-        Command::Symbols { files } => list_symbols(alloc, allocator, disk, out, files.as_slice()),
+        Command::Stack { files } => show_stack(alloc, disk, out, files.as_slice(), explanation),
+        Command::Symbols { files } => {
+            list_symbols(alloc, allocator, disk, out, files.as_slice(), explanation)
+        }
     }
 }
 
@@ -120,17 +214,18 @@ fn perform<'a, D: Disk, O: Sink, E: Sink>(
 ///
 /// | Words | What is done |
 /// |---|---|
-/// | `build -o OUT FILE...` | compiles the files as texts, in order, with registers as the strategy chooses, and writes OUT only after success |
-/// | `run [--limit N] EXE WORD...` | runs the executable file for at most N instructions |
-/// | `interp [--limit N] FILE WORD...` | interprets one text for at most N turns |
-/// | `dis EXE` | shows the instructions of the executable file |
+/// | `build [--explain] -o OUT FILE...` | compiles the files as texts, in order, with registers as the strategy chooses, and writes OUT only after success |
+/// | `run [--explain] [--limit N] EXE WORD...` | runs the executable file for at most N instructions |
+/// | `interp [--explain] [--limit N] FILE WORD...` | interprets one text for at most N turns |
+/// | `dis [--explain] EXE` | shows the instructions of the executable file |
 /// | `check FILE...` | says on `err` what is wrong with the files as texts, in order, each with its line |
 /// | `trace [--limit N] [--last K] FILE... [-- WORD...]` | interprets the files as texts, in order, as `interp` does one, and says on `err` where and why they ended, if they didn't exit, with the last K turns |
 /// | `stack FILE...` | shows how much stack the functions of the files, as texts in order, need, and the most that calls of them and the program take |
 /// | `symbols FILE...` | shows where the functions and the data of the files, as texts in order, stand in the executable that `build` makes with this strategy |
 ///
 /// A program's output goes to `out`, while it runs. The status is the program's own, or 0 of `build`, of `dis`, of `symbols`, of `stack`, and of `check` where the texts are a program, else 126. Where something ends otherwise, the line of the [`Failure`] goes
-/// to `err`, and its status is answered; that `err` fails changes nothing. Where `out` fails, that is the failure. Help goes to `out`, with status 0; other texts of
+/// to `err`, and its status is answered; where words are asked for, by `--explain`, or by `check`, `trace`, `symbols` or `stack`, lines behind it say why texts or a file were
+/// refused, or a file couldn't be read or written. That `err` fails changes nothing. Where `out` fails, that is the failure. Help goes to `out`, with status 0; other texts of
 /// the command line go to `err`, with status 126. What these texts say is shown by tests.
 ///
 /// Failures are found in this order: the command line; the files in order, at the first that can't be read; refusals of the texts or of the executable file; the
@@ -150,10 +245,16 @@ pub fn command<D: Disk, O: Sink, E: Sink>(
         result }
 {
     match command_of(alloc, words) {
-        Ok(command) => match perform(alloc, &command, allocator, disk, out, err) {
-            Ok(status) => status,
-            Err(failure) => report(failure, err),
-        },
-        Err(refusal) => show(alloc, refusal, out, err),
+        Ok(command) => {
+            let mut explanation = Explanation::new(alloc, is_explained(&command));
+            match perform(alloc, &command, allocator, disk, out, err, &mut explanation) {
+                Ok(status) => status,
+                Err(failure) => {
+                    explanation.add_fault(&failure, disk);
+                    report_explained(failure, &command, explanation.lines(), err)
+                }
+            }
+        }
+        Err(refusal) => show(alloc, refusal, words, out, err),
     }
 }

@@ -5,6 +5,7 @@ ghost use Rattle.shell.specs.Lines.{dis_lines};
 ghost use Rattle.shell.specs.Sink.{Sends};
 ghost use Rattle.commands.specs.Parts.{ShowingFails, IsDisassembled, DisassemblyFails};
 
+use crate::explanation::Explanation;
 use crate::failure::Failure;
 use crate::files::{put_lines, read};
 use elf_file::{Loaded, read_image};
@@ -29,6 +30,7 @@ pub(crate) fn disassemble<'a, D: Disk, O: Sink>(
     disk: &mut D,
     out: &mut O,
     path: &'a str,
+    explanation: &mut Explanation,
 ) -> Result<u8, Failure<'a>>
     ensures shows { OnOk result (IsDisassembled (D.told disk.old) path.now (O.told out.old) (O.told out.new)) }
     ensures status { IfOk result (λ status. status ≡ 0) }
@@ -36,6 +38,7 @@ pub(crate) fn disassemble<'a, D: Disk, O: Sink>(
     ensures fails { IfErr result (DisassemblyFails (D.told disk.old) (D.told disk.new) path.entry (O.told out.old) (O.told out.new)) }
 {
     let bytes = read(disk, path)?;
+    explanation.add_file(path, bytes.as_slice());
     let file = read_image(alloc, bytes.as_slice())?;
     show_lines(alloc, &file, out)?;
     Ok(0)

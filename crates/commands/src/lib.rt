@@ -9,6 +9,7 @@
 //!   it says of the file or of the text, is that of `specs/Refusals.antt`.
 //! - [`verdict::judge`] finds what is wrong with texts, and where; what it says of them, and the lines that show it, is that of `specs/Verdicts.antt`.
 //! - [`invoke::invoke`] does what the words of a process ask for, and answers the process's status; how it ends is that of `specs/Exits.antt`.
+//! - [`explanation::Explanation`] gathers the words behind that line, where they are asked for.
 //! - [`tell::tell`] writes the line of a failure, byte by byte that of `specs/Messages.antt`.
 //!
 //! - [`stack_lines::stack_listing`] says how much stack the program takes that texts are; the lines, and what the last one says of all runs, are those of
@@ -23,11 +24,14 @@ mod build;
 mod check;
 pub mod command;
 mod disassemble;
+pub mod explanation;
 pub mod failure;
+mod file_words;
 mod files;
 pub mod invoke;
 pub mod laws;
 mod list_symbols;
+pub mod other_lines;
 mod pieces;
 mod process;
 pub mod refusal;
@@ -37,6 +41,7 @@ mod show_stack;
 pub mod stack_lines;
 mod stack_reason;
 pub mod tell;
+mod tip;
 mod trace;
 pub mod traced;
 pub mod verdict;

@@ -3,6 +3,7 @@ ghost use Rattle.std.specs.Prelude.{◌≡◌, map, IfOk, OnOk, IfErr};
 ghost use Rattle.commands.specs.Parts.{AreShown, ShowingLinesFails};
 ghost use Rattle.qbec.specs.Listing.{IsListed};
 
+use crate::explanation::Explanation;
 use crate::failure::Failure;
 use crate::files::{put_out, read_all, slices};
 use qbec::symbols::listing::listing;
@@ -19,6 +20,7 @@ pub(crate) fn list_symbols<'a, D: Disk, O: Sink>(
     disk: &mut D,
     out: &mut O,
     paths: &[&'a str],
+    explanation: &mut Explanation,
 ) -> Result<u8, Failure<'a>>
     ensures shows { OnOk result (AreShown IsListed (D.told disk.old) (map (λ p. p.now) paths.now) (O.told out.old) (O.told out.new)) }
     ensures status { IfOk result (λ status. status ≡ 0) }
@@ -27,6 +29,7 @@ pub(crate) fn list_symbols<'a, D: Disk, O: Sink>(
 {
     let texts = read_all(alloc, disk, paths)?;
     let slices = slices(alloc, texts.as_slice())?;
+    explanation.add_texts(paths, slices.as_slice());
     let listing = listing(alloc, slices.as_slice(), allocator)?;
     put_out(out, listing.as_slice())?;
     Ok(0)

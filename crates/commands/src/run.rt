@@ -2,6 +2,7 @@
 ghost use Rattle.std.specs.Prelude.{◌≡◌, map, IfOk, OnOk, IfErr};
 ghost use Rattle.commands.specs.Parts.{RunsTo, MeansTo, RunFails, InterpretFails};
 
+use crate::explanation::Explanation;
 use crate::failure::{Failure, end_status, stop_status};
 use crate::files::read;
 use crate::runs::{interpret_texts, run_file};
@@ -28,12 +29,14 @@ pub(crate) fn run<'a, D: Disk, O: Sink>(
     limit: u64,
     path: &'a str,
     words: &[&str],
+    explanation: &mut Explanation,
 ) -> Result<u8, Failure<'a>>
     ensures runs { IfOk result (RunsTo (D.told disk.old) path.now (map (λ w. w.now) words.now) limit (O.told out.old) (O.told out.new)) }
     ensures same { OnOk result (D.told disk.new ≡ D.told disk.old) }
     ensures fails { IfErr result (RunFails (D.told disk.old) (D.told disk.new) path.entry (map (λ w. w.now) words.now) limit (O.told out.old) (O.told out.new)) }
 {
     let bytes = read(disk, path)?;
+    explanation.add_file(path, bytes.as_slice());
     let words = as_bytes(alloc, words)?;
     let stop = run_file(alloc, bytes.as_slice(), words.as_slice(), limit, out)?;
     stop_status(stop)
@@ -48,12 +51,14 @@ pub(crate) fn interpret<'a, D: Disk, O: Sink>(
     turns: u64,
     path: &'a str,
     words: &[&str],
+    explanation: &mut Explanation,
 ) -> Result<u8, Failure<'a>>
     ensures means { IfOk result (MeansTo (D.told disk.old) path.now (map (λ w. w.now) words.now) turns (O.told out.old) (O.told out.new)) }
     ensures same { OnOk result (D.told disk.new ≡ D.told disk.old) }
     ensures fails { IfErr result (InterpretFails (D.told disk.old) (D.told disk.new) path.entry (map (λ w. w.now) words.now) turns (O.told out.old) (O.told out.new)) }
 {
     let text = read(disk, path)?;
+    explanation.add_texts(&[path], &[text.as_slice()]);
     let words = as_bytes(alloc, words)?;
     let end = interpret_texts(alloc, &[text.as_slice()], words.as_slice(), turns, out)?;
     end_status(end)

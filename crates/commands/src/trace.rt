@@ -3,6 +3,7 @@ ghost use Rattle.std.specs.Prelude.{◌≡◌, map, IfOk, OnOk, OnErr, IfErr};
 ghost use Rattle.commands.specs.Parts.{IsTold, IsTraced, TraceFails};
 ghost use Rattle.commands.specs.Statuses.{end_status};
 
+use crate::explanation::Explanation;
 use crate::failure::{Failure, end_status};
 use crate::files::{read_all, slices};
 use crate::run::as_bytes;
@@ -39,6 +40,7 @@ pub(crate) fn trace<'a, D: Disk, O: Sink, E: Sink>(
     last: u64,
     paths: &[&'a str],
     words: &[&str],
+    explanation: &mut Explanation,
 ) -> Result<u8, Failure<'a>>
     ensures traced { IfOk result (IsTraced (D.told disk.old) (map (λ p. p.now) paths.now) (map (λ w. w.now) words.now) turns (O.told out.old) (O.told out.new) (E.told err.old) (E.told err.new)) }
     ensures same { OnOk result (D.told disk.new ≡ D.told disk.old) }
@@ -47,6 +49,7 @@ pub(crate) fn trace<'a, D: Disk, O: Sink, E: Sink>(
 {
     let texts = read_all(alloc, disk, paths)?;
     let slices = slices(alloc, texts.as_slice())?;
+    explanation.add_texts(paths, slices.as_slice());
     let words = as_bytes(alloc, words)?;
     let (end, story) = trace_texts(
         alloc,

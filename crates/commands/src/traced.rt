@@ -28,13 +28,14 @@ fn told(
     paths: &[&str],
     texts: &[&[u8]],
     running: &Running<'_>,
+    end: End,
 ) -> String {
     let source = Source {
         linked,
         paths,
         texts,
     };
-    story(alloc, &source, running)
+    story(alloc, &source, running, end)
 }
 
 /// Where a program ended that came to no turn.
@@ -64,7 +65,7 @@ fn trace_running<'a, O: Sink>(
 {
     running.watch(alloc, last as usize);
     let end = run_turns(alloc, running, turns, out)?;
-    Ok((end, told(alloc, linked, paths, texts, running)))
+    Ok((end, told(alloc, linked, paths, texts, running, end)))
 }
 
 /// Interprets a linked program as [`crate::runs::interpret_texts`] does, and answers also where and why it ended.

@@ -6,6 +6,8 @@ ghost use Rattle.qbec.specs.Refusals.{Refuses, RefusesText};
 ghost use Rattle.qbec.specs.Texts.{AreTexts};
 ghost use Rattle.commands.specs.Verdicts.{AreTrue, IsFinding, IsTrue, IsVerdict, StandsAt, verdict_status};
 
+use crate::other_lines::{OtherLines, other_lines};
+use crate::verdict_lines::path_of;
 use diagnostics::linking::link;
 use diagnostics::note::Note;
 use diagnostics::text::{limit, rule, syntax};
@@ -17,11 +19,12 @@ use qbec::error::{CompileError, link_refusal};
 use qbec::texts::checked_text;
 use std::alloc::{AllocError, Global};
 
-/// Why texts are refused: the refusal, and the same in words at a line.
+/// Why texts are refused: the refusal, the same in words at a line, and lines of what else is wrong with the text.
 #[derive(Drop)]
 pub struct Finding {
     pub refusal: CompileError,
     pub note: Note,
+    pub others: OtherLines,
 }
 
 /// What is found of texts.
@@ -71,10 +74,11 @@ fn text_note(
     }
 }
 
-/// Adds why the text with this number is refused, where that isn't for want of memory.
+/// Adds why the text with this number, of this path, is refused, where that isn't for want of memory.
 fn push_refused_text(
     alloc: Global,
     findings: &mut Vec<Finding>,
+    path: &str,
     number: usize,
     bytes: &[u8],
     refusal: CompileError,
@@ -86,7 +90,12 @@ fn push_refused_text(
         CompileError::Memory => Err(AllocError),
         refusal => {
             let note = text_note(alloc, number, bytes, &refusal)?;
-            findings.push(Finding { refusal, note })?;
+            let others = other_lines(alloc, path, number, bytes, &refusal)?;
+            findings.push(Finding {
+                refusal,
+                note,
+                others,
+            })?;
             Ok(())
         }
     }
@@ -115,7 +124,11 @@ fn refused_linking(
         CompileError::Memory => Err(AllocError),
         refusal => {
             let mut findings = Vec::new(alloc);
-            findings.push(Finding { refusal, note })?;
+            findings.push(Finding {
+                refusal,
+                note,
+                others: OtherLines::none(alloc),
+            })?;
             Ok(Verdict::Refused(findings))
         }
     }
@@ -145,7 +158,10 @@ pub fn judge(alloc: Global, paths: &[&str], texts: &[&[u8]]) -> Result<Verdict, 
     for k in 0..texts.len() {
         match checked_text(alloc, k + 1, texts[k]) {
             Ok(text) => push_text(&mut checked, text)?,
-            Err(refusal) => push_refused_text(alloc, &mut findings, k, texts[k], refusal)?,
+            Err(refusal) => {
+                let path = path_of(paths, k);
+                push_refused_text(alloc, &mut findings, path, k, texts[k], refusal)?
+            }
         }
     }
     if findings.is_empty() {

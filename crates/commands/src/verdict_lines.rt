@@ -27,7 +27,7 @@ fn code_of(alloc: Global, refusal: &CompileError) -> Result<String, AllocError>
 }
 
 /// The path of a text.
-fn path_of<'a>(paths: &[&'a str], text: usize) -> &'a str
+pub(crate) fn path_of<'a>(paths: &[&'a str], text: usize) -> &'a str
     ensures { result.now ≡ path_of (map (λ p. p.now) paths.now) text }
 {
     match paths.get(text) {
@@ -44,7 +44,9 @@ fn error_line(alloc: Global, paths: &[&str], finding: &Finding) -> Result<String
     let line = finding.note.line;
     let words = finding.note.words.as_str();
     let code = code_of(alloc, &finding.refusal)?;
-    format!(in alloc; "{path}:{line}: error: {words} [{code}]\n")
+    let before = finding.others.before.as_str();
+    let behind = finding.others.behind.as_str();
+    format!(in alloc; "{before}{path}:{line}: error: {words} [{code}]\n{behind}")
 }
 
 #[tactic(auto, unfolding(crate::specs::Verdicts::warning_line))]

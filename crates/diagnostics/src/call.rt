@@ -12,12 +12,11 @@ use obj_link::linking::linked::Linked;
 use std::alloc::Global;
 use text_maker::maker::TextMaker;
 
-/// A call by name.
+/// What a call passes, and where its result goes.
 #[derive(Drop)]
-struct Call<'a> {
-    to: Option<Dest>,
-    name: Symbol,
-    args: &'a [Arg],
+pub struct Call<'a> {
+    pub to: Option<Dest>,
+    pub args: &'a [Arg],
 }
 
 /// The calls of a function that are undefined, since the callee has other classes.
@@ -29,10 +28,10 @@ pub fn add_wrong_calls(
 ) {
     for block in function.item.blocks.as_slice() {
         for inst in block.insts.as_slice() {
-            if let Some(call) = call_by_name(&inst.item) {
+            if let Some((name, call)) = call_by_name(&inst.item) {
                 let mut words = TextMaker::new(alloc);
-                add_callee(&mut words, linked, function.text, call.name);
-                if add_mistake(&mut words, linked, function.text, &call) {
+                add_callee(&mut words, linked, function.text, name);
+                if add_mistake(&mut words, linked, function.text, name, &call) {
                     notes.add(function.text, inst.line, words);
                 }
             }
@@ -40,30 +39,40 @@ pub fn add_wrong_calls(
     }
 }
 
-fn call_by_name(inst: &Inst) -> Option<Call<'_>> {
+/// The name that a call names, and the rest of the call.
+pub fn call_by_name(inst: &Inst) -> Option<(Symbol, Call<'_>)> {
     match inst {
         Inst::Call {
             to,
             callee: Val::Global(name),
             args,
-        } => Some(Call {
-            to: *to,
-            name: *name,
-            args: args.as_slice(),
-        }),
+        } => Some((
+            *name,
+            Call {
+                to: *to,
+                args: args.as_slice(),
+            },
+        )),
         _ => None,
     }
 }
 
-fn add_callee(words: &mut TextMaker, linked: &Linked<'_>, text: usize, name: Symbol) {
+/// Adds a global name of a text.
+pub fn add_callee(words: &mut TextMaker, linked: &Linked<'_>, text: usize, name: Symbol) {
     if let Some(checked) = linked.texts.get(text) {
         add_global(words, &checked.text, name);
     }
 }
 
 /// Says of a call what is wrong with it. Answers whether anything is.
-fn add_mistake(words: &mut TextMaker, linked: &Linked<'_>, text: usize, call: &Call<'_>) -> bool {
-    match target(linked, text, call.name) {
+fn add_mistake(
+    words: &mut TextMaker,
+    linked: &Linked<'_>,
+    text: usize,
+    name: Symbol,
+    call: &Call<'_>,
+) -> bool {
+    match target(linked, text, name) {
         Some(Target::Code(callee)) => add_difference(words, linked, call, callee),
         Some(Target::Object(_)) => {
             words.add(" is data, and no function");
@@ -74,7 +83,7 @@ fn add_mistake(words: &mut TextMaker, linked: &Linked<'_>, text: usize, call: &C
 }
 
 /// What a name means in a text.
-fn target(linked: &Linked<'_>, text: usize, name: Symbol) -> Option<Target> {
+pub fn target(linked: &Linked<'_>, text: usize, name: Symbol) -> Option<Target> {
     match linked.targets.as_slice().get(text) {
         Some(targets) => targets.as_slice().get(name.number()).copied(),
         None => None,
@@ -109,7 +118,7 @@ fn taken(linked: &Linked<'_>, callee: Callee, number: usize) -> Option<Class> {
 }
 
 /// Says how a call differs from what the callee takes and gives. Answers whether it does.
-fn add_difference(
+pub fn add_difference(
     words: &mut TextMaker,
     linked: &Linked<'_>,
     call: &Call<'_>,

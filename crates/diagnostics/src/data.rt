@@ -1,7 +1,7 @@
 //! What is wrong with global names and with data.
 use crate::definition::{definition_at, line_of, symbol_of};
 use crate::name::{add_count, add_global, add_line};
-use il_ast::datum::{Field, Item};
+use il_ast::datum::{DataDef, Field, Item};
 use il_ast::operation::Size;
 use il_ast::symbol::Symbol;
 use il_ast::text::{Definition, Text};
@@ -75,4 +75,49 @@ pub fn add_wrong_alignment(words: &mut TextMaker, text: &Text, line: usize) {
         add_count(words, object.alignment);
         words.add(", and not to 1, 2, 4, 8 or 16");
     }
+}
+
+/// Whether a datum has an item that doesn't fit its field, or no byte.
+pub fn has_wrong_fields(object: &DataDef) -> bool {
+    let mut has_byte = false;
+    for field in object.fields.as_slice() {
+        if is_misfit(field) {
+            return true;
+        }
+        has_byte = has_byte || has_bytes(field);
+    }
+    !has_byte
+}
+
+fn is_misfit(field: &Field) -> bool {
+    if let Field::Items { size, items } = field {
+        for item in items.as_slice() {
+            match item {
+                Item::Bytes(_) if *size != Size::Byte => return true,
+                Item::Address { .. } if *size != Size::Long => return true,
+                _ => {}
+            }
+        }
+    }
+    false
+}
+
+fn has_bytes(field: &Field) -> bool {
+    match field {
+        Field::Zeros(count) => *count > 0,
+        Field::Items { items, .. } => {
+            for item in items.as_slice() {
+                match item {
+                    Item::Bytes(bytes) if bytes.len() == 0 => {}
+                    _ => return true,
+                }
+            }
+            false
+        }
+    }
+}
+
+/// Whether a datum is aligned to what it may not be.
+pub fn has_wrong_alignment(object: &DataDef) -> bool {
+    !matches!(object.alignment, 1 | 2 | 4 | 8 | 16)
 }

@@ -18,6 +18,14 @@ pub fn add_uncovered(words: &mut TextMaker, function: &Func, line: usize) {
     }
 }
 
+/// Whether the labels of a phi aren't the predecessors of its block, each once, or another phi of the block assigns its temporary too.
+pub fn is_wrong(blocks: &[Block], block: &Block, phi: &Phi) -> bool {
+    other_phi(block, phi).is_some()
+        || missing(blocks, block, phi).is_some()
+        || repeated(phi).is_some()
+        || unled(blocks, block, phi).is_some()
+}
+
 fn add_wrong_phi(words: &mut TextMaker, function: &Func, block: &Block, phi: &Phi) {
     add_temp(words, function, phi.to.temp);
     if let Some(other) = other_phi(block, phi) {

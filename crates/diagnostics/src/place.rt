@@ -157,7 +157,7 @@ pub fn steps(alloc: Global, function: &Func) -> Result<Vec<Step>, AllocError> {
 }
 
 /// Where the result of an instruction goes.
-fn destination(inst: &Inst) -> Option<Dest> {
+pub fn destination(inst: &Inst) -> Option<Dest> {
     match inst {
         Inst::Unary { to, .. } | Inst::Binary { to, .. } | Inst::Alloc { to, .. } => Some(*to),
         Inst::Call { to, .. } => *to,

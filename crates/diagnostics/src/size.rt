@@ -18,6 +18,22 @@ fn instruction_at(blocks: &[Block], line: usize) -> Option<(&Inst, bool)> {
     None
 }
 
+/// Whether an instruction is an `alloc` outside the first block, or of a size that it may not have.
+pub fn is_wrong_alloc(inst: &Inst, is_entry: bool) -> bool {
+    match inst {
+        Inst::Alloc { size, .. } => !is_entry || *size == 0 || *size > ALLOC_BYTES,
+        _ => false,
+    }
+}
+
+/// Whether an instruction is a `blit` of too many bytes.
+pub fn is_long_blit(inst: &Inst) -> bool {
+    match inst {
+        Inst::Blit { count, .. } => *count > BLIT_BYTES,
+        _ => false,
+    }
+}
+
 /// An `alloc` outside the first block, or of a size that it may not have.
 pub fn add_wrong_alloc(words: &mut TextMaker, function: &Func, line: usize) {
     match instruction_at(function.blocks.as_slice(), line) {

@@ -1,6 +1,7 @@
 //! Why one text is refused.
 ghost use Rattle.std.specs.Prelude.{◌≡◌, IfOk};
 
+use crate::broken::all_broken;
 use crate::data::{add_repeated_global, add_wrong_alignment, add_wrong_fields};
 use crate::definition::function_at;
 use crate::label::{add_jump_to_entry, add_open_end, add_repeated_local, add_unknown_label};
@@ -8,6 +9,7 @@ use crate::limit::text_limit;
 use crate::note::{Note, make_note};
 use crate::phi::add_uncovered;
 use crate::place::steps;
+use crate::remark::{Remark, Remarks};
 use crate::size::{add_long_blit, add_wrong_alloc};
 use crate::syntax::add_unexpected;
 use crate::temporary::{add_misfit, add_two_classes, add_undefined, add_wrong_return};
@@ -31,6 +33,54 @@ pub fn rule(alloc: Global, bytes: &[u8], fault: BrokenRule) -> Result<String, Al
     match read(alloc, bytes) {
         Ok(text) => rule_of(alloc, &text, fault),
         Err(_) => Err(AllocError),
+    }
+}
+
+/// So many mistakes of a text are told beside the one that it is refused for.
+const MOST_OTHERS: usize = 200;
+
+/// The places of the text with this number, beside this one, that break rules, by line; as far as they are told.
+pub fn other_rules(
+    alloc: Global,
+    number: usize,
+    bytes: &[u8],
+    fault: BrokenRule,
+) -> Result<Vec<Remark>, AllocError> {
+    match read(alloc, bytes) {
+        Ok(text) => others_of(alloc, number, &text, fault),
+        Err(_) => Err(AllocError),
+    }
+}
+
+fn others_of(
+    alloc: Global,
+    number: usize,
+    text: &Text,
+    fault: BrokenRule,
+) -> Result<Vec<Remark>, AllocError> {
+    let mut remarks = Remarks::new(alloc, number);
+    let mut left = MOST_OTHERS;
+    let mut last = fault;
+    let others = all_broken(alloc, text)?;
+    for other in others.as_slice() {
+        if left > 0 && !is_same(*other, fault) && !is_same(*other, last) {
+            add_remark(alloc, &mut remarks, text, *other);
+            left -= 1;
+            last = *other;
+        }
+    }
+    remarks.finish()
+}
+
+fn is_same(one: BrokenRule, other: BrokenRule) -> bool {
+    one.line == other.line && one.rule.number() == other.rule.number()
+}
+
+fn add_remark(alloc: Global, remarks: &mut Remarks, text: &Text, fault: BrokenRule) {
+    let mut words = TextMaker::new(alloc);
+    match add_rule(alloc, &mut words, text, fault) {
+        Ok(()) => remarks.add(Some(fault.rule), fault.line, words),
+        Err(_) => remarks.refuse(),
     }
 }
 

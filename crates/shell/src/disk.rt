@@ -112,4 +112,9 @@ pub trait Disk {
         ensures holds { OnOk result (Holds (told self.new).files path.now bytes.now) }
         ensures spares { Spares (told self.old).files (told self.new).files path.now }
         ensures counts { (told self.new).faults ≡ counted (told self.old).faults (record { access = Write; path = path.now }) result };
+
+    /// Why the call failed that was the last one to fail, in words for people; none where that isn't known.
+    fn why(&self) -> &'static str {
+        ""
+    }
 }

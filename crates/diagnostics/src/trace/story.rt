@@ -1,17 +1,20 @@
 //! All that is told of a run.
 use crate::trace::calls::add_calls;
+use crate::trace::cause::add_cause;
+use crate::trace::needs::{add_need_of_main, add_needs};
 use crate::trace::source::{Source, add_function, add_place, add_written};
 use crate::trace::turn::add_operands;
 use crate::trace::values::add_value;
+use il_ast::value::End;
 use il_interp::pieces::Running;
 use il_interp::trace::{Place, Turn};
 use std::alloc::{AllocError, Global};
 use text_maker::maker::TextMaker;
 
-/// The lines that tell of a run that was watched: the last turns, as many as are remembered; where the last one was due, or the next one where the run goes on; what
-/// its operands hold; and the calls that it stands in. No line, where memory for them was refused.
-pub fn story(alloc: Global, source: &Source<'_>, running: &Running<'_>) -> String {
-    or_none(alloc, told(alloc, source, running))
+/// The lines that tell of a run that was watched and ended so: the last turns, as many as are remembered; where the last one was due, or the next one where the run
+/// goes on; what its operands hold; the cause, where it is undefined or runs out of stack; and the calls that it stands in. No line, where memory for them was refused.
+pub fn story(alloc: Global, source: &Source<'_>, running: &Running<'_>, end: End) -> String {
+    or_none(alloc, told(alloc, source, running, end))
 }
 
 /// The lines, or none where memory for them was refused.
@@ -27,19 +30,42 @@ pub fn story_of_start(alloc: Global, source: &Source<'_>) -> String {
     let mut words = TextMaker::new(alloc);
     add_turn(&mut words, source, Place::start(source.linked));
     words.add("\n");
+    add_need_of_main(&mut words, source);
     or_none(alloc, words.finish())
 }
 
-fn told(alloc: Global, source: &Source<'_>, running: &Running<'_>) -> Result<String, AllocError> {
+fn told(
+    alloc: Global,
+    source: &Source<'_>,
+    running: &Running<'_>,
+    end: End,
+) -> Result<String, AllocError> {
     let mut words = TextMaker::new(alloc);
     add_last(&mut words, source, running);
     if let Some(place) = running.place() {
         add_turn(&mut words, source, place);
         words.add("\n");
         add_operands(alloc, &mut words, source, running, place)?;
+        add_why(alloc, &mut words, source, running, place, end)?;
     }
     add_calls(&mut words, source, running);
     words.finish()
+}
+
+/// Adds why the run ended at a turn, where it is undefined or runs out of stack.
+fn add_why(
+    alloc: Global,
+    words: &mut TextMaker,
+    source: &Source<'_>,
+    running: &Running<'_>,
+    place: Place,
+    end: End,
+) -> Result<(), AllocError> {
+    match end {
+        End::Undefined => add_cause(alloc, words, source, running, place),
+        End::Stack => add_needs(alloc, words, source, running, place),
+        End::Exit(_) | End::Halt | End::Turns => Ok(()),
+    }
 }
 
 /// Adds a line for each of the last turns.

@@ -6,10 +6,8 @@ use crate::trace::source::{Source, add_symbol, block_at, function_at, target_of}
 use crate::trace::values::add_value;
 use il_ast::block::Block;
 use il_ast::function::Func;
-use il_ast::instruction::Inst;
 use il_ast::label::Label;
 use il_ast::operand::Val;
-use il_ast::operation::{Extension, UnaryOp};
 use il_ast::program::{InText, Target};
 use il_ast::value::Value;
 use il_interp::pieces::Running;
@@ -37,7 +35,6 @@ pub fn add_operands(
             block.label,
             steps.as_slice(),
         );
-        add_blank(words, source, running, place, function);
     }
     Ok(())
 }
@@ -64,7 +61,8 @@ fn steps_of(
     steps.finish()
 }
 
-fn add_phis(steps: &mut StepList, blocks: &[Block], label: Option<Label>) {
+/// Adds what the phis of the block of a label take.
+pub fn add_phis(steps: &mut StepList, blocks: &[Block], label: Option<Label>) {
     for block in blocks {
         if label == Some(block.label) {
             for phi in block.phis.as_slice() {
@@ -102,7 +100,7 @@ fn first_read(steps: &[Step], number: usize, label: Label) -> Option<Val> {
 }
 
 /// The value that a step reads in the block of a label, or behind it.
-fn value_read(step: &Step, label: Label) -> Option<Val> {
+pub fn value_read(step: &Step, label: Label) -> Option<Val> {
     match step.does {
         Does::Reads(value) | Does::Returns(value) => Some(value),
         Does::Takes(from, value) if from == label => Some(value),
@@ -137,11 +135,11 @@ fn add_operand(
             add_held(words, source, running, running.value(temp.number()));
         }
         Val::Global(symbol) => {
-            let datum = value_of(source, running, function.text, operand);
-            if datum.is_some() {
+            let held = value_of(source, running, function.text, &operand);
+            if let Some(Value::Pointer { .. }) = held {
                 words.add("    ");
                 add_symbol(words, source, function.text, symbol);
-                add_held(words, source, running, datum);
+                add_held(words, source, running, held);
             }
         }
     }
@@ -159,71 +157,23 @@ fn add_held(
     words.add("\n");
 }
 
-/// Adds a line for the first byte of a load that no number was stored to.
-fn add_blank(
-    words: &mut TextMaker,
-    source: &Source<'_>,
-    running: &Running<'_>,
-    place: Place,
-    function: &InText<&Func>,
-) {
-    let (at, count) = match loaded_at(source, place) {
-        Some(load) => load,
-        None => return,
-    };
-    let (block, offset) = match value_of(source, running, function.text, at) {
-        Some(Value::Pointer { block, offset }) => (block, offset),
-        _ => return,
-    };
-    let size = running.block_size(block).unwrap_or(0) as u64;
-    for k in 0..count {
-        let byte = offset.wrapping_add(k);
-        if byte < size && !running.is_byte(block, byte) {
-            words.add("    offset ");
-            words.add_number(byte);
-            words.add(" holds no number: nothing was stored there, or a part of a pointer\n");
-            return;
-        }
-    }
-}
-
-/// What a load reads, where the turn is one: the operand, and how many bytes.
-fn loaded_at(source: &Source<'_>, place: Place) -> Option<(Val, u64)> {
-    match place.instruction(source.linked) {
-        Some(Inst::Unary { op, value, .. }) => match bytes_of(*op) {
-            Some(count) => Some((*value, count)),
-            None => None,
-        },
-        _ => None,
-    }
-}
-
-/// How many bytes an operation reads, where it is a load.
-fn bytes_of(op: UnaryOp) -> Option<u64> {
-    match op {
-        UnaryOp::LoadLong => Some(8),
-        UnaryOp::Load(Extension::SignedWord | Extension::UnsignedWord) => Some(4),
-        UnaryOp::Load(Extension::SignedHalf | Extension::UnsignedHalf) => Some(2),
-        UnaryOp::Load(Extension::SignedByte | Extension::UnsignedByte) => Some(1),
-        UnaryOp::Neg | UnaryOp::Copy | UnaryOp::Extend(_) => None,
-    }
-}
-
-fn value_of(
+/// What an operand holds.
+pub fn value_of(
     source: &Source<'_>,
     running: &Running<'_>,
     text: usize,
-    operand: Val,
+    operand: &Val,
 ) -> Option<Value> {
     match operand {
-        Val::Int(number) => Some(Value::Integer(number)),
+        Val::Int(number) => Some(Value::Integer(*number)),
         Val::Temp(temp) => running.value(temp.number()),
-        Val::Global(symbol) => match target_of(source, text, symbol) {
+        Val::Global(symbol) => match target_of(source, text, *symbol) {
             Some(Target::Object(number)) => Some(Value::Pointer {
                 block: number as u128,
                 offset: 0,
             }),
-            _ => None,
+            Some(Target::Code(callee)) => Some(Value::Function(callee)),
+            None => None,
         },
     }
 }

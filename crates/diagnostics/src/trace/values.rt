@@ -43,7 +43,8 @@ fn add_integer(words: &mut TextMaker, number: u64) {
     }
 }
 
-fn add_callee(words: &mut TextMaker, source: &Source<'_>, callee: Callee) {
+/// Adds the name of what is called.
+pub fn add_callee(words: &mut TextMaker, source: &Source<'_>, callee: Callee) {
     match callee {
         Callee::Defined(number) => add_function(words, source, number),
         Callee::SystemWrite => words.add("$write"),

@@ -17,7 +17,7 @@ use std::os::unix::fs::{MetadataExt, PermissionsExt};
 use std::rt::Files;
 use std::{fs, io};
 
-/// What stands for standard input in the place of a file that is read.
+/// What stands for standard input in the place of a file that is read. No file of this name is written.
 const STANDARD_INPUT: &str = "-";
 
 /// How many bytes are read of what is no plain file, and may have no end: more than any text has, and any executable that is built.
@@ -66,6 +66,37 @@ pub struct HostFiles<'r, R> {
     faults: Faults,
     /// the plain files that were read
     inputs: Vec<FileId>,
+    /// why a call failed last
+    why: &'static str,
+}
+
+/// Why a call of the system failed, for programs and for people.
+#[derive(Clone, Copy)]
+struct Failed {
+    fault: FileFault,
+    why: &'static str,
+}
+
+/// The same of an error of the system.
+fn failure_of(error: &Error) -> Failed {
+    Failed {
+        fault: fault_of(error),
+        why: reason(error.kind()),
+    }
+}
+
+fn reason(kind: ErrorKind) -> &'static str {
+    match kind {
+        ErrorKind::NotFound => "there is no such file",
+        ErrorKind::PermissionDenied => "there is no right to it",
+        ErrorKind::IsADirectory => "it is a directory",
+        ErrorKind::NotADirectory => "a part of its path is no directory",
+        ErrorKind::FileTooLarge => "it is too long",
+        ErrorKind::StorageFull | ErrorKind::QuotaExceeded => "no room is left for it",
+        ErrorKind::ReadOnlyFilesystem => "its file system can only be read",
+        ErrorKind::ExecutableFileBusy => "it is being executed",
+        _ => "the system refused it",
+    }
 }
 
 impl<'r, R: Files + Input + AllocGlobal> HostFiles<'r, R> {
@@ -77,6 +108,7 @@ impl<'r, R: Files + Input + AllocGlobal> HostFiles<'r, R> {
             rt,
             faults: Faults::none(rt.alloc()),
             inputs: Vec::new(rt.alloc()),
+            why: "",
         }
     }
 
@@ -97,10 +129,19 @@ impl<'r, R: Files + Input + AllocGlobal> HostFiles<'r, R> {
         fs::read(self.rt, path)
     }
 
-    /// Writes a file, if it isn't one that was read.
-    fn write_output(&self, path: &str, bytes: &[u8]) -> Result<(), FileFault> {
+    /// Writes a file, if it isn't one that was read, nor standard output.
+    fn write_output(&self, path: &str, bytes: &[u8]) -> Result<(), Failed> {
+        if path == STANDARD_INPUT {
+            return Err(Failed {
+                fault: FileFault::Device,
+                why: "an executable is written to a file, and not to standard output",
+            });
+        }
         if self.is_input(path) {
-            return Err(FileFault::Device);
+            return Err(Failed {
+                fault: FileFault::Device,
+                why: "it was read, and isn't written over",
+            });
         }
         write_file(self.rt, path, bytes)
     }
@@ -158,14 +199,6 @@ fn make_executable<R: Files>(rt: &R, path: &str) -> io::Result<()> {
     Ok(())
 }
 
-/// The answer of a disk, from that of the system.
-fn answered<T>(answer: io::Result<T>) -> Result<T, FileFault> {
-    match answer {
-        Ok(value) => Ok(value),
-        Err(error) => Err(fault_of(&error)),
-    }
-}
-
 /// Writes all bytes to a new file, and answers the stream that took them.
 fn write_to<W: Write + Drop>(file: W, bytes: &[u8]) -> Result<Stream<W>, FileFault>
     ensures { IfOk result (λ stream. Appends (W.contents file) (W.contents stream.writer) bytes.now) }
@@ -177,15 +210,21 @@ fn write_to<W: Write + Drop>(file: W, bytes: &[u8]) -> Result<Stream<W>, FileFau
     }
 }
 
-fn write_file<R: Files + AllocGlobal>(rt: &R, path: &str, bytes: &[u8]) -> Result<(), FileFault> {
-    match fs::create(rt, path) {
-        Ok(file) => {
-            let _file = write_to(file, bytes)?;
+fn write_file<R: Files + AllocGlobal>(rt: &R, path: &str, bytes: &[u8]) -> Result<(), Failed> {
+    let file = match fs::create(rt, path) {
+        Ok(file) => file,
+        Err(error) => return Err(failure_of(&error)),
+    };
+    match write_to(file, bytes) {
+        Ok(_file) => {
             // The file is whole; on a file system that has no such permissions it can be executed or not as it is.
             let _ = make_executable(rt, path);
             Ok(())
         }
-        Err(error) => Err(fault_of(&error)),
+        Err(fault) => Err(Failed {
+            fault,
+            why: "the system took a part of it alone",
+        }),
     }
 }
 
@@ -196,9 +235,13 @@ impl<R: Files + Input + AllocGlobal> Disk for HostFiles<'_, R> {
 
     fn read(&mut self, path: &str) -> Result<Vec<u8>, FileFault> {
         let alloc = self.rt.alloc();
-        match answered(self.read_input(path)) {
+        match self.read_input(path) {
             Ok(bytes) => Ok(bytes),
-            Err(fault) => Err(self.faults.note(alloc, Access::Read, path, fault)),
+            Err(error) => {
+                let failed = failure_of(&error);
+                self.why = failed.why;
+                Err(self.faults.note(alloc, Access::Read, path, failed.fault))
+            }
         }
     }
 
@@ -206,7 +249,14 @@ impl<R: Files + Input + AllocGlobal> Disk for HostFiles<'_, R> {
         let alloc = self.rt.alloc();
         match self.write_output(path, bytes) {
             Ok(()) => Ok(()),
-            Err(fault) => Err(self.faults.note(alloc, Access::Write, path, fault)),
+            Err(failed) => {
+                self.why = failed.why;
+                Err(self.faults.note(alloc, Access::Write, path, failed.fault))
+            }
         }
+    }
+
+    fn why(&self) -> &'static str {
+        self.why
     }
 }

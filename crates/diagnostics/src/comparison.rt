@@ -1,0 +1,160 @@
+//! Comparisons of functions with numbers.
+use crate::call::{add_callee, target};
+use crate::name::add_temp;
+use crate::note::Notes;
+use crate::place::destination;
+use il_ast::block::Block;
+use il_ast::function::Func;
+use il_ast::instruction::Inst;
+use il_ast::operand::Val;
+use il_ast::operation::{BinaryOp, Class, UnaryOp};
+use il_ast::program::{InText, Target};
+use il_ast::temp::Temp;
+use obj_link::linking::linked::Linked;
+use std::alloc::{AllocError, Global};
+use text_maker::maker::TextMaker;
+
+/// What is known of what a temporary holds.
+#[derive(Clone, Copy, PartialEq, Eq)]
+enum Holds {
+    /// nothing is assigned to it
+    Nothing,
+    /// copies of functions alone are
+    Function,
+    Other,
+}
+
+/// The comparisons of a function that are undefined, since a function is compared with a number.
+pub fn add_wrong_comparisons(
+    alloc: Global,
+    notes: &mut Notes,
+    linked: &Linked<'_>,
+    function: &InText<&Func>,
+) {
+    match held(alloc, linked, function) {
+        Ok(held) => add_each(alloc, notes, linked, function, held.as_slice()),
+        Err(_) => notes.refuse(),
+    }
+}
+
+fn add_each(
+    alloc: Global,
+    notes: &mut Notes,
+    linked: &Linked<'_>,
+    function: &InText<&Func>,
+    held: &[Holds],
+) {
+    for block in function.item.blocks.as_slice() {
+        for inst in block.insts.as_slice() {
+            if let Some(operand) = compared(linked, function.text, held, &inst.item) {
+                let mut words = TextMaker::new(alloc);
+                add_operand(&mut words, linked, function, operand);
+                words.add(" is a function, and is compared with a number");
+                notes.add(function.text, inst.line, words);
+            }
+        }
+    }
+}
+
+fn add_operand(words: &mut TextMaker, linked: &Linked<'_>, function: &InText<&Func>, operand: Val) {
+    match operand {
+        Val::Global(symbol) => add_callee(words, linked, function.text, symbol),
+        Val::Temp(temp) => add_temp(words, function.item, temp),
+        Val::Int(_) => {}
+    }
+}
+
+/// The function that an instruction compares with a number.
+fn compared(linked: &Linked<'_>, text: usize, held: &[Holds], inst: &Inst) -> Option<Val> {
+    match inst {
+        Inst::Binary {
+            to: _,
+            op: BinaryOp::Compare(_, Class::L),
+            left,
+            right,
+        } => either(linked, text, held, left, right),
+        _ => None,
+    }
+}
+
+/// That of two operands that is a function, where the other one is a number.
+fn either(
+    linked: &Linked<'_>,
+    text: usize,
+    held: &[Holds],
+    left: &Val,
+    right: &Val,
+) -> Option<Val> {
+    if is_number(left) && is_function(linked, text, held, right) {
+        return Some(*right);
+    }
+    if is_number(right) && is_function(linked, text, held, left) {
+        return Some(*left);
+    }
+    None
+}
+
+fn is_number(operand: &Val) -> bool {
+    matches!(operand, Val::Int(_))
+}
+
+fn is_function(linked: &Linked<'_>, text: usize, held: &[Holds], operand: &Val) -> bool {
+    match operand {
+        Val::Int(_) => false,
+        Val::Global(symbol) => matches!(target(linked, text, *symbol), Some(Target::Code(_))),
+        Val::Temp(temp) => held.get(temp.number()).copied() == Some(Holds::Function),
+    }
+}
+
+/// What each temporary of a function holds.
+fn held(
+    alloc: Global,
+    linked: &Linked<'_>,
+    function: &InText<&Func>,
+) -> Result<Vec<Holds>, AllocError> {
+    let mut held = vec![in alloc; Holds::Nothing; function.item.temps.len()]?;
+    for param in function.item.params.as_slice() {
+        assign(&mut held, param.temp, Holds::Other);
+    }
+    for block in function.item.blocks.as_slice() {
+        assign_in(&mut held, linked, function.text, block);
+    }
+    Ok(held)
+}
+
+fn assign_in(held: &mut Vec<Holds>, linked: &Linked<'_>, text: usize, block: &Block) {
+    for phi in block.phis.as_slice() {
+        assign(held, phi.to.temp, Holds::Other);
+    }
+    for inst in block.insts.as_slice() {
+        if let Some(to) = destination(&inst.item) {
+            assign(held, to.temp, given(linked, text, &inst.item));
+        }
+    }
+}
+
+/// A temporary is assigned what holds so much.
+fn assign(held: &mut Vec<Holds>, temp: Temp, given: Holds) {
+    if let Some(holds) = held.get_mut(temp.number()) {
+        *holds = match *holds {
+            Holds::Nothing => given,
+            Holds::Function if given == Holds::Function => given,
+            _ => Holds::Other,
+        };
+    }
+}
+
+/// What an instruction assigns.
+fn given(linked: &Linked<'_>, text: usize, inst: &Inst) -> Holds {
+    match inst {
+        Inst::Unary {
+            to: _,
+            op: UnaryOp::Copy,
+            value: Val::Global(symbol),
+        } => match target(linked, text, *symbol) {
+            Some(Target::Code(_)) => Holds::Function,
+            _ => Holds::Other,
+        },
+        _ => Holds::Other,
+    }
+}
