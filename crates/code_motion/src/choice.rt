@@ -11,5 +11,5 @@ pub mod choose;
 mod credit;
 mod growing;
 mod halves;
-pub(crate) mod reads;
+mod reads;
 mod written;
