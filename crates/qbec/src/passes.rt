@@ -6,6 +6,7 @@ ghost use Rattle.vcode.specs.Coded.{virtual_code};
 use block_layout::placement::order::place_blocks;
 use block_layout::tails::copy::{duplicate_tails, thread_jumps};
 use code_motion::hoist::hoist_invariants;
+use code_motion::later::put_off::put_off_sums;
 use constant_placement::hoisting::constants::hoist_constants;
 use constant_placement::sinking::sink::sink_constants;
 use dead_code::remove::remove_dead_code;
@@ -29,6 +30,7 @@ pub enum Pass {
     ValueNumbering,
     ConstantSinking,
     CopyPropagation,
+    SumSinking,
     ConstantHoisting,
     TailDuplication,
     BranchFolding,
@@ -37,7 +39,7 @@ pub enum Pass {
 
 /// The passes in their order. Dead lines go before values are numbered, since they would count as readers of these, and once more behind that, and where branches were folded. What code motion sets in
 /// front of loops is found there by value numbering; what that finds is carried on by constant propagation.
-pub const PASSES: [Pass; 18] = [
+pub const PASSES: [Pass; 19] = [
     Pass::SignExtensions,
     Pass::JumpThreading,
     Pass::Renaming,
@@ -49,6 +51,7 @@ pub const PASSES: [Pass; 18] = [
     Pass::ConstantSinking,
     Pass::DeadCode,
     Pass::CopyPropagation,
+    Pass::SumSinking,
     Pass::ConstantHoisting,
     Pass::TailDuplication,
     Pass::BranchFolding,
@@ -70,6 +73,7 @@ impl Pass {
             Pass::CodeMotion => "code_motion",
             Pass::ValueNumbering => "value_numbering",
             Pass::ConstantSinking => "constant_sinking",
+            Pass::SumSinking => "sum_sinking",
             Pass::CopyPropagation => "copy_propagation",
             Pass::ConstantHoisting => "constant_hoisting",
             Pass::TailDuplication => "tail_duplication",
@@ -95,6 +99,7 @@ impl Pass {
             Pass::CodeMotion => hoist_invariants(alloc, function),
             Pass::ValueNumbering => reuse_values(alloc, function),
             Pass::ConstantSinking => sink_constants(alloc, function),
+            Pass::SumSinking => put_off_sums(alloc, function),
             Pass::CopyPropagation => propagate_copies(alloc, function),
             Pass::ConstantHoisting => hoist_constants(alloc, function),
             Pass::TailDuplication => duplicate_tails(alloc, function),
