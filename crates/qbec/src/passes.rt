@@ -35,7 +35,8 @@ pub enum Pass {
 }
 
 /// The passes in their order. Dead lines go before values are numbered, since they would count as readers of these, and once more behind that. What code motion sets in
-/// front of loops is found there by value numbering; what that finds is carried on by constant propagation.
+/// front of loops is found there by value numbering; what that finds is carried on by constant propagation. Behind the
+/// duplication of tails fewer ways meet, so more values are known.
 pub const PASSES: [Pass; 17] = [
     Pass::SignExtensions,
     Pass::JumpThreading,
