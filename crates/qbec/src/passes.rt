@@ -37,8 +37,9 @@ pub enum Pass {
     BlockPlacement,
 }
 
-/// The passes in their order. Dead lines go before values are numbered, since they would count as readers of these, and once more behind that, and where branches were folded. What code motion sets in
-/// front of loops is found there by value numbering; what that finds is carried on by constant propagation.
+/// The passes in their order. Dead lines go before values are numbered, since they would count as readers of these, and once more behind that, and behind the duplication of tails. What code motion
+/// sets in front of loops is found there by value numbering; what that finds is carried on by constant propagation. Behind the duplication of tails fewer ways meet, so
+/// more branches are decided and more values known.
 pub const PASSES: [Pass; 19] = [
     Pass::SignExtensions,
     Pass::JumpThreading,
