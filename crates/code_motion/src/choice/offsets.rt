@@ -56,7 +56,11 @@ fn behind(known: Option<Offset>, line: &Line<u32>, register: u32) -> Option<Offs
 /// The sum of another register and a number that the register is in front of the line with this number.
 fn offset_of(lines: &[Line<u32>], number: usize, register: u32) -> Option<Offset> {
     let mut known = None;
-    for line in lines.iter().take(number).skip(number.saturating_sub(WINDOW)) {
+    for line in lines
+        .iter()
+        .take(number)
+        .skip(number.saturating_sub(WINDOW))
+    {
         known = behind(known, line, register);
     }
     known
