@@ -11,5 +11,5 @@ pub mod choose;
 mod credit;
 mod growing;
 mod halves;
-mod reads;
+pub(crate) mod reads;
 mod written;
