@@ -12,5 +12,5 @@ mod credit;
 mod growing;
 mod halves;
 mod offsets;
-mod reads;
+pub(crate) mod reads;
 mod written;

@@ -1,21 +1,22 @@
 //! Which sums are put off, and how far: a guess.
 use crate::later::waiting::{lets_wait, names_no, names_none, operation_of};
 use cfg_live::uses::line_writes;
-use flow::graph::successor;
 use rv_isa::instruction::{RegOp, RegWOp};
-use std::alloc::{AllocError, Global};
 use vcode::code::Block;
 use vcode::line::{Jump, Line, Operation};
 use vcode::place::Operand;
 
-/// How many lines behind a sum are looked at, and of each block behind that.
-const LINES: usize = 48;
+/// How many lines behind a sum are looked at.
+const WINDOW: usize = 48;
 
-/// How many blocks behind a sum's are looked at.
-const BLOCKS: usize = 12;
+/// A register that takes the sum of another and of a number, or their difference.
+#[derive(Clone, Copy)]
+struct Sum {
+    to: u32,
+    from: u32,
+}
 
-/// The register of which a line gives another the sum with a number, or the difference.
-fn summand_of(line: &Line<u32>) -> Option<u32> {
+fn sum_of(line: &Line<u32>) -> Option<Sum> {
     match line {
         Line::Operate {
             to,
@@ -23,7 +24,10 @@ fn summand_of(line: &Line<u32>) -> Option<u32> {
             | Operation::RegW(RegWOp::Addw | RegWOp::Subw),
             left: Operand::At(from),
             right: Operand::Number(_),
-        } if from != to => Some(*from),
+        } if from != to => Some(Sum {
+            to: *to,
+            from: *from,
+        }),
         _ => None,
     }
 }
@@ -52,129 +56,41 @@ fn jump_reads(jump: &Jump<u32>, register: u32) -> bool {
     }
 }
 
-/// What becomes of what a register holds.
-#[derive(Clone, Copy)]
-enum Fate {
-    /// it may be read
-    Read,
-    /// it isn't read before the register is written
-    Lost,
-    /// it isn't read so far
-    Kept,
-}
-
-/// The same over the lines from this one on, of which only so many are looked at.
-fn fate_over(lines: &[Line<u32>], from: usize, register: u32) -> Fate {
-    for (number, line) in lines.iter().skip(from).enumerate() {
-        if number == LINES || reads(line, register) {
-            return Fate::Read;
+/// Whether the register is written before it is read again, behind so many lines of the block; or isn't read again in it.
+fn is_dead(block: &Block<u32>, behind: usize, register: u32, is_elsewhere: bool) -> bool {
+    for line in block.lines.as_slice().iter().skip(behind) {
+        if reads(line, register) {
+            return false;
         }
         if line_writes(line) == Some(register) {
-            return Fate::Lost;
+            return true;
         }
     }
-    Fate::Kept
-}
-
-/// The same over a block, from that line on.
-fn fate_in(block: &Block<u32>, from: usize, register: u32) -> Fate {
-    match fate_over(block.lines.as_slice(), from, register) {
-        Fate::Kept => {
-            if jump_reads(&block.jump, register) {
-                Fate::Read
-            } else {
-                Fate::Kept
-            }
-        }
-        fate => fate,
-    }
-}
-
-fn push_way(ways: &mut Vec<usize>, to: Option<usize>) -> Result<(), AllocError> {
-    if let Some(to) = to {
-        if !ways.as_slice().contains(&to) {
-            ways.push(to)?;
-        }
-    }
-    Ok(())
-}
-
-fn push_ways(ways: &mut Vec<usize>, jump: &Jump<u32>) -> Result<(), AllocError> {
-    push_way(ways, successor(jump, 0))?;
-    push_way(ways, successor(jump, 1))
-}
-
-/// Whether what the register holds isn't read behind a jump, as far as few blocks tell.
-fn is_lost_behind(
-    alloc: Global,
-    blocks: &[Block<u32>],
-    jump: &Jump<u32>,
-    register: u32,
-) -> Result<bool, AllocError> {
-    let mut ways = Vec::new(alloc);
-    push_ways(&mut ways, jump)?;
-    for at in 0..BLOCKS {
-        let block = match ways.get(at) {
-            Some(number) => blocks.get(*number),
-            None => return Ok(true),
-        };
-        match block {
-            Some(block) => match fate_in(block, 0, register) {
-                Fate::Read => return Ok(false),
-                Fate::Lost => {}
-                Fate::Kept => push_ways(&mut ways, &block.jump)?,
-            },
-            None => return Ok(false),
-        }
-    }
-    Ok(ways.len() <= BLOCKS)
-}
-
-/// Behind how many lines a sum may stand: the last of those that read the register that it is a sum of.
-fn last_reader(lines: &[Line<u32>], number: usize, register: u32) -> Option<usize> {
-    let waiting = operation_of(lines.get(number)?)?;
-    let mut place = None;
-    for (at, line) in lines
-        .iter()
-        .enumerate()
-        .skip(number.saturating_add(1))
-        .take(LINES)
-    {
-        if !lets_wait(&waiting, line) {
-            break;
-        }
-        if reads(line, register) {
-            place = Some(at.saturating_add(1));
-        }
-    }
-    place
-}
-
-/// The register that the line with this number gives another the sum of, and the place behind its last reader.
-fn reader_of(lines: &[Line<u32>], number: usize) -> Option<(u32, usize)> {
-    let register = summand_of(lines.get(number)?)?;
-    let place = last_reader(lines, number, register)?;
-    Some((register, place))
+    !is_elsewhere && !jump_reads(&block.jump, register)
 }
 
 /// Behind how many lines of the block the sum is to stand that is the one with this number, if it is put off.
-///
-/// # Errors
-///
-/// Only where memory was refused.
-pub(crate) fn place_of(
-    alloc: Global,
-    blocks: &[Block<u32>],
-    block: &Block<u32>,
-    number: usize,
-) -> Result<Option<usize>, AllocError> {
-    let Some((register, place)) = reader_of(block.lines.as_slice(), number) else {
-        return Ok(None);
-    };
-    let is_lost = match fate_in(block, place, register) {
-        Fate::Read => false,
-        Fate::Lost => true,
-        Fate::Kept => is_lost_behind(alloc, blocks, &block.jump, register)?,
-    };
-    Ok(if is_lost { Some(place) } else { None })
+pub(crate) fn place_of(block: &Block<u32>, number: usize, counts: &[u32]) -> Option<usize> {
+    let lines = block.lines.as_slice();
+    let sum = sum_of(lines.get(number)?)?;
+    let waiting = operation_of(lines.get(number)?)?;
+    let first = number.saturating_add(1);
+    let mut place = None;
+    let mut reading = 1u32;
+    for (at, line) in lines.iter().enumerate().skip(first).take(WINDOW) {
+        if !lets_wait(&waiting, line) {
+            break;
+        }
+        if reads(line, sum.from) {
+            reading = reading.saturating_add(1);
+            place = Some(at.saturating_add(1));
+        }
+    }
+    let place = place?;
+    let is_elsewhere = counts.get(sum.from as usize).copied().unwrap_or(0) > reading;
+    if is_dead(block, place, sum.from, is_elsewhere) {
+        Some(place)
+    } else {
+        None
+    }
 }

@@ -5,6 +5,7 @@ ghost use Rattle.vcode.specs.declared.line.Line.{Line as ALine};
 ghost use Rattle.vcode.specs.Coded.{virtual_code};
 ghost use Rattle.code_motion.specs.Later.{line_of, may_wait, lets_wait, AreLater, Makes, IsLater, AllLater};
 
+use crate::choice::reads::count_reads;
 use crate::later::choice::place_of;
 use crate::later::waiting::{Waiting, lets_wait, operation_of};
 use il_ast::list::Seq;
@@ -94,15 +95,15 @@ fn pass(
     alloc: Global,
     made: &mut Vec<Line<u32>>,
     put_off: PutOff,
-    blocks: &[Block<u32>],
-    block: &Block<u32>,
+    from: &Block<u32>,
+    counts: &[u32],
     number: usize,
     line: &Line<u32>,
 ) -> Result<PutOff, AllocError>
     ensures { IfOk result (λ q. (all ls : List (ALine ℕ)) → Makes all made.old.items put_off.waiting (line.now ∷ ls) → Makes all made.new.items q.waiting ls) }
 {
     let waiting = settle(made, put_off.waiting, put_off.due <= number, line)?;
-    let place = place_of(alloc, blocks, block, number)?;
+    let place = place_of(from, number, counts);
     let due = match (waiting, place) {
         (None, Some(place)) => place,
         _ => put_off.due,
@@ -114,8 +115,8 @@ fn pass(
 /// The lines of a block with what is put off where it is done.
 fn later_lines(
     alloc: Global,
-    blocks: &[Block<u32>],
     block: &Block<u32>,
+    counts: &[u32],
     from: &[Line<u32>],
 ) -> Result<Vec<Line<u32>>, AllocError>
     ensures { IfOk result (λ v. AreLater None from.now v.items) }
@@ -126,7 +127,7 @@ fn later_lines(
         due: 0,
     };
     for (number, line) in from.iter().enumerate() {
-        put_off = pass(alloc, &mut made, put_off, blocks, block, number, line)?;
+        put_off = pass(alloc, &mut made, put_off, block, counts, number, line)?;
     }
     finish(&mut made, put_off.waiting)?;
     Ok(made)
@@ -145,10 +146,10 @@ fn copy(alloc: Global, from: &Block<u32>) -> Result<Block<u32>, AllocError>
 }
 
 /// The block with what is put off, if its ticks still pay in time.
-fn later(alloc: Global, blocks: &[Block<u32>], from: &Block<u32>) -> Result<Block<u32>, AllocError>
+fn later(alloc: Global, from: &Block<u32>, counts: &[u32]) -> Result<Block<u32>, AllocError>
     ensures { IfOk result (λ d. IsLater from.now d) }
 {
-    let lines = later_lines(alloc, blocks, from, from.lines.as_slice())?;
+    let lines = later_lines(alloc, from, counts, from.lines.as_slice())?;
     let block = Block {
         lines: Seq::from_vec(lines),
         jump: from.jump,
@@ -160,12 +161,16 @@ fn later(alloc: Global, blocks: &[Block<u32>], from: &Block<u32>) -> Result<Bloc
     }
 }
 
-fn all_later(alloc: Global, from: &[Block<u32>]) -> Result<Vec<Block<u32>>, AllocError>
+fn all_later(
+    alloc: Global,
+    from: &[Block<u32>],
+    counts: &[u32],
+) -> Result<Vec<Block<u32>>, AllocError>
     ensures { IfOk result (λ v. AllLater from.now v.items) }
 {
     let mut made = Vec::with_capacity(alloc, from.len())?;
     for block in from {
-        made.push(later(alloc, from, block)?)?;
+        made.push(later(alloc, block, counts)?)?;
     }
     Ok(made)
 }
@@ -179,6 +184,7 @@ pub fn put_off_sums(alloc: Global, function: VFunc) -> Result<VFunc, AllocError>
     ensures { IfOk result (λ w. Keeps (virtual_code function) (virtual_code w)) }
 {
     let blocks = function.code.blocks.as_slice();
-    let made = all_later(alloc, blocks)?;
+    let counts = count_reads(alloc, function.registers, blocks)?;
+    let made = all_later(alloc, blocks, counts.as_slice())?;
     function.with_blocks(alloc, function.registers, Seq::from_vec(made))
 }
