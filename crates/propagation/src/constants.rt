@@ -13,7 +13,7 @@
 //!
 //! The contract says that the code is kept, in the words of every pass. Each line and jump is what it was, or what is known makes it, by all facts that are claimed where its
 //! block begins or that the lines before it make known, and none of these lines makes false (`specs/Forwarded`). So how much is put is a choice: behind the last
-//! passes, [`propagate::fold_branches`] makes jumps of branches whose outcome is known, and leaves operands as they are.
+//! passes, [`propagate::fold_branches`] makes jumps of branches whose outcome is known and reads what is copied, and puts no number into a line.
 
 mod claim;
 mod entries;
