@@ -1,4 +1,4 @@
-use Rattle.std.proofs.Common.{◌≡◌, ℕ, List, [], ◌∷◌, ◌++◌, Option, None, sym, ◌∙◌, ap, subst}
+use Rattle.std.proofs.Common.{ℕ, List, [], ◌∷◌, ◌++◌, Option, None, sym, ◌∙◌, ap, subst}
 use Rattle.vcode.specs.declared.line.Line.{Line}
 use Rattle.code_motion.specs.declared.later.waiting.Waiting.{Waiting}
 use Rattle.code_motion.specs.Later.{AreLater, Makes}

@@ -1,4 +1,4 @@
-use Rattle.std.proofs.Common.{◌≡◌, ◌+◌, List, [], ◌∷◌, ℕ, Option, drop, arith, subst}
+use Rattle.std.proofs.Common.{◌≡◌, ◌+◌, List, [], ℕ, Option, drop, arith, subst}
 use Rattle.std.proofs.lemmas.List.{drop_all}
 use Rattle.vcode.specs.declared.line.Line.{Line}
 use Rattle.vcode.proofs.Lists.{item_next}

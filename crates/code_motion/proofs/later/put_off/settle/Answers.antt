@@ -1,7 +1,7 @@
-use Rattle.std.proofs.Common.{◌≡◌, ℕ, List, [], ◌∷◌, ◌++◌, Option, None, sym, ◌∙◌, ap, subst}
+use Rattle.std.proofs.Common.{ℕ, List, [], ◌∷◌, ◌++◌, Option, None, sym, ◌∙◌, ap, subst}
 use Rattle.vcode.specs.declared.line.Line.{Line}
 use Rattle.code_motion.specs.declared.later.waiting.Waiting.{Waiting}
-use Rattle.code_motion.specs.Later.{line_of, AreLater, Makes}
+use Rattle.code_motion.specs.Later.{AreLater, Makes}
 use Rattle.code_motion.proofs.MakingLater.{settled}
 use Rattle.code_motion.proofs.later.put_off.settle.Goals as goal
 
