@@ -10,6 +10,12 @@ pub(crate) const ROOMS: usize = 23;
 /// How many of them come first that callees don't keep.
 const SCRATCH: usize = 11;
 
+/// So many positions apart, two values in one register don't keep their lines in order.
+const APART: usize = 6;
+
+/// A value that lives at fewer positions is of use where it is made.
+const SHORT: usize = 16;
+
 /// The positions at which each register of the machine is taken, one bit each.
 #[derive(Drop)]
 pub(crate) struct Rooms {
@@ -120,6 +126,20 @@ impl Rooms {
         true
     }
 
+    /// The range with some positions more in front of it and behind it.
+    fn widened(&self, range: Range) -> Range {
+        let last = self.words.saturating_mul(64).saturating_add(63);
+        Range {
+            start: range.start.saturating_sub(APART),
+            end: range.end.saturating_add(APART).min(last),
+        }
+    }
+
+    /// Whether the k-th register is free at all positions of the range, and at those close to it.
+    fn is_far(&self, k: usize, range: Range) -> bool {
+        self.is_free_at(k, self.widened(range))
+    }
+
     /// Whether some value stands in the k-th register.
     fn is_used(&self, k: usize) -> bool {
         k < ROOMS && self.used[k]
@@ -165,8 +185,23 @@ pub(crate) enum Choice {
     Unused(usize),
 }
 
+/// The first register that callees don't keep in which nothing stands close to a short range, of those that few calls want for arguments.
+fn far_room(rooms: &Rooms, ranges: &[Range]) -> Option<usize> {
+    match ranges {
+        [range] if range.end.saturating_sub(range.start) < SHORT => {
+            (0..SCRATCH).find(|k| (*k < 5 || 7 < *k) && rooms.is_far(*k, *range))
+        }
+        _ => None,
+    }
+}
+
 /// The first register that is free for the ranges and costs nothing, or else the first one that is free.
 fn free_room(rooms: &Rooms, over_call: bool, ranges: &[Range]) -> Option<Choice> {
+    if !over_call {
+        if let Some(k) = far_room(rooms, ranges) {
+            return Some(Choice::Free(k));
+        }
+    }
     let mut unused = None;
     for k in 0..ROOMS {
         if may_hold(k, over_call) && rooms.is_free(k, ranges) {
