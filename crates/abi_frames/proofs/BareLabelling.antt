@@ -4,7 +4,7 @@ use Rattle.std.specs.Prelude.{◌&&◌, nat_eq, nat_le, nat_lt, if◌then◌else
 use Rattle.il_ast.specs.declared.limits.TheConstants.{ALLOC_BYTES}
 use Rattle.rv_isa.specs.Labels.{IsLabelled, is_label, times_labelled, has_label_below}
 use Rattle.abi_frames.proofs.Shared.{Item, Plain, Label, Location, Block, Code, Layout, Part, list_all, and_parts, and_from, leb-true, longest_size, all_at, nat_tests}
-use Rattle.rv_isa.specs.declared.labelled.Item.TheVariants.{Branch as BranchTo, Goto as GoTo, Relocated}
+use Rattle.rv_isa.specs.declared.labelled.Item.TheVariants.{Branch as BranchTo, Goto as GoTo, Call as CallTo, Relocated}
 use Rattle.vcode.specs.Regular.{leads_inside, passes_few}
 use Rattle.abi_frames.specs.Layout.{layout, saved_registers}
 use Rattle.abi_frames.specs.declared.ways.Front.{Front}
@@ -44,6 +44,8 @@ raised_labelled o m n (BranchTo op a b l ∷ is) few h =
     plainly {is = BranchTo op a b (o + l) ∷ []} (raised_jump o m n l (BranchTo op a b (o + l)) is few h.labels refl (λ k. refl)) (raised_labelled o m n is few (later h))
 raised_labelled o m n (GoTo l ∷ is) few h =
     plainly {is = GoTo (o + l) ∷ []} (raised_jump o m n l (GoTo (o + l)) is few h.labels refl (λ k. refl)) (raised_labelled o m n is few (later h))
+raised_labelled o m n (CallTo g ∷ is) few h =
+    plainly {is = CallTo g ∷ []} (alone_labelled n (CallTo g ∷ []) refl) (raised_labelled o m n is few (later h))
 raised_labelled o m n (Relocated r ∷ is) few h =
     plainly {is = Relocated r ∷ []} (alone_labelled n (Relocated r ∷ []) refl) (raised_labelled o m n is few (later h))
 

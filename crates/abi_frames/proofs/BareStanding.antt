@@ -4,7 +4,7 @@ use Rattle.std.specs.Prelude.{if◌then◌else◌, map, length, slice_get, Some}
 use Rattle.std.proofs.lemmas.List.{map-append}
 use Rattle.rv_isa.specs.Labelled.{Stand, Stands}
 use Rattle.abi_frames.proofs.Shared.{Item, Plain, Label, Location, Block, Layout, Part}
-use Rattle.rv_isa.specs.declared.labelled.Item.TheVariants.{Branch, Goto, Relocated}
+use Rattle.rv_isa.specs.declared.labelled.Item.TheVariants.{Branch, Goto, Call, Relocated}
 use Rattle.abi_frames.specs.Emission.{body_items}
 use Rattle.abi_frames.specs.BareWays.{is_kept_block, bare_layout, fronts_from, front_label, raised, kept_body, kept_items}
 use Rattle.operation_code.proofs.Leading.{Site, StandAt}
@@ -29,6 +29,7 @@ lower c n (Plain i ∷ is) a stands = (stands.0, stands.1, lower c n is stands.0
 lower c n (Label l ∷ is) a stands = (stands.0, stands.1, lower c n is stands.0 stands.2)
 lower c n (Branch op x y l ∷ is) a stands = (stands.0, stands.1, lower c n is stands.0 stands.2)
 lower c n (Goto l ∷ is) a stands = (stands.0, stands.1, lower c n is stands.0 stands.2)
+lower c n (Call g ∷ is) a stands = (stands.0, stands.1, lower c n is stands.0 stands.2)
 lower c n (Relocated r ∷ is) a stands = (stands.0, stands.1, lower c n is stands.0 stands.2)
 
 -- ---- what stands in front

@@ -5,12 +5,10 @@ use Rattle.bits.specs.Words.{sign_extended}
 use Rattle.abi_frames.proofs.Shared.{Class, W, L, State, Immediate, Plain, Item, Location, InRegister, Slot, Operand, At, Number, Name, Argument, option_map, option_and_then, list_all, and_parts, slice_get_within, same_Some, none-some, not_both, none_is_not, nat_tests, number_at, moved, Comes, is_place, operand_keeps, low}
 use Rattle.rv_isa.specs.State.{register, written}
 use Rattle.rv_isa.specs.Step.{act, jump, even_below}
-use Rattle.rv_isa.specs.Relocations.{lower_part}
-use Rattle.rv_isa.specs.declared.relocation.Partial.TheVariants.{Jump as JumpBy}
 use Rattle.rv_isa.specs.Labelled.{Fixed, Stand, Stands}
 use Rattle.rv_isa.specs.declared.instruction.Instr.TheVariants.{Jalr}
 use Rattle.rv_isa.proofs.MemoryLemmas.{number_same, updated_elsewhere}
-use Rattle.rv_isa.proofs.RunLemmas.{comes_by_step, comes_then}
+use Rattle.rv_isa.proofs.RunLemmas.{comes_by_step}
 use Rattle.vcode.specs.declared.place.Extension.{Extension}
 use Rattle.vcode.specs.declared.place.Extension.TheVariants.{Made, Claimed}
 use Rattle.vcode.specs.Operations.{is_extended}
@@ -19,13 +17,10 @@ use Rattle.flat_code.specs.Spots.{NoAccess, ThisByte, Spots, SameReach}
 use Rattle.flat_code.specs.Step.{Numbers, kept, number_of, read_all, taken, passed as read_passed}
 use Rattle.abi_frames.specs.Calls.{Ready, Back, is_kept, passed}
 use Rattle.operation_code.specs.Fields.{reg, add_low}
-use Rattle.operation_code.specs.Fields.{with_name}
 use Rattle.abi_frames.specs.Emission.{fetch, source, passed_class, callee_items, callee_source, prepare_items, call_through}
-use Rattle.operation_code.proofs.ConstantNumbers.{parts_made}
 use Rattle.operation_code.proofs.Leading.{Site, StandAt, Leads, leads_nowhere, IsReg, register_reg, stepped, in_register, in_register_small, same_in_register}
 use Rattle.abi_frames.proofs.Leads.{leads_on, leads_as}
 use Rattle.abi_frames.proofs.StackAccesses.{is_28, same_address}
-use Rattle.operation_code.proofs.Instructions.{leads_upper, name_is}
 use Rattle.abi_frames.proofs.Activations.{Setting, IsSetting, site, bottom, slot_at, save_at, value_at, operand_in, place_is, place_reg, slot_is, is_among, is_held, Framed, operand_known, byte_has_access}
 use Rattle.abi_frames.proofs.LineCode.{leads_fetch}
 use Rattle.abi_frames.proofs.Passing.{sent, in_place, Kept, operand_kept, sent_kept, each, Stacked, stacked_keeps, leads_stack}
@@ -237,33 +232,26 @@ pub record Goes (c : Site) (rest : List Item) (to : ℕ) (s : State) : Type 0 wh
   pub v : State
   pub gone : Gone c rest to s v
 
--- to a name, through x1
+-- to a name
 goes_to_name : (c : Site) (s : State) (g to : ℕ) (rest : List Item) → c.global g < 2 ^ 30 → c.global g ≡ to → to % 4 ≡ 0
     → StandAt c (call_through (Name g) ++ rest) s.pc → Fixed c.ground s → Goes c rest to s
-unfolding Stand Stands goes_by
+unfolding Stand Stands
 goes_to_name c s g to rest near is even stands fixed =
-    let n : ℕ = moved (c.global g) (low 0).value in
-    let up = (leads_upper c s 1 g (low 0) is_1).from (with_name (JumpBy (reg 1) (reg 1)) g (low 0) ∷ rest) stands fixed in
-    let u : State = up.after in
-    let held : moved (in_register u 1) (lower_part n).value ≡ to =
-    ap (λ x. moved x (lower_part n).value) (register_reg u 1 is_1 ∙ up.holds.value)
-    ∙ (parts_made (c.global g) (low 0).value (low 0).in_range near ∙ (name_is (c.global g) near ∙ is)) in
-    let two = goes_by c u (lower_part n) 1 to rest held even up.stands up.fixed in
-    let few = up.few in
+    let called = stands.1.1 (ap (λ x. x % 4) is ∙ even) near s fixed refl in
     record {
-      v = gone_to u to;
+      v = called.after;
       gone = record {
-        steps = up.steps + 1;
-        comes = comes_then up.comes two.comes;
-        some = omega arith;
-        few = omega (arith, few);
-        fixed = two.fixed;
-        place = two.place;
-        stands = two.stands;
-        aligned = two.aligned;
-        others = λ m other. two.others m other ∙ up.holds.others m other;
-        bytes = two.bytes ∙ up.holds.bytes;
-        output = two.output ∙ up.holds.output;
+        steps = called.count;
+        comes = called.comes;
+        some = called.at_least_one;
+        few = called.at_most;
+        fixed = called.fixed;
+        place = called.place ∙ is;
+        stands = subst (λ a. StandAt c rest a) (sym called.return_address) stands.2;
+        aligned = ap (λ x. x % 4) called.return_address ∙ stands.1.0;
+        others = called.registers;
+        bytes = called.bytes;
+        output = called.output;
       };
     }
 

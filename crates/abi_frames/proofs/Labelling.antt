@@ -1,10 +1,10 @@
 -- The labelled code of a function keeps the invariants of such code.
-use Rattle.std.proofs.Common.{suc, zero, ◌≡◌, ℕ, ◌+◌, ◌-◌, ◌^◌, ◌<◌, ◌≤◌, Bool, true, false, List, [], ◌∷◌, ◌++◌, refl, sym, subst, arith, lit≤, zero-add}
+use Rattle.std.proofs.Common.{suc, ◌≡◌, ℕ, ◌+◌, ◌^◌, ◌<◌, ◌≤◌, Bool, true, false, List, [], ◌∷◌, ◌++◌, refl, sym, subst, arith, lit≤, zero-add}
 use Rattle.std.specs.Prelude.{◌&&◌, not, nat_eq, nat_le, nat_lt, if◌then◌else◌, length, Option, Some, None}
 use Rattle.abi_frames.proofs.Shared.{Condition, Item, Plain, Label, Location, ReturnValue, Destination, Comparison, Jump, Block, Code, Layout, EarlyReturn, list_all, and_parts, and_from, leb-true, lt-ltb, all_append, longest_size, nat_tests}
 use Rattle.rv_isa.specs.Labels.{IsLabelled, times_labelled, has_label_below}
 use Rattle.rv_isa.specs.declared.instruction.Instr.TheVariants.{Ebreak}
-use Rattle.rv_isa.specs.declared.labelled.Item.TheVariants.{Branch as BranchTo, Goto as GoTo, Relocated}
+use Rattle.rv_isa.specs.declared.labelled.Item.TheVariants.{Branch as BranchTo, Goto as GoTo, Call as CallTo, Relocated}
 use Rattle.vcode.specs.declared.line.Jump.TheVariants.{Goto, Branch, Return, Halt}
 use Rattle.vcode.specs.Regular.{leads_inside, is_target}
 use Rattle.abi_frames.specs.Layout.{layout, saved_registers}
@@ -74,6 +74,7 @@ alone_labelled n (Plain i ∷ is) h = let rest = alone_labelled n is h in record
 alone_labelled n (Label l ∷ is) h = absurd (let no : ⊥ = cc in no)
 alone_labelled n (BranchTo op a b l ∷ is) h = absurd (let no : ⊥ = cc in no)
 alone_labelled n (GoTo l ∷ is) h = absurd (let no : ⊥ = cc in no)
+alone_labelled n (CallTo g ∷ is) h = let rest = alone_labelled n is h in record { labels = rest.labels; once = λ l. let few = rest.once l in omega (arith, few) }
 alone_labelled n (Relocated r ∷ is) h = let rest = alone_labelled n is h in record { labels = rest.labels; once = λ l. let few = rest.once l in omega (arith, few) }
 
 pub instructions_labelled : {n most : ℕ} {is : List Item} → Instructions most is → Labelled n none is

@@ -5,7 +5,7 @@ use Rattle.std.specs.Prelude.{ℕ, ◌+◌, ◌*◌, ◌^◌, ◌≤◌, Bool, t
 use Rattle.std.specs.List.{list_all, list_any, sum_by}
 use Rattle.il_ast.specs.declared.limits.TheConstants.{ALLOC_BYTES}
 use Rattle.rv_isa.specs.declared.labelled.Item.{Item}
-use Rattle.rv_isa.specs.declared.labelled.Item.TheVariants.{Plain, Label, Branch as BranchTo, Goto as GoTo, Relocated}
+use Rattle.rv_isa.specs.declared.labelled.Item.TheVariants.{Plain, Label, Branch as BranchTo, Goto as GoTo, Call as CallTo, Relocated}
 use Rattle.rv_isa.specs.Labels.{has_label_below}
 use Rattle.vcode.specs.declared.place.Location.{Location}
 use Rattle.vcode.specs.declared.place.Destination.{Destination}
@@ -138,6 +138,7 @@ raised n (Plain i) = Plain i
 raised n (Label l) = Label (n + l)
 raised n (BranchTo op a b l) = BranchTo op a b (n + l)
 raised n (GoTo l) = GoTo (n + l)
+raised n (CallTo g) = CallTo g
 raised n (Relocated r) = Relocated r
 
 abbrev pub copied_items : Layout → (k : ℕ) → Block Location → List Item

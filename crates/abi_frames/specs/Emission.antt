@@ -16,8 +16,8 @@ use Rattle.rv_isa.specs.declared.instruction.StoreOp.TheVariants.{Sb, Sh, Sw, Sd
 use Rattle.rv_isa.specs.declared.instruction.BranchOp.TheVariants.{Beq, Bne, Blt, Bge, Bltu, Bgeu}
 use Rattle.rv_isa.specs.declared.ranges.Immediate.{Immediate}
 use Rattle.rv_isa.specs.declared.labelled.Item.{Item}
-use Rattle.rv_isa.specs.declared.labelled.Item.TheVariants.{Plain, Label, Branch as BranchTo, Goto as GoTo}
-use Rattle.rv_isa.specs.declared.relocation.Partial.TheVariants.{Upper, Jump as JumpBy, Load as LoadBy, Store as StoreBy}
+use Rattle.rv_isa.specs.declared.labelled.Item.TheVariants.{Plain, Label, Branch as BranchTo, Goto as GoTo, Call as CallTo}
+use Rattle.rv_isa.specs.declared.relocation.Partial.TheVariants.{Upper, Load as LoadBy, Store as StoreBy}
 use Rattle.vcode.specs.declared.place.Location.{Location}
 use Rattle.vcode.specs.declared.place.Location.TheVariants.{Register as InRegister, Slot}
 use Rattle.vcode.specs.declared.place.Operand.{Operand}
@@ -238,9 +238,7 @@ prepare_items y callee args = stack_all y 0 args ++ (callee_items y callee ++ pa
 
 -- to the callee, with the address of the next instruction in x1
 abbrev pub call_through : Operand Location → List Item
-call_through (Name g) =
-    with_name (Upper (reg RETURN_ADDRESS)) g (low 0)
-    ∷ with_name (JumpBy (reg RETURN_ADDRESS) (reg RETURN_ADDRESS)) g (low 0) ∷ []
+call_through (Name g) = CallTo g ∷ []
 call_through a = Plain (Jalr (reg RETURN_ADDRESS) (reg (callee_source a)) (low 0)) ∷ []
 
 -- the result from x10 to its place

@@ -1,7 +1,6 @@
 //! The machine code of calls.
 ghost use Rattle.std.specs.Prelude.{◌≡◌, ◌-◌, ◌*◌, ◌^◌, ◌<◌, ◌≤◌, [], ◌∷◌, ◌++◌, ◌&&◌, length, nat_le, OnOk};
 ghost use Rattle.rv_isa.specs.declared.abi.TheConstants.{STACK_POINTER, FIRST_ARGUMENT, LAST_ARGUMENT, FIRST_SCRATCH};
-ghost use Rattle.vcode.specs.declared.place.Operand.TheVariants.{Name};
 ghost use Rattle.operation_code.specs.Fields.{store_8};
 ghost use Rattle.abi_frames.specs.Emission.{passed_class, pass_into, stack_all, register_items, register_all, passed_items, callee_items, callee_source, call_through, receive_items, call_items};
 
@@ -11,11 +10,9 @@ use crate::moves::push_moves_up;
 use crate::operand::{push_fetch, push_operand, push_word, source_of};
 use il_ast::operation::Class;
 use operation_code::fields::{add_immediate, register, store};
-use operation_code::name::with_name;
 use rv_isa::abi;
 use rv_isa::instruction::Instr;
 use rv_isa::labelled::Item;
-use rv_isa::relocation::Partial;
 use std::alloc::AllocError;
 use vcode::place::{Argument, Destination, Extension, Location, Operand, low_part};
 
@@ -175,26 +172,12 @@ fn callee_source(callee: &Operand<Location>) -> u8
     }
 }
 
-/// Through the register that gets the return address.
-fn push_jump_to_name(items: &mut Vec<Item>, global: usize) -> Result<(), AllocError>
-    ensures { OnOk result (items.new.items ≡ items.old.items ++ call_through (Name global)) }
-{
-    let through = register(abi::RETURN_ADDRESS);
-    let jump = Partial::Jump {
-        rd: through,
-        rs1: through,
-    };
-    items.push(with_name(Partial::Upper(through), global, low_part(0)))?;
-    items.push(with_name(jump, global, low_part(0)))?;
-    Ok(())
-}
-
 /// To the callee.
 fn push_jump(items: &mut Vec<Item>, callee: &Operand<Location>) -> Result<(), AllocError>
     ensures { OnOk result (items.new.items ≡ items.old.items ++ call_through callee.now) }
 {
     match callee {
-        Operand::Name(global) => push_jump_to_name(items, global.number())?,
+        Operand::Name(global) => items.push(Item::Call(global.number()))?,
         Operand::At(_) | Operand::Number(_) => items.push(Item::Plain(Instr::Jalr {
             rd: register(abi::RETURN_ADDRESS),
             rs1: register(callee_source(callee)),

@@ -97,7 +97,7 @@ fn longest(item: &Item) -> u64
     match item {
         Item::Label(_) => 0,
         Item::Plain(_) | Item::Relocated(_) => 1,
-        Item::Goto(_) => 2,
+        Item::Goto(_) | Item::Call(_) => 2,
         Item::Branch { .. } => 3,
     }
 }

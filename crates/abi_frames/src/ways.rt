@@ -209,6 +209,7 @@ fn raised(item: &Item, by: usize) -> Item
             label: by + *label,
         },
         Item::Goto(label) => Item::Goto(by + *label),
+        Item::Call(global) => Item::Call(*global),
         Item::Relocated(relocation) => Item::Relocated(*relocation),
     }
 }

@@ -5,7 +5,7 @@ use Rattle.std.proofs.lemmas.Bool.Decides.{nat_tests}
 use Rattle.std.proofs.lemmas.List.{length-set, get_or-set_same, get_or-set_other}
 use Rattle.rv_isa.specs.Labels.{longest, longest_size}
 use Rattle.rv_isa.specs.declared.labelled.Item.{Item}
-use Rattle.rv_isa.specs.declared.labelled.Item.TheVariants.{Plain, Label, Branch, Goto, Relocated}
+use Rattle.rv_isa.specs.declared.labelled.Item.TheVariants.{Plain, Label, Branch, Goto, Call, Relocated}
 use Rattle.asm_layout.specs.declared.reach.Reach.{Reach}
 use Rattle.asm_layout.specs.declared.reach.Reach.TheVariants.{Short, Middle, Far}
 use Rattle.asm_layout.specs.Forms.{reach_of, Fits, jump_size, branch_size, size, marked, longest_places, chosen_places, ItemFits, AllFit}
@@ -30,6 +30,7 @@ size_longest far f (Plain i) = omega arith
 size_longest far f (Label l) = omega arith
 size_longest far f (Branch op rs1 rs2 l) = branch_longest (reach_of f (slice_index far l))
 size_longest far f (Goto l) = jump_longest (reach_of f (slice_index far l))
+size_longest far f (Call n) = omega arith
 size_longest far f (Relocated r) = omega arith
 
 pub marked_length : (v : List ℕ) (at : ℕ) (i : Item) → length (marked v at i) ≡ length v
@@ -37,6 +38,7 @@ marked_length v at (Plain i) = refl
 marked_length v at (Label l) = length-set v l at
 marked_length v at (Branch op rs1 rs2 l) = refl
 marked_length v at (Goto l) = refl
+marked_length v at (Call n) = refl
 marked_length v at (Relocated r) = refl
 
 -- both lists keep the place of a label, or both get a new one
@@ -69,6 +71,7 @@ marks f p v w (Plain i) l same = inl (refl, refl)
 marks f p v w (Label m) l same = set_marks f p v w m l same
 marks f p v w (Branch op rs1 rs2 m) l same = inl (refl, refl)
 marks f p v w (Goto m) l same = inl (refl, refl)
+marks f p v w (Call n) l same = inl (refl, refl)
 marks f p v w (Relocated r) l same = inl (refl, refl)
 
 -- a label keeps the place that it has before items, or stands ahead
@@ -204,6 +207,7 @@ chosen_within far f p w (i ∷ items) l h =
     within (Label m) = let k = set_within m w h in omega arith
     within (Branch op rs1 rs2 m) = omega arith
     within (Goto m) = omega arith
+    within (Call n) = omega arith
     within (Relocated r) = omega arith
 
 pub place_within : {far places : List ℕ} {f p : ℕ} {v w : List ℕ} {items : List Item} → Walk far places f p v w items → (l : ℕ)
@@ -230,6 +234,7 @@ item_fits (Plain i) walk = tt
 item_fits (Label l) walk = tt
 item_fits {far} {places} {f} {p} (Branch op rs1 rs2 l) walk = (fits f p (slice_index far l) (slice_index places l) (comparable walk l), place_small walk l)
 item_fits {far} {places} {f} {p} (Goto l) walk = (fits f p (slice_index far l) (slice_index places l) (comparable walk l), place_small walk l)
+item_fits (Call n) walk = tt
 item_fits (Relocated r) walk = tt
 
 pub all_fit : (far places : List ℕ) (f p : ℕ) (v w : List ℕ) (items : List Item) → Walk far places f p v w items → AllFit far places f p items

@@ -1,5 +1,7 @@
 pub mod Distances
 pub mod Running
+pub mod Calling
+pub mod FarCalls
 pub mod Standing
 pub mod Steps
 pub mod Filling

@@ -243,7 +243,7 @@ lower_is : (x d : ℕ) → moved x (lower_field d) ≡ (x + d % 4096 + (if nat_l
 lower_is x d = grind (arith, ints, nat_tests)
 
 -- they lead there
-ahead : (a d to : ℕ) → d < 2 ^ 30 → a + d ≡ to → to < 2 ^ 64 → to % 2 ≡ 0
+pub ahead : (a d to : ℕ) → d < 2 ^ 30 → a + d ≡ to → to < 2 ^ 64 → to % 2 ≡ 0
     → even_below (moved ((a + sign_extended (upper_field d * 4096)) % 2 ^ 64) (lower_field d)) ≡ to
 ahead a d to h e inside even =
     let up = upper_ahead d h in

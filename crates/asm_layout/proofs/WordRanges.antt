@@ -4,14 +4,15 @@ use Rattle.std.specs.Prelude.{ℤ, slice_index}
 use Rattle.bits.specs.Words.{upper_field, lower_field}
 use Rattle.rv_isa.specs.Formats.{part, joined, u_type, i_type, j_type, b_type}
 use Rattle.rv_isa.specs.Encoding.{word, branch_row, load_row, store_row, imm_row, shift_row, shiftw_row, reg_row, regw_row}
-use Rattle.rv_isa.specs.Relocations.{relocated}
+use Rattle.rv_isa.specs.declared.relocation.Filling.{Filling}
+use Rattle.rv_isa.specs.declared.relocation.Filling.TheVariants.{Part, Call as CallOf}
 use Rattle.rv_isa.specs.Labels.{longest}
 use Rattle.rv_isa.specs.declared.abi.TheConstants.{JUMP_SCRATCH, ZERO}
 use Rattle.rv_isa.specs.declared.ranges.Register.{Register}
 use Rattle.rv_isa.specs.declared.instruction.Instr.{Instr}
 use Rattle.rv_isa.specs.declared.instruction.Instr.TheVariants.{Lui, Auipc, Jal, Jalr, Branch as BranchBy, Load, Store, Imm, Addiw, Shift, ShiftW, Reg, RegW, Fence, Ecall, Ebreak}
 use Rattle.rv_isa.specs.declared.labelled.Item.{Item}
-use Rattle.rv_isa.specs.declared.labelled.Item.TheVariants.{Plain, Label, Branch, Goto, Relocated}
+use Rattle.rv_isa.specs.declared.labelled.Item.TheVariants.{Plain, Label, Branch, Goto, Call, Relocated}
 use Rattle.rv_isa.specs.declared.instruction.BranchOp.{BranchOp}
 use Rattle.rv_isa.proofs.RowRanges.{branch_row_fits, load_row_fits, store_row_fits, imm_row_fits, shift_row_fits, shiftw_row_fits, reg_row_fits, regw_row_fits}
 use Rattle.asm_layout.specs.declared.reach.Reach.{Reach}
@@ -141,16 +142,21 @@ branch_words_small Far op rs1 rs2 here there = (
   jump_words_small Far (here + 1) there,
 )
 
-item_words_small : (far places : List ℕ) (global : ℕ → ℕ) (f p : ℕ) (i : Item) → AreSmall (item_words far places global f p i)
-item_words_small far places global f p (Plain i) = (word_small i, tt)
-item_words_small far places global f p (Label l) = tt
-item_words_small far places global f p (Branch op rs1 rs2 l) = branch_words_small (reach_of f (slice_index far l)) op rs1 rs2 p (slice_index places l)
-item_words_small far places global f p (Goto l) = jump_words_small (reach_of f (slice_index far l)) p (slice_index places l)
-item_words_small far places global f p (Relocated r) = (word_small (relocated r (global r.global)), tt)
+-- each word that waits for an address has 32 bits
+abbrev pub AllSmall : (ℕ → Filling → ℕ) → Type 0
+AllSmall fill = (p : ℕ) (x : Filling) → fill p x < 2 ^ 32
 
-pub all_small : (far places : List ℕ) (global : ℕ → ℕ) (f : ℕ) (pre : List ℕ) (items : List Item) → AreSmall pre
-    → AreSmall (words_with far places global f pre items)
-all_small far places global f pre [] h = h
-all_small far places global f pre (i ∷ items) h =
-    all_small far places global (f + longest i) (pre ++ item_words far places global f (length pre) i) items
-    (small_both pre (item_words far places global f (length pre) i) h (item_words_small far places global f (length pre) i))
+item_words_small : (far places : List ℕ) (fill : ℕ → Filling → ℕ) → AllSmall fill → (f p : ℕ) (i : Item) → AreSmall (item_words far places fill f p i)
+item_words_small far places fill small f p (Plain i) = (word_small i, tt)
+item_words_small far places fill small f p (Label l) = tt
+item_words_small far places fill small f p (Branch op rs1 rs2 l) = branch_words_small (reach_of f (slice_index far l)) op rs1 rs2 p (slice_index places l)
+item_words_small far places fill small f p (Goto l) = jump_words_small (reach_of f (slice_index far l)) p (slice_index places l)
+item_words_small far places fill small f p (Call n) = (small p (CallOf n), tt)
+item_words_small far places fill small f p (Relocated r) = (small p (Part r), tt)
+
+pub all_small : (far places : List ℕ) (fill : ℕ → Filling → ℕ) → AllSmall fill → (f : ℕ) (pre : List ℕ) (items : List Item) → AreSmall pre
+    → AreSmall (words_with far places fill f pre items)
+all_small far places fill small f pre [] h = h
+all_small far places fill small f pre (i ∷ items) h =
+    all_small far places fill small (f + longest i) (pre ++ item_words far places fill f (length pre) i) items
+    (small_both pre (item_words far places fill f (length pre) i) h (item_words_small far places fill small f (length pre) i))

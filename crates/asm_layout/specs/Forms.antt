@@ -2,20 +2,28 @@
 -- numbers of words from the function's first.
 --
 -- A form is chosen by the places that items would have if all of them took their longest form. Real
--- distances are never longer, so it fits.
-use Rattle.std.specs.Prelude.{ℕ, ◌+◌, ◌-◌, ◌*◌, ◌%◌, ◌^◌, ◌<◌, ◌≤◌, ◌&&◌, nat_le, if◌then◌else◌, ℤ, pos, ◌-ℤ◌, List, [], ◌∷◌, ◌++◌, length, slice_index, slice_set, replicate}
+-- distances are never longer, so it fits. Calls of globals, whose distances are not known here, take
+-- the form that is asked for.
+use Rattle.std.proofs.Common.{mod-lt, lit<}
+use Rattle.std.specs.List.{list_all}
+use Rattle.std.specs.Prelude.{ℕ, ◌+◌, ◌-◌, ◌*◌, ◌%◌, ◌^◌, ◌<◌, ◌≤◌, Bool, true, false, IsTrue, ◌&&◌, nat_le, if◌then◌else◌, ℤ, pos, ◌-ℤ◌, List, [], ◌∷◌, ◌++◌, length, slice_index, slice_set, replicate}
 use Rattle.bits.specs.Words.{upper_field, lower_field}
-use Rattle.rv_isa.specs.declared.abi.TheConstants.{ZERO, JUMP_SCRATCH}
+use Rattle.rv_isa.specs.declared.abi.TheConstants.{ZERO, RETURN_ADDRESS, JUMP_SCRATCH}
 use Rattle.rv_isa.specs.Formats.{u_type, i_type, b_type, j_type}
 use Rattle.rv_isa.specs.Encoding.{branch_row, word}
-use Rattle.rv_isa.specs.Relocations.{relocated}
+use Rattle.rv_isa.specs.Relocations.{of_global, named, filled_in}
 use Rattle.rv_isa.specs.Labels.{LabelledItems, longest}
 use Rattle.rv_isa.specs.declared.ranges.Register.{Register}
 use Rattle.rv_isa.specs.declared.instruction.BranchOp.{BranchOp}
 use Rattle.rv_isa.specs.declared.instruction.BranchOp.TheVariants.{Beq, Bne, Blt, Bge, Bltu, Bgeu}
 use Rattle.rv_isa.specs.declared.labelled.Item.{Item}
-use Rattle.rv_isa.specs.declared.labelled.Item.TheVariants.{Plain, Label, Branch, Goto, Relocated}
+use Rattle.rv_isa.specs.declared.labelled.Item.TheVariants.{Plain, Label, Branch, Goto, Call, Relocated}
 use Rattle.rv_isa.specs.declared.code.Hole.{Hole}
+use Rattle.rv_isa.specs.declared.relocation.Filling.{Filling}
+use Rattle.rv_isa.specs.declared.relocation.Filling.TheVariants.{Part, Call as CallOf}
+use Rattle.rv_isa.specs.declared.relocation.Partial.TheVariants.{Upper, Jump}
+use Rattle.asm_layout.specs.declared.call.CallForm.{CallForm}
+use Rattle.asm_layout.specs.declared.call.CallForm.TheVariants.{Near, Far as FarCall}
 use Rattle.asm_layout.specs.declared.reach.Reach.{Reach}
 use Rattle.asm_layout.specs.declared.reach.Reach.TheVariants.{Short, Middle, Far}
 
@@ -45,12 +53,13 @@ branch_size Short = 1
 branch_size Middle = 2
 branch_size Far = 3
 
--- an item's words, where it would stand at f in the longest form, and labels at these places
+-- how many words an item has, where it would stand at f in the longest form, and labels at these places
 abbrev pub size : (far : List ℕ) (f : ℕ) → Item → ℕ
 size far f (Plain i) = 1
 size far f (Label l) = 0
 size far f (Branch op rs1 rs2 l) = branch_size (reach_of f (slice_index far l))
 size far f (Goto l) = jump_size (reach_of f (slice_index far l))
+size far f (Call n) = 1
 size far f (Relocated r) = 1
 
 -- ---- places of labels, by number
@@ -60,6 +69,7 @@ marked places at (Plain i) = places
 marked places at (Label l) = slice_set places l at
 marked places at (Branch op rs1 rs2 l) = places
 marked places at (Goto l) = places
+marked places at (Call n) = places
 marked places at (Relocated r) = places
 
 -- in the longest form, of items from f on
@@ -114,22 +124,28 @@ branch_words Far op rs1 rs2 here there =
     b_type 0x63 (branch_row (inverse op)) rs1.number rs2.number (distance here (here + 3))
     ∷ jump_words Far (here + 1) there
 
--- an item's words at p, with globals at these addresses
-abbrev pub item_words : (far places : List ℕ) (global : ℕ → ℕ) (f p : ℕ) → Item → List ℕ
-item_words far places global f p (Plain i) = word i ∷ []
-item_words far places global f p (Label l) = []
-item_words far places global f p (Branch op rs1 rs2 l) =
+-- the word of what waits for an address, in the words of a function that stand from `at` on
+abbrev pub fills : (at : ℕ) (global : ℕ → ℕ) → (p : ℕ) → Filling → ℕ
+fills at global p x = word (filled_in x (at + 4 * p) (global (named x)))
+
+-- an item's words at p, with these words where an address is waited for
+abbrev pub item_words : (far places : List ℕ) (fill : ℕ → Filling → ℕ) (f p : ℕ) → Item → List ℕ
+item_words far places fill f p (Plain i) = word i ∷ []
+item_words far places fill f p (Label l) = []
+item_words far places fill f p (Branch op rs1 rs2 l) =
     branch_words (reach_of f (slice_index far l)) op rs1 rs2 p (slice_index places l)
-item_words far places global f p (Goto l) =
+item_words far places fill f p (Goto l) =
     jump_words (reach_of f (slice_index far l)) p (slice_index places l)
-item_words far places global f p (Relocated r) = word (relocated r (global r.global)) ∷ []
+item_words far places fill f p (Call n) = fill p (CallOf n) ∷ []
+item_words far places fill f p (Relocated r) = fill p (Part r) ∷ []
 
 -- these words, and those of items after them
-abbrev pub words_with : (far places : List ℕ) (global : ℕ → ℕ) (f : ℕ) → List ℕ → List Item → List ℕ
-words_with far places global f words [] = words
-words_with far places global f words (i ∷ items) =
-    words_with far places global (f + longest i) (words
-    ++ item_words far places global f (length words) i) items
+abbrev pub words_with : (far places : List ℕ) (fill : ℕ → Filling → ℕ) (f : ℕ) → List ℕ →
+    List Item → List ℕ
+words_with far places fill f words [] = words
+words_with far places fill f words (i ∷ items) =
+    words_with far places fill (f + longest i) (words
+    ++ item_words far places fill f (length words) i) items
 
 -- ---- holes
 
@@ -138,18 +154,54 @@ item_holes p (Plain i) = []
 item_holes p (Label l) = []
 item_holes p (Branch op rs1 rs2 l) = []
 item_holes p (Goto l) = []
-item_holes p (Relocated r) = record { word = p; relocation = r } ∷ []
+item_holes p (Call n) = record { word = p; filling = CallOf n } ∷ []
+item_holes p (Relocated r) = record { word = p; filling = Part r } ∷ []
 
 abbrev pub holes_with : (far : List ℕ) (f p : ℕ) → List Hole → List Item → List Hole
 holes_with far f p holes [] = holes
 holes_with far f p holes (i ∷ items) =
     holes_with far (f + longest i) (p + size far f i) (holes ++ item_holes p i) items
 
+-- ---- calls
+
+-- `lui` and `jalr` through x1
+abbrev pub link : Register
+link = record { number = RETURN_ADDRESS % 32; in_range = mod-lt RETURN_ADDRESS (lit< tt) }
+
+abbrev pub far_call : (global : ℕ) → List Item
+far_call n = Relocated (of_global (Upper link) n) ∷ Relocated (of_global (Jump link link) n) ∷ []
+
+abbrev pub with_far_call : Item → List Item
+with_far_call (Plain i) = Plain i ∷ []
+with_far_call (Label l) = Label l ∷ []
+with_far_call (Branch op rs1 rs2 l) = Branch op rs1 rs2 l ∷ []
+with_far_call (Goto l) = Goto l ∷ []
+with_far_call (Call n) = far_call n
+with_far_call (Relocated r) = Relocated r ∷ []
+
+abbrev pub with_far_calls : List Item → List Item
+with_far_calls [] = []
+with_far_calls (i ∷ items) = with_far_call i ++ with_far_calls items
+
+-- calls in the form that is asked for
+abbrev pub formed : CallForm → LabelledItems → LabelledItems
+formed Near c = c
+formed FarCall c = record { items = with_far_calls c.items; labels = c.labels }
+
+-- words that wait for addresses have calls only in this form
+abbrev pub is_part : Filling → Bool
+is_part (Part r) = true
+is_part (CallOf n) = false
+
+abbrev pub HaveForm : CallForm → List Hole → Type 0
+HaveForm Near holes = Unit {0}
+HaveForm FarCall holes = IsTrue (list_all (λ h. is_part h.filling) holes)
+
 -- ---- the whole
 
 -- before addresses are known
-abbrev pub no_address : ℕ → ℕ
-no_address n = 0
+abbrev pub no_address : (p : ℕ) → Filling → ℕ
+no_address p x = word (filled_in x 0 0)
 
 abbrev pub far_of : LabelledItems → List ℕ
 far_of c = longest_places 0 (replicate c.labels 0) c.items
@@ -171,6 +223,7 @@ ItemFits far places f p (Branch op rs1 rs2 l) =
     Fits (reach_of f (slice_index far l)) p (slice_index places l) × (slice_index places l < 2 ^ 28)
 ItemFits far places f p (Goto l) =
     Fits (reach_of f (slice_index far l)) p (slice_index places l) × (slice_index places l < 2 ^ 28)
+ItemFits far places f p (Call n) = Unit {0}
 ItemFits far places f p (Relocated r) = Unit {0}
 
 abbrev pub AllFit : (far places : List ℕ) (f p : ℕ) → List Item → Type 0

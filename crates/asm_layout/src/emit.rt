@@ -11,6 +11,7 @@ use crate::sizes::{longest, size};
 use rv_isa::code::Hole;
 use rv_isa::encode::encode;
 use rv_isa::labelled::Item;
+use rv_isa::relocation::Filling;
 use std::alloc::AllocError;
 
 /// `here` is the item's place in the longest form.
@@ -50,7 +51,8 @@ fn push_item(
             let reach = reach_of(here, place_of(far, *label));
             push_jump(words, reach, place, place_of(places, *label))?;
         }
-        Item::Relocated(relocation) => words.push(encode(relocation.relocated(0)))?,
+        Item::Call(global) => words.push(Filling::Call(*global).word(0, 0))?,
+        Item::Relocated(relocation) => words.push(Filling::Part(*relocation).word(0, 0))?,
     }
     Ok(())
 }
@@ -78,12 +80,15 @@ pub fn push_words(
 fn push_hole(holes: &mut Vec<Hole>, place: usize, item: &Item) -> Result<(), AllocError>
     ensures { OnOk result (holes.new.items ≡ holes.old.items ++ item_holes place item.now) }
 {
-    if let Item::Relocated(relocation) = item {
-        holes.push(Hole {
-            word: place,
-            relocation: *relocation,
-        })?;
-    }
+    let filling = match item {
+        Item::Call(global) => Filling::Call(*global),
+        Item::Relocated(relocation) => Filling::Part(*relocation),
+        Item::Plain(_) | Item::Label(_) | Item::Branch { .. } | Item::Goto(_) => return Ok(()),
+    };
+    holes.push(Hole {
+        word: place,
+        filling,
+    })?;
     Ok(())
 }
 

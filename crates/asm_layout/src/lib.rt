@@ -19,6 +19,7 @@
 //! The crate stands on `rv_isa` for code and the machine, and on `bits` for the two halves of a distance.
 #![tactic(auto)]
 
+pub mod call;
 mod emit;
 mod jump;
 pub mod layout;

@@ -16,7 +16,7 @@ pub fn longest(item: &Item) -> usize
         Item::Plain(_) => 1,
         Item::Label(_) => 0,
         Item::Branch { .. } => 3,
-        Item::Goto(_) => 2,
+        Item::Goto(_) | Item::Call(_) => 2,
         Item::Relocated(_) => 1,
     }
 }
@@ -49,6 +49,6 @@ pub fn size(far: &[usize], here: usize, item: &Item) -> usize
         Item::Label(_) => 0,
         Item::Branch { label, .. } => branch_size(reach_of(here, place_of(far, *label))),
         Item::Goto(label) => jump_size(reach_of(here, place_of(far, *label))),
-        Item::Relocated(_) => 1,
+        Item::Call(_) | Item::Relocated(_) => 1,
     }
 }

@@ -1,6 +1,6 @@
 -- The executable of a program whose functions have words that stand for them executes the program.
 use Rattle.std.proofs.Common.{◌≡◌, ℕ, zero, suc, ◌+◌, ◌%◌, ◌^◌, ◌<◌, ◌≤◌, List, [], ◌∷◌, length, map, refl, ap, subst, arith, lit<}
-use Rattle.std.specs.Prelude.{slice_get, slice_index, Option, Some, None}
+use Rattle.std.specs.Prelude.{IsTrue, slice_get, slice_index, Option, Some, None}
 use Rattle.std.specs.Option.{option_and_then}
 use Rattle.il_ast.specs.declared.datum.DataDef.{DataDef}
 use Rattle.il_ast.specs.declared.function.Func.{Func}
@@ -25,7 +25,7 @@ use Rattle.obj_link.specs.declared.placing.addresses.Addresses.{Addresses}
 use Rattle.obj_link.specs.Image.{IsImage}
 use Rattle.obj_link.specs.Limits.{object_size}
 use Rattle.obj_link.specs.Natives.{functions_start}
-use Rattle.obj_link.specs.Placed.{object_addresses, objects_start, objects_end, addresses_of, target_address, name_address, contents_of, FitsBelow, EveryCode}
+use Rattle.obj_link.specs.Placed.{object_addresses, objects_start, objects_end, addresses_of, target_address, name_address, contents_of, calls_reach, FitsBelow, EveryCode}
 use Rattle.obj_link.specs.Laws.{IsThere}
 use Rattle.obj_link.proofs.AddressLemmas.{objects_rise}
 use Rattle.elf_file.specs.Loaded.{Executable}
@@ -43,7 +43,7 @@ use Rattle.headline.proofs.Running.{setting_is, executable_runs}
 use Rattle.headline.proofs.PlacedWords.{ground_of}
 use Rattle.headline.proofs.NativeCode.{natives_perform}
 use Rattle.headline.proofs.StartCode.{start_runs}
-use Rattle.headline.proofs.DataPlaced.{bounds, address_most, address_aligned, function_stands, Worth, worth, stands_well}
+use Rattle.headline.proofs.DataPlaced.{bounds, address_most, address_aligned, function_stands, found_reach, Worth, worth, stands_well}
 use Rattle.il_ast.proofs.Listed.{get_before}
 
 -- ---- what names are worth
@@ -157,9 +157,9 @@ as_many p (c ∷ codes) [] each = absurd each
 as_many p (c ∷ codes) (f ∷ fs) each = ap suc (as_many p codes fs each.1)
 
 function_kept : (p : Program) (codes : List Words) (x : Executable) (words : List (List ℕ)) (s : State)
-    → NamesAreThere p → EachStandsIn p codes p.functions → EveryCode codes → FitsBelow p codes → IsImage (contents_of p codes) → Stands (contents_of p codes) x → Starts x words s
+    → NamesAreThere p → EachStandsIn p codes p.functions → EveryCode codes → FitsBelow p codes → IsTrue (calls_reach p codes) → IsImage (contents_of p codes) → Stands (contents_of p codes) x → Starts x words s
     → FunctionsKept (setting_of (places_of p codes) words s) p
-function_kept p codes x words s has each every fits good stands starts turns k at f found entry =
+function_kept p codes x words s has each every fits reach good stands starts turns k at f found entry =
     let many = as_many p codes p.functions each in
     let a = addresses_of p codes in
     let c = setting_of (places_of p codes) words s in
@@ -171,7 +171,7 @@ function_kept p codes x words s has each every fits good stands starts turns k a
     let global = name_address a p.targets f.text in
     let addresses = addresses_in a (slice_get p.targets f.text) in
     let here = function_stands p codes x words s good stands starts k at code.words f code.here found entry in
-    let labelled = r.laid (ground_of s) at global here in
+    let labelled = r.laid (ground_of s) at global (found_reach a p.targets codes p.functions functions_start k at code.words f reach code.here found entry) here in
     let m = frame_in_need f.item r.code r.slots r.items r.is.params r.is.result r.fits r.machine in
     layers_keep c setting at (need f.item) (frame_size r.code r.slots) (area r.code) turns (classes_of f.item.params) f.item.result (globals_of p f.text) addresses (body_of p f) (calls_in p turns) (begin located r.code) (step located (globals_of p f.text) r.code) (flat_begin r.code) (flat_step r.code addresses)
     (record {
@@ -191,13 +191,13 @@ function_kept p codes x words s has each every fits good stands starts turns k a
 -- ---- the whole
 
 pub replaced_runs : ReplacedRuns
-replaced_runs p codes x words s has each every fits good stands starts few short =
+replaced_runs p codes x words s has each every fits reach good stands starts few short =
     let many = as_many p codes p.functions each in
     let w = worth p codes many every fits in
     let well = stands_well p codes x has many every fits good stands in
     let main_is = w.functions p.main has.main in
     executable_runs p (places_of p codes) x words s starts few short well.data_bytes well.entries well.aligned
-    (function_kept p codes x words s has each every fits good stands starts)
+    (function_kept p codes x words s has each every fits reach good stands starts)
     (natives_perform p codes x words s good stands starts)
     (start_runs p codes x words s good stands starts well.data_bytes few short main_is (main_small p codes fits) (address_aligned functions_start codes refl p.main _ main_is))
 

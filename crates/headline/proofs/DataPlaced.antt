@@ -28,14 +28,15 @@ use Rattle.il_ast.specs.Cost.{round_16}
 use Rattle.il_ast.specs.Memory.{parts}
 use Rattle.il_ast.specs.Start.{target_value, values_of, globals_of, address_cells, item_cells, field_cells, object_cells}
 use Rattle.rv_isa.specs.Words.{Words}
-use Rattle.rv_isa.specs.Laid.{filled, WordsStand}
+use Rattle.std.proofs.lemmas.Bool.{and_parts}
+use Rattle.rv_isa.specs.Laid.{filled, all_reach, WordsStand}
 use Rattle.rv_isa.specs.State.{State}
 use Rattle.asm_layout.proofs.Filling.{filled_length}
 use Rattle.obj_link.specs.declared.placing.addresses.Addresses.{Addresses}
 use Rattle.obj_link.specs.Image.{IsImage, code_start, image_end, round_to_page, data_start}
 use Rattle.obj_link.specs.Limits.{item_size, field_size, object_size}
 use Rattle.obj_link.specs.Natives.{start_words, write_words, exit_words, functions_start, write_address, exit_address}
-use Rattle.obj_link.specs.Placed.{function_addresses, functions_end, object_addresses, objects_end, objects_start, addresses_of, callee_address, name_address, functions_words, value_number, cell_byte, in_slots, object_bytes, contents_of, FitsBelow, EveryCode}
+use Rattle.obj_link.specs.Placed.{function_addresses, functions_end, object_addresses, objects_end, objects_start, addresses_of, callee_address, name_address, functions_words, functions_reach, value_number, cell_byte, in_slots, object_bytes, contents_of, FitsBelow, EveryCode}
 use Rattle.obj_link.specs.Laws.{IsThere}
 use Rattle.obj_link.proofs.AddressLemmas.{objects_rise, functions_rise}
 use Rattle.obj_link.proofs.ThereLemmas.{what_names_mean}
@@ -139,25 +140,27 @@ record FoundIn (words mid : List ℕ) (at x : ℕ) : Type 0 where
   place : x ≡ at + 4 * length pre
 
 found_words : (a : Addresses) (targets : List (List Target)) (codes : List Words) (fs : List (InText Func)) (at k x : ℕ) (c : Words) (f : InText Func) → slice_get codes k ≡ Some c → slice_get fs k ≡ Some f → slice_get (function_addresses at codes) k ≡ Some x
-    → FoundIn (functions_words a targets codes fs) (filled (name_address a targets f.text) c.words c.holes) at x
+    → FoundIn (functions_words a targets at codes fs) (filled x (name_address a targets f.text) c.words c.holes) at x
 found_words a targets [] fs at k x c f hc hf hx = absurd (let no : ⊥ = cc in no)
 found_words a targets (d ∷ codes) [] at k x c f hc hf hx = absurd (let no : ⊥ = cc in no)
 found_words a targets (d ∷ codes) (g ∷ fs) at zero x c f hc hf hx =
     let code : d ≡ c = cc in
     let func : g ≡ f = cc in
     let same : at ≡ x = cc in
+    let post : List ℕ = functions_words a targets (at + 4 * length d.words) codes fs in
     record {
       pre = [];
-      post = functions_words a targets codes fs;
-      is = ap (λ (e : Words). filled (name_address a targets g.text) e.words e.holes ++ functions_words a targets codes fs) code
-          ∙ ap (λ (e : InText Func). filled (name_address a targets e.text) c.words c.holes ++ functions_words a targets codes fs) func;
+      post = post;
+      is = ap (λ (e : Words). filled at (name_address a targets g.text) e.words e.holes ++ post) code
+          ∙ ap (λ (e : InText Func). filled at (name_address a targets e.text) c.words c.holes ++ post) func
+          ∙ ap (λ n. filled n (name_address a targets f.text) c.words c.holes ++ post) same;
       place = omega (arith, same);
     }
 found_words a targets (d ∷ codes) (g ∷ fs) at (suc k) x c f hc hf hx =
-    let own = filled (name_address a targets g.text) d.words d.holes in
-    let mid = filled (name_address a targets f.text) c.words c.holes in
+    let own = filled at (name_address a targets g.text) d.words d.holes in
+    let mid = filled x (name_address a targets f.text) c.words c.holes in
     let rest = found_words a targets codes fs (at + 4 * length d.words) k x c f hc hf hx in
-    let long : length own ≡ length d.words = filled_length (name_address a targets g.text) d.words d.holes in
+    let long : length own ≡ length d.words = filled_length at (name_address a targets g.text) d.words d.holes in
     let both : length (own ++ rest.pre) ≡ length own + length rest.pre = length-append own rest.pre in
     let place = rest.place in
     record {
@@ -167,15 +170,32 @@ found_words a targets (d ∷ codes) (g ∷ fs) at (suc k) x c f hc hf hx =
       place = omega (arith, long, both, place);
     }
 
+-- so do its calls reach what they go to
+pub found_reach : (a : Addresses) (targets : List (List Target)) (codes : List Words) (fs : List (InText Func)) (at k x : ℕ) (c : Words) (f : InText Func) → functions_reach a targets at codes fs ≡ true → slice_get codes k ≡ Some c → slice_get fs k ≡ Some f
+    → slice_get (function_addresses at codes) k ≡ Some x → all_reach x (name_address a targets f.text) c.holes ≡ true
+found_reach a targets [] fs at k x c f reach hc hf hx = absurd (let no : ⊥ = cc in no)
+found_reach a targets (d ∷ codes) [] at k x c f reach hc hf hx = absurd (let no : ⊥ = cc in no)
+found_reach a targets (d ∷ codes) (g ∷ fs) at zero x c f reach hc hf hx =
+    let code : d ≡ c = cc in
+    let func : g ≡ f = cc in
+    let same : at ≡ x = cc in
+    let mine = (and_parts (all_reach at (name_address a targets g.text) d.holes) (functions_reach a targets (at + 4 * length d.words) codes fs) reach).0 in
+    subst (λ n. all_reach n (name_address a targets f.text) c.holes ≡ true) same
+    (subst (λ (e : InText Func). all_reach at (name_address a targets e.text) c.holes ≡ true) func
+    (subst (λ (e : Words). all_reach at (name_address a targets g.text) e.holes ≡ true) code mine))
+found_reach a targets (d ∷ codes) (g ∷ fs) at (suc k) x c f reach hc hf hx =
+    found_reach a targets codes fs (at + 4 * length d.words) k x c f
+    (and_parts (all_reach at (name_address a targets g.text) d.holes) (functions_reach a targets (at + 4 * length d.words) codes fs) reach).1 hc hf hx
+
 abbrev first_words : Program → List Words → List ℕ
 first_words p codes = start_words (callee_address (addresses_of p codes) (Defined p.main)) ++ write_words ++ exit_words
 
 pub function_stands : (p : Program) (codes : List Words) (x : Executable) (words : List (List ℕ)) (s : State) → IsImage (contents_of p codes) → Stands (contents_of p codes) x → Starts x words s
     → (k at : ℕ) (c : Words) (f : InText Func) → slice_get codes k ≡ Some c → slice_get p.functions k ≡ Some f → entries_of p codes (Defined k) ≡ Some at
-    → WordsStand (ground_of s) at (filled (name_address (addresses_of p codes) p.targets f.text) c.words c.holes)
+    → WordsStand (ground_of s) at (filled at (name_address (addresses_of p codes) p.targets f.text) c.words c.holes)
 function_stands p codes x words s good stands starts k at c f hc hf hat =
     let a = addresses_of p codes in
-    let mid = filled (name_address a p.targets f.text) c.words c.holes in
+    let mid = filled at (name_address a p.targets f.text) c.words c.holes in
     let found = found_words a p.targets codes p.functions functions_start k at c f hc hf hat in
     let whole : (contents_of p codes).code ≡ (first_words p codes ++ found.pre) ++ (mid ++ found.post) =
     ap (λ l. first_words p codes ++ l) found.is ∙ sym (append_assoc (first_words p codes) found.pre (mid ++ found.post)) in
@@ -394,19 +414,20 @@ pub length_objects : (at : ℕ) (ds : List (InText DataDef)) → length (object_
 length_objects at [] = refl
 length_objects at (d ∷ ds) = ap suc (length_objects (at + round_16 (object_size d.item)) ds)
 
-words_end : (a : Addresses) (targets : List (List Target)) (at : ℕ) (codes : List Words) (fs : List (InText Func)) → length codes ≡ length fs → functions_end at codes ≡ at + 4 * length (functions_words a targets codes fs)
+words_end : (a : Addresses) (targets : List (List Target)) (at : ℕ) (codes : List Words) (fs : List (InText Func)) → length codes ≡ length fs → functions_end at codes ≡ at + 4 * length (functions_words a targets at codes fs)
 words_end a targets at [] fs same = omega arith
 words_end a targets at (c ∷ codes) [] same = absurd (omega (arith, same))
 words_end a targets at (c ∷ codes) (f ∷ fs) same =
-    let own = filled (name_address a targets f.text) c.words c.holes in
-    let long : length own ≡ length c.words = filled_length (name_address a targets f.text) c.words c.holes in
-    let both : length (own ++ functions_words a targets codes fs) ≡ length own + length (functions_words a targets codes fs) = length-append own (functions_words a targets codes fs) in
+    let own = filled at (name_address a targets f.text) c.words c.holes in
+    let others : List ℕ = functions_words a targets (at + 4 * length c.words) codes fs in
+    let long : length own ≡ length c.words = filled_length at (name_address a targets f.text) c.words c.holes in
+    let both : length (own ++ others) ≡ length own + length others = length-append own others in
     let rest = words_end a targets (at + 4 * length c.words) codes fs (omega (arith, same)) in
     omega (arith, long, both, rest)
 
 data_begins : (p : Program) (codes : List Words) → length codes ≡ length p.functions → data_start (contents_of p codes) ≡ objects_start codes
 data_begins p codes same =
-    let fw = functions_words (addresses_of p codes) p.targets codes p.functions in
+    let fw = functions_words (addresses_of p codes) p.targets functions_start codes p.functions in
     let end = words_end (addresses_of p codes) p.targets functions_start codes p.functions same in
     let long : length (first_words p codes ++ fw) ≡ 12 + length fw = length-append (first_words p codes) fw in
     let size : 4 * length (first_words p codes ++ fw) ≡ functions_end functions_start codes - code_start = omega (arith, end, long) in

@@ -25,7 +25,7 @@ use Rattle.rv_isa.proofs.StepLemmas.{step_at}
 use Rattle.rv_isa.proofs.RunLemmas.{comes_then, comes_by_step}
 use Rattle.asm_layout.proofs.Running.{instr_at, put_fits}
 use Rattle.obj_link.specs.Image.{IsImage}
-use Rattle.obj_link.specs.Natives.{start_words, write_words, exit_words, write_address, exit_address}
+use Rattle.obj_link.specs.Natives.{start_words, write_words, exit_words, functions_start, write_address, exit_address}
 use Rattle.obj_link.specs.Placed.{callee_address, functions_words, addresses_of, contents_of}
 use Rattle.elf_file.specs.Loaded.{Executable}
 use Rattle.elf_file.specs.Stands.{Stands}
@@ -344,7 +344,7 @@ exit_performs w sp j s stand ready (d ∷ []) e =
 -- ---- both
 
 abbrev pub behind_start : Program → List Words → List ℕ
-behind_start p codes = functions_words (addresses_of p codes) p.targets codes p.functions
+behind_start p codes = functions_words (addresses_of p codes) p.targets functions_start codes p.functions
 
 abbrev pub main_of : Program → List Words → ℕ
 main_of p codes = callee_address (addresses_of p codes) (Defined p.main)

@@ -1,6 +1,6 @@
 -- What the words that are made for a function owe, and what the executable of a program whose
 -- functions have such words does.
-use Rattle.std.specs.Prelude.{ℕ, ◌≤◌, List, [], ◌∷◌, length}
+use Rattle.std.specs.Prelude.{ℕ, ◌≤◌, IsTrue, List, [], ◌∷◌, length}
 use Rattle.il_ast.specs.declared.limits.TheConstants.{WORDS, WORD_BYTES}
 use Rattle.il_ast.specs.declared.function.Func.{Func}
 use Rattle.il_ast.specs.declared.program.InText.{InText}
@@ -20,7 +20,7 @@ use Rattle.rv_isa.specs.Words.{Words}
 use Rattle.rv_isa.specs.State.{State}
 use Rattle.rv_isa.specs.Start.{word_bytes}
 use Rattle.obj_link.specs.Image.{IsImage}
-use Rattle.obj_link.specs.Placed.{contents_of, FitsBelow, EveryCode}
+use Rattle.obj_link.specs.Placed.{contents_of, calls_reach, FitsBelow, EveryCode}
 use Rattle.elf_file.specs.Loaded.{Executable}
 use Rattle.elf_file.specs.Stands.{Stands}
 use Rattle.rv_machine.specs.Start.{Starts}
@@ -73,7 +73,7 @@ abbrev pub StandsIn : Type 0
 StandsIn = (p : Program) (f : InText Func) (c : Words) → StandFor f.item c → StandIn p f c
 
 -- From every start of the program's executable, with words within their limits, the machine
--- executes the program, where words stand in for each of its functions. It needn't be a program of
+-- executes the program, where words stand in for each of its functions and their calls reach. It needn't be a program of
 -- texts: its functions may be any that the words stand in for.
 abbrev pub ReplacedRuns : Type 0
 ReplacedRuns =
@@ -82,6 +82,7 @@ ReplacedRuns =
     → EachStandsIn p codes p.functions
     → EveryCode codes
     → FitsBelow p codes
+    → IsTrue (calls_reach p codes)
     → IsImage (contents_of p codes)
     → Stands (contents_of p codes) x
     → Starts x words s
@@ -97,6 +98,7 @@ CompiledRuns =
     → EachStands codes p.functions
     → EveryCode codes
     → FitsBelow p codes
+    → IsTrue (calls_reach p codes)
     → IsImage (contents_of p codes)
     → Stands (contents_of p codes) x
     → Starts x words s

@@ -5,7 +5,7 @@ use Rattle.std.specs.List.{list_all}
 use Rattle.std.proofs.lemmas.Bool.{and_from}
 use Rattle.rv_isa.specs.Labels.{IsLabelled, longest, longest_size, is_label, times_labelled, has_label_below}
 use Rattle.rv_isa.specs.declared.labelled.Item.{Item}
-use Rattle.rv_isa.specs.declared.labelled.Item.TheVariants.{Plain, Label, Branch, Goto, Relocated}
+use Rattle.rv_isa.specs.declared.labelled.Item.TheVariants.{Plain, Label, Branch, Goto, Call, Relocated}
 use Rattle.rv_isa.specs.declared.instruction.Instr.{Instr}
 
 -- ---- an item, a run of one instruction, and another item
@@ -53,6 +53,7 @@ no_label (Plain i) takes l = refl
 no_label (Label m) takes l = absurd (omega arith)
 no_label (Branch op rs1 rs2 m) takes l = refl
 no_label (Goto m) takes l = refl
+no_label (Call n) takes l = refl
 no_label (Relocated r) takes l = refl
 
 one_label : (t s : Bool) → s ≡ false → (if t then 1 else 0) + (if s then 1 else 0) ≤ 1

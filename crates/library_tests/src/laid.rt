@@ -4,12 +4,13 @@ ghost use Rattle.std.specs.Prelude.{◌≡◌, ◌<◌, ◌≤◌, true, false};
 ghost use Rattle.rv_isa.specs.Labels.{longest, has_label_below};
 
 use crate::same::is_number;
+use asm_layout::call::CallForm;
 use asm_layout::layout::layout;
 use rv_isa::code::Hole;
 use rv_isa::instruction::{BranchOp, ImmOp, Instr};
 use rv_isa::labelled::{Item, LabelledCode};
 use rv_isa::ranges::{Immediate, Register};
-use rv_isa::relocation::{Partial, Relocation};
+use rv_isa::relocation::{Filling, Partial, Relocation};
 use std::alloc::{AllocError, Global};
 use std::process::Abort;
 
@@ -67,9 +68,21 @@ fn are_halves(holes: &[Hole]) -> bool {
     match holes {
         [upper, lower] => {
             upper.word == 1
-                && matches!(upper.relocation.instruction, Partial::Upper(_))
+                && matches!(
+                    upper.filling,
+                    Filling::Part(Relocation {
+                        instruction: Partial::Upper(_),
+                        ..
+                    })
+                )
                 && lower.word == 2
-                && matches!(lower.relocation.instruction, Partial::Add { .. })
+                && matches!(
+                    lower.filling,
+                    Filling::Part(Relocation {
+                        instruction: Partial::Add { .. },
+                        ..
+                    })
+                )
         }
         _ => false,
     }
@@ -114,7 +127,7 @@ fn is_laid(
     first: &[u32],
     last: &[u32],
 ) -> Result<(), AllocError> {
-    let laid = layout(alloc, code)?;
+    let laid = layout(alloc, CallForm::Near, code)?;
     is_number(rt, laid.words().len(), words);
     assert!(rt; laid.words().starts_with(first));
     assert!(rt; laid.words().ends_with(last));
@@ -332,7 +345,7 @@ fn a_function_of_all_items(rt: HostRuntime) -> Result<(), AllocError> {
         NOP,
         JUMP,
     ]?;
-    let laid = layout(rt.alloc(), LabelledCode::new(items, 1))?;
+    let laid = layout(rt.alloc(), CallForm::Near, LabelledCode::new(items, 1))?;
     let words: &[u32] = &[0x0005_0063, 0x0000_0537, 0x0005_0513, NOP_WORD, 0xff1f_f06f];
     assert!(rt; laid.words() == words);
     assert!(rt; are_halves(laid.holes()));

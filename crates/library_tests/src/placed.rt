@@ -14,7 +14,7 @@ use obj_link::{Image, SLOT};
 use rv_isa::code::{Hole, MachineCode};
 use rv_isa::instruction::LoadOp;
 use rv_isa::ranges::{Immediate, Register};
-use rv_isa::relocation::{Partial, Relocation};
+use rv_isa::relocation::{Filling, Partial, Relocation};
 use std::alloc::{AllocError, Global};
 use std::process::Abort;
 use std::test::Fail;
@@ -143,7 +143,10 @@ fn hole(word: usize, instruction: Partial, offset: Immediate) -> Hole
         global: 0,
         offset,
     };
-    Hole { word, relocation }
+    Hole {
+        word,
+        filling: Filling::Part(relocation),
+    }
 }
 
 // One function of three words, of which two wait for its own address: a load of eight bytes 1,072 bytes below it.

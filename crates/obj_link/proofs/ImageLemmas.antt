@@ -28,7 +28,8 @@ use Rattle.il_ast.specs.Start.{target_value, values_of, address_cells, item_cell
 use Rattle.rv_isa.specs.Words.{Words}
 use Rattle.rv_isa.specs.Laid.{filled}
 use Rattle.rv_isa.specs.Encoding.{word}
-use Rattle.rv_isa.specs.Relocations.{upper_part, lower_part, relocated}
+use Rattle.rv_isa.specs.Relocations.{upper_part, lower_part, named, filled_in}
+use Rattle.rv_isa.specs.declared.instruction.Instr.{Instr}
 use Rattle.rv_isa.specs.declared.instruction.Instr.TheVariants.{Lui, Addiw}
 use Rattle.rv_isa.specs.declared.code.Hole.{Hole}
 use Rattle.rv_isa.specs.declared.ranges.Register.{Register}
@@ -173,17 +174,17 @@ data_end a targets at (d ∷ ds) =
 -- ---- sizes of code
 
 functions_count : (a : Addresses) (targets : List (List Target)) (at : ℕ) (codes : List Words) (fs : List (InText Func)) → length codes ≡ length fs
-    → at + 4 * length (functions_words a targets codes fs) ≡ functions_end at codes
+    → at + 4 * length (functions_words a targets at codes fs) ≡ functions_end at codes
 functions_count a targets at [] fs same = omega arith
 functions_count a targets at (c ∷ codes) [] same = absurd (omega arith)
 functions_count a targets at (c ∷ codes) (f ∷ fs) same =
-    let mine : List ℕ = filled (name_address a targets f.text) c.words c.holes in
-    let size = filled_length (name_address a targets f.text) c.words c.holes in
-    let sum = length-append mine (functions_words a targets codes fs) in
+    let mine : List ℕ = filled at (name_address a targets f.text) c.words c.holes in
+    let size = filled_length at (name_address a targets f.text) c.words c.holes in
+    let sum = length-append mine (functions_words a targets (at + 4 * length c.words) codes fs) in
     let rest = functions_count a targets (at + 4 * length c.words) codes fs (omega arith) in
     omega arith
 
-code_count : (a : Addresses) (p : Program) (codes : List Words) → length (code_of a p codes) ≡ 12 + length (functions_words a p.targets codes p.functions)
+code_count : (a : Addresses) (p : Program) (codes : List Words) → length (code_of a p codes) ≡ 12 + length (functions_words a p.targets functions_start codes p.functions)
 code_count a p codes = omega arith
 
 pub record Ends (p : Program) (codes : List Words) : Type 0 where
@@ -218,19 +219,19 @@ wide_set (x ∷ ws) zero w h small (suc n) = h (suc n)
 wide_set (x ∷ ws) (suc at) w h small zero = h zero
 wide_set (x ∷ ws) (suc at) w h small (suc n) = wide_set ws at w (λ m. h (suc m)) small n
 
-wide_filled : (global : ℕ → ℕ) (ws : List ℕ) (hs : List Hole) → Wide ws → Wide (filled global ws hs)
-wide_filled global ws [] h = h
-wide_filled global ws (x ∷ hs) h =
-    let w : ℕ = word (relocated x.relocation (global x.relocation.global)) in
-    wide_filled global (slice_set ws x.word w) hs (wide_set ws x.word w h (word_small (relocated x.relocation (global x.relocation.global))))
+wide_filled : (at : ℕ) (global : ℕ → ℕ) (ws : List ℕ) (hs : List Hole) → Wide ws → Wide (filled at global ws hs)
+wide_filled at global ws [] h = h
+wide_filled at global ws (x ∷ hs) h =
+    let i : Instr = filled_in x.filling (at + 4 * x.word) (global (named x.filling)) in
+    wide_filled at global (slice_set ws x.word (word i)) hs (wide_set ws x.word (word i) h (word_small i))
 
-functions_wide : (a : Addresses) (targets : List (List Target)) (codes : List Words) (fs : List (InText Func)) → EveryCode codes
-    → Wide (functions_words a targets codes fs)
-functions_wide a targets [] fs every = λ n. lit< tt
-functions_wide a targets (c ∷ codes) [] every = λ n. lit< tt
-functions_wide a targets (c ∷ codes) (f ∷ fs) every =
-    wide_both (filled (name_address a targets f.text) c.words c.holes) (functions_words a targets codes fs)
-    (wide_filled (name_address a targets f.text) c.words c.holes every.0.words) (functions_wide a targets codes fs every.1)
+functions_wide : (a : Addresses) (targets : List (List Target)) (at : ℕ) (codes : List Words) (fs : List (InText Func)) → EveryCode codes
+    → Wide (functions_words a targets at codes fs)
+functions_wide a targets at [] fs every = λ n. lit< tt
+functions_wide a targets at (c ∷ codes) [] every = λ n. lit< tt
+functions_wide a targets at (c ∷ codes) (f ∷ fs) every =
+    wide_both (filled at (name_address a targets f.text) c.words c.holes) (functions_words a targets (at + 4 * length c.words) codes fs)
+    (wide_filled at (name_address a targets f.text) c.words c.holes every.0.words) (functions_wide a targets (at + 4 * length c.words) codes fs every.1)
 
 start_wide : (main : ℕ) → Wide (start_words main)
 start_wide main =
@@ -243,10 +244,10 @@ natives_wide = small_at (write_words ++ exit_words) (lit< tt, (lit< tt, (lit< tt
 
 code_wide : (a : Addresses) (p : Program) (codes : List Words) → EveryCode codes → Wide (code_of a p codes)
 code_wide a p codes every =
-    let fs : List ℕ = functions_words a p.targets codes p.functions in
+    let fs : List ℕ = functions_words a p.targets functions_start codes p.functions in
     wide_both (start_words (callee_address a (Defined p.main))) (write_words ++ exit_words ++ fs)
     (start_wide (callee_address a (Defined p.main)))
-    (wide_both (write_words ++ exit_words) fs natives_wide (functions_wide a p.targets codes p.functions every))
+    (wide_both (write_words ++ exit_words) fs natives_wide (functions_wide a p.targets functions_start codes p.functions every))
 
 -- ---- the image
 

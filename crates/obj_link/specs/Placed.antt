@@ -1,5 +1,5 @@
 -- A program's code and data at their addresses.
-use Rattle.std.specs.Prelude.{ℕ, ◌+◌, ◌-◌, ◌*◌, ◌%◌, ◌^◌, ◌≤◌, List, [], ◌∷◌, ◌++◌, length, map, replicate, slice_get, slice_index, Option, Some, None}
+use Rattle.std.specs.Prelude.{ℕ, ◌+◌, ◌-◌, ◌*◌, ◌%◌, ◌^◌, ◌≤◌, Bool, true, ◌&&◌, List, [], ◌∷◌, ◌++◌, length, map, replicate, slice_get, slice_index, Option, Some, None}
 use Rattle.std.specs.Option.{option_and_then}
 use Rattle.std.specs.Int.{byte_at}
 use Rattle.std.specs.List.{flat_map}
@@ -18,7 +18,7 @@ use Rattle.il_ast.specs.declared.value.Value.TheVariants.{Integer, Pointer, Func
 use Rattle.il_ast.specs.Cost.{weight, round_16}
 use Rattle.il_ast.specs.Start.{object_cells}
 use Rattle.rv_isa.specs.Words.{Words, IsCode}
-use Rattle.rv_isa.specs.Laid.{filled}
+use Rattle.rv_isa.specs.Laid.{filled, all_reach}
 use Rattle.obj_link.specs.declared.placing.addresses.Addresses.{Addresses}
 use Rattle.obj_link.specs.Image.{Contents, code_start, image_end, round_to_page}
 use Rattle.obj_link.specs.Limits.{object_size}
@@ -77,18 +77,28 @@ name_address a targets t n = target_address a (meaning targets t n)
 
 -- ---- code
 
--- each function's words, with the addresses of its text's names
-abbrev pub functions_words : Addresses → List (List Target) → List Words → List (InText Func) →
-    List ℕ
-functions_words a targets [] fs = []
-functions_words a targets (c ∷ codes) [] = []
-functions_words a targets (c ∷ codes) (f ∷ fs) =
-    filled (name_address a targets f.text) c.words c.holes ++ functions_words a targets codes fs
+-- each function's words, from an address on, with the addresses of its text's names
+abbrev pub functions_words : Addresses → List (List Target) → (at : ℕ) → List Words →
+    List (InText Func) → List ℕ
+functions_words a targets at [] fs = []
+functions_words a targets at (c ∷ codes) [] = []
+functions_words a targets at (c ∷ codes) (f ∷ fs) =
+    filled at (name_address a targets f.text) c.words c.holes
+    ++ functions_words a targets (at + 4 * length c.words) codes fs
 
 abbrev pub code_of : Addresses → Program → List Words → List ℕ
 code_of a p codes =
     start_words (callee_address a (Defined p.main)) ++ write_words ++ exit_words
-    ++ functions_words a p.targets codes p.functions
+    ++ functions_words a p.targets functions_start codes p.functions
+
+-- each call reaches its function
+abbrev pub functions_reach : Addresses → List (List Target) → (at : ℕ) → List Words →
+    List (InText Func) → Bool
+functions_reach a targets at [] fs = true
+functions_reach a targets at (c ∷ codes) [] = true
+functions_reach a targets at (c ∷ codes) (f ∷ fs) =
+    all_reach at (name_address a targets f.text) c.holes
+    && functions_reach a targets (at + 4 * length c.words) codes fs
 
 -- ---- data
 
@@ -116,6 +126,11 @@ object_bytes a p d = in_slots (map (cell_byte a) (object_cells p d))
 abbrev pub contents_with : Addresses → Program → List Words → Contents
 contents_with a p codes =
     record { code = code_of a p codes; data_bytes = flat_map (object_bytes a p) p.objects }
+
+-- all calls of a program whose functions have these words reach their functions
+abbrev pub calls_reach : Program → List Words → Bool
+calls_reach p codes =
+    functions_reach (addresses_of p codes) p.targets functions_start codes p.functions
 
 -- the image of a program whose functions have these words
 abbrev pub contents_of : Program → List Words → Contents

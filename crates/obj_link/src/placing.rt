@@ -6,3 +6,4 @@ pub(crate) mod fill;
 pub(crate) mod image;
 pub(crate) mod natives;
 pub mod place;
+pub(crate) mod reach;

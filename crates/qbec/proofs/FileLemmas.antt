@@ -1,10 +1,11 @@
 -- The file of a program whose functions have words that stand for what they become.
-use Rattle.std.proofs.Common.{◌≡◌, ℕ, ◌≤◌, List, length, subst}
+use Rattle.std.proofs.Common.{◌≡◌, ℕ, ◌≤◌, List, length, sym, ◌∙◌, subst}
+use Rattle.std.specs.Prelude.{IsTrue}
 use Rattle.il_ast.specs.declared.program.Program.{Program}
 use Rattle.il_types.specs.declared.checked.Checked.{Checked}
 use Rattle.rv_isa.specs.Words.{Words}
 use Rattle.obj_link.specs.Image.{Contents, IsImage}
-use Rattle.obj_link.specs.Placed.{contents_of, FitsBelow}
+use Rattle.obj_link.specs.Placed.{contents_of, calls_reach, FitsBelow}
 use Rattle.obj_link.specs.Program.{IsProgram}
 use Rattle.obj_link.proofs.FitLemmas.{program_fits}
 use Rattle.rv_isa.specs.State.{State}
@@ -22,7 +23,7 @@ use Rattle.headline.proofs.CompiledRuns.{replaced_runs}
 use Rattle.qbec.specs.Codes.{AreWords}
 use Rattle.qbec.specs.Compile.{IsExecutableOf, IsFile}
 use Rattle.qbec.specs.Promoted.{with_functions}
-use Rattle.qbec.proofs.PromotedFunctions.{compiled, one_each, is_promoted, names_are_there, same_contents}
+use Rattle.qbec.proofs.PromotedFunctions.{compiled, one_each, is_promoted, names_are_there, same_contents, calls_still_reach}
 use Rattle.qbec.proofs.ExecutableBytes.{has_bytes}
 use Rattle.qbec.proofs.PromotedRuns.{executes_so}
 
@@ -31,8 +32,8 @@ fits_below texts p codes is words = program_fits texts p codes is words.few
 
 -- the machine executes the program in whose place the promoted one is compiled
 runs_promoted : (texts : List Checked) (p : Program) (codes : List Words) (x : Executable) (ws : List (List ℕ)) (s : State)
-    → IsProgram texts p → AreWords codes p → IsImage (contents_of p codes) → Stands (contents_of p codes) x → Starts x ws s → length ws ≤ 1024 → length (word_bytes ws) ≤ 65536 → Executes p ws s
-runs_promoted texts p codes x ws s is words good stands starts few short =
+    → IsProgram texts p → AreWords codes p → IsTrue (calls_reach p codes) → IsImage (contents_of p codes) → Stands (contents_of p codes) x → Starts x ws s → length ws ≤ 1024 → length (word_bytes ws) ≤ 65536 → Executes p ws s
+runs_promoted texts p codes x ws s is words reach good stands starts few short =
     let made = compiled p codes p.functions words.stand in
     let q = with_functions p made.functions in
     let is_q = is_promoted p made.functions made.are in
@@ -42,11 +43,11 @@ runs_promoted texts p codes x ws s is words good stands starts few short =
     let well = stands_well p codes x has (one_each p codes p.functions words.stand) words.every fits good stands in
     let bytes = has_bytes p codes x ws s has well.data_bytes starts few in
     executes_so p q ws s starts.begins.silent (λ n. outcome_stays p q ws n is_q bytes)
-    (replaced_runs q codes x ws s (names_are_there p made.functions made.are has) (made.stand q is_q) words.every fits (subst IsImage same good)
+    (replaced_runs q codes x ws s (names_are_there p made.functions made.are has) (made.stand q is_q) words.every fits (sym (calls_still_reach p codes made.functions made.are) ∙ reach) (subst IsImage same good)
     (subst (λ i. Stands i x) same stands) starts few short)
 
-pub is_file : (texts : List Checked) (p : Program) (codes : List Words) (image : Contents) (bytes : List ℕ) → IsProgram texts p → AreWords codes p → image ≡ contents_of p codes → IsImage image → Loads bytes (executable_of image) → Stands image (executable_of image) → IsFile p bytes
-is_file texts p codes image bytes is words made good loads stands =
+pub is_file : (texts : List Checked) (p : Program) (codes : List Words) (image : Contents) (bytes : List ℕ) → IsProgram texts p → AreWords codes p → IsTrue (calls_reach p codes) → image ≡ contents_of p codes → IsImage image → Loads bytes (executable_of image) → Stands image (executable_of image) → IsFile p bytes
+is_file texts p codes image bytes is words reach made good loads stands =
     record {
       file = executable_of image;
       loads = loads;
@@ -62,6 +63,6 @@ is_file texts p codes image bytes is words made good loads stands =
           stands = subst (λ i. Stands i (executable_of image)) made stands;
           runs =
               λ ws s starts few short.
-              runs_promoted texts p codes (executable_of image) ws s is words (subst IsImage made good)
+              runs_promoted texts p codes (executable_of image) ws s is words reach (subst IsImage made good)
               (subst (λ i. Stands i (executable_of image)) made stands) starts few short;
         }

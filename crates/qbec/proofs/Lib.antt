@@ -7,6 +7,7 @@ pub mod CandidateCalls
 pub mod Placing
 pub mod ExecutableBytes
 pub mod PromotedRuns
+pub mod Reaching
 pub mod FileLemmas
 pub mod CompileLemmas
 pub mod ListingLemmas

@@ -30,6 +30,7 @@ use Rattle.qbec.specs.Candidates.{IsCandidateCode, IsCandidateMeant, AreCandidat
 use Rattle.qbec.specs.Pipeline.{AreCandidatesOf, IsCodeWith, StandWith, StandWithin}
 use Rattle.promote.specs.Promoted.{IsPromoted}
 use Rattle.rv_isa.specs.Words.{Words}
+use Rattle.asm_layout.specs.declared.call.CallForm.{CallForm}
 use Rattle.qbec.proofs.PromotedFunctions.{promoted_at, one_promoted}
 use Rattle.qbec.proofs.CandidateCalls.{candidate_goes}
 
@@ -67,8 +68,8 @@ pub no_candidates : (p : Program) (text : ℕ) → AreCandidatesOf p text []
 no_candidates p text name candidate here = absurd (let no : ⊥ = cc in no)
 
 -- what stands without candidates stands with any
-pub stands_anyhow : (candidates : List (Option VFunc)) (f : Func) (c : Words) → StandWithin [] f c → StandWithin candidates f c
-stands_anyhow candidates f c stands = (λ p text are. stands.0 p text (no_candidates p text), stands.1)
+pub stands_anyhow : (form : CallForm) (candidates : List (Option VFunc)) (f : Func) (c : Words) → StandWithin form [] f c → StandWithin form candidates f c
+stands_anyhow form candidates f c stands = (λ p text are. stands.0 p text (no_candidates p text), stands.1)
 
 -- the code of a function of the program, with calls of candidates of its text in place
 pub candidate_is : (p : Program) (text number : ℕ) (below : List (Option VFunc)) (f : InText Func) (candidate : VFunc) → slice_get p.functions number ≡ Some f → f.text ≡ text → AreCandidatesAt p text below → IsCandidateCode below f.item candidate

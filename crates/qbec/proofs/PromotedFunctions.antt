@@ -1,5 +1,5 @@
 -- The functions that are compiled in the place of a program's.
-use Rattle.std.proofs.Common.{◌≡◌, ℕ, zero, suc, ◌<◌, List, [], ◌∷◌, ◌++◌, length, map, slice_get, Some, refl, sym, ◌∙◌, ap, subst}
+use Rattle.std.proofs.Common.{◌≡◌, ℕ, zero, suc, ◌+◌, ◌*◌, ◌<◌, ◌&&◌, List, [], ◌∷◌, ◌++◌, length, map, slice_get, Some, refl, sym, ◌∙◌, ap, subst}
 use Rattle.il_ast.specs.declared.function.Func.{Func}
 use Rattle.il_ast.specs.declared.program.InText.{InText}
 use Rattle.il_ast.specs.declared.program.Program.{Program}
@@ -8,11 +8,11 @@ use Rattle.il_ast.specs.declared.value.Callee.TheVariants.{Defined}
 use Rattle.il_ast.specs.Cost.{weight}
 use Rattle.phi_copies.specs.Good.{IsGoodFunction}
 use Rattle.rv_isa.specs.Words.{Words}
-use Rattle.rv_isa.specs.Laid.{filled}
+use Rattle.rv_isa.specs.Laid.{filled, all_reach}
 use Rattle.obj_link.specs.declared.placing.addresses.Addresses.{Addresses}
 use Rattle.obj_link.specs.Laws.{IsThere}
-use Rattle.obj_link.specs.Natives.{start_words, write_words, exit_words}
-use Rattle.obj_link.specs.Placed.{name_address, functions_words, addresses_of, callee_address, contents_of}
+use Rattle.obj_link.specs.Natives.{start_words, write_words, exit_words, functions_start}
+use Rattle.obj_link.specs.Placed.{name_address, functions_words, functions_reach, addresses_of, callee_address, contents_of, calls_reach}
 use Rattle.promote.specs.Uses.{mentions_of, width_in}
 use Rattle.promote.specs.Promoted.{IsPromoted, promoted_block}
 use Rattle.il_reader.specs.Definitions.{FunctionParts, function_parts}
@@ -114,18 +114,31 @@ names_are_there p gs are has =
       main = subst (λ k. p.main < k) many has.main;
     }
 
-same_words : (a : Addresses) (targets : List (List Target)) (codes : List Words) (fs gs : List (InText Func)) → ArePromoted fs gs → functions_words a targets codes fs ≡ functions_words a targets codes gs
-same_words a targets [] fs gs h = refl
-same_words a targets (c ∷ codes) [] [] h = refl
-same_words a targets (c ∷ codes) [] (g ∷ gs) h = absurd h
-same_words a targets (c ∷ codes) (f ∷ fs) [] h = absurd h
-same_words a targets (c ∷ codes) (f ∷ fs) (g ∷ gs) h =
-    ap (λ t. filled (name_address a targets t) c.words c.holes ++ functions_words a targets codes fs) (sym h.0)
-    ∙ ap (λ ws. filled (name_address a targets g.text) c.words c.holes ++ ws) (same_words a targets codes fs gs h.2)
+same_words : (a : Addresses) (targets : List (List Target)) (at : ℕ) (codes : List Words) (fs gs : List (InText Func)) → ArePromoted fs gs → functions_words a targets at codes fs ≡ functions_words a targets at codes gs
+same_words a targets at [] fs gs h = refl
+same_words a targets at (c ∷ codes) [] [] h = refl
+same_words a targets at (c ∷ codes) [] (g ∷ gs) h = absurd h
+same_words a targets at (c ∷ codes) (f ∷ fs) [] h = absurd h
+same_words a targets at (c ∷ codes) (f ∷ fs) (g ∷ gs) h =
+    ap (λ t. filled at (name_address a targets t) c.words c.holes ++ functions_words a targets (at + 4 * length c.words) codes fs) (sym h.0)
+    ∙ ap (λ ws. filled at (name_address a targets g.text) c.words c.holes ++ ws) (same_words a targets (at + 4 * length c.words) codes fs gs h.2)
+
+-- and their calls reach as they do
+same_reach : (a : Addresses) (targets : List (List Target)) (at : ℕ) (codes : List Words) (fs gs : List (InText Func)) → ArePromoted fs gs → functions_reach a targets at codes fs ≡ functions_reach a targets at codes gs
+same_reach a targets at [] fs gs h = refl
+same_reach a targets at (c ∷ codes) [] [] h = refl
+same_reach a targets at (c ∷ codes) [] (g ∷ gs) h = absurd h
+same_reach a targets at (c ∷ codes) (f ∷ fs) [] h = absurd h
+same_reach a targets at (c ∷ codes) (f ∷ fs) (g ∷ gs) h =
+    ap (λ t. all_reach at (name_address a targets t) c.holes && functions_reach a targets (at + 4 * length c.words) codes fs) (sym h.0)
+    ∙ ap (λ b. all_reach at (name_address a targets g.text) c.holes && b) (same_reach a targets (at + 4 * length c.words) codes fs gs h.2)
+
+pub calls_still_reach : (p : Program) (codes : List Words) (gs : List (InText Func)) → ArePromoted p.functions gs → calls_reach p codes ≡ calls_reach (with_functions p gs) codes
+calls_still_reach p codes gs are = same_reach (addresses_of p codes) p.targets functions_start codes p.functions gs are
 
 -- words for functions of the same texts make the same image
 pub same_contents : (p : Program) (codes : List Words) (gs : List (InText Func)) → ArePromoted p.functions gs → contents_of p codes ≡ contents_of (with_functions p gs) codes
 same_contents p codes gs are =
     let a = addresses_of p codes in
     ap (λ ws. record (contents_of p codes) { code = start_words (callee_address a (Defined p.main)) ++ write_words ++ exit_words ++ ws })
-    (same_words a p.targets codes p.functions gs are)
+    (same_words a p.targets functions_start codes p.functions gs are)

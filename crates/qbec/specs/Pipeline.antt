@@ -17,6 +17,8 @@ use Rattle.abi_frames.specs.Frames.{IsFrameOf}
 use Rattle.rv_isa.specs.declared.labelled.Item.{Item}
 use Rattle.rv_isa.specs.Laid.{LaysOut}
 use Rattle.rv_isa.specs.Words.{Words}
+use Rattle.asm_layout.specs.Forms.{HaveForm}
+use Rattle.asm_layout.specs.declared.call.CallForm.{CallForm}
 use Rattle.headline.specs.Functions.{IsCodeIn}
 use Rattle.headline.specs.Compiled.{StandIn}
 
@@ -47,11 +49,13 @@ IsCodeWith candidates f c =
     (p : Program) (text : ℕ) → AreCandidatesOf p text candidates →
     IsCodeIn p (record { text = text; item = f }) c
 
--- words for location code, wherever they stand, and how many they are at most
-pub record IsLaidOut (l : LFunc) (c : Words) : Type 0 where
+-- words for location code, wherever they stand, with calls in this form, and how many they are at
+-- most
+pub record IsLaidOut (form : CallForm) (l : LFunc) (c : Words) : Type 0 where
   pub items : List Item
   pub machine : IsFrameOf l.code l.slots items
   pub laid : LaysOut items c.words c.holes
+  pub calls : HaveForm form c.holes
   pub few : length c.words ≤ 32 * code_weight l.code + 256
 
 -- words that stand in for the function, in every text of a program whose candidates these are
@@ -60,6 +64,7 @@ StandWith candidates f c =
     (p : Program) (text : ℕ) → AreCandidatesOf p text candidates →
     StandIn p (record { text = text; item = f }) c
 
--- and as few as its weight allows: 32 for each unit, and 256
-abbrev pub StandWithin : List (Option VFunc) → Func → Words → Type 0
-StandWithin candidates f c = StandWith candidates f c × (length c.words ≤ 32 * weight f + 256)
+-- and as few as its weight allows, 32 for each unit, and 256; with calls in this form
+abbrev pub StandWithin : CallForm → List (Option VFunc) → Func → Words → Type 0
+StandWithin form candidates f c =
+    StandWith candidates f c × (length c.words ≤ 32 * weight f + 256) × HaveForm form c.holes

@@ -1,21 +1,26 @@
 //! The words of all functions of a program.
-ghost use Rattle.std.specs.Prelude.{◌≡◌, ◌++◌, ◌∷◌, ◌+◌, ◌*◌, ◌≤◌, [], IfOk, OnOk, length, map};
+ghost use Rattle.std.specs.Prelude.{◌≡◌, ◌++◌, ◌∷◌, ◌+◌, ◌*◌, ◌≤◌, [], IsTrue, IfOk, OnOk, length, map};
 ghost use Rattle.il_ast.specs.declared.program.Program.{Program};
 ghost use Rattle.il_ast.specs.Cost.{weight};
 ghost use Rattle.phi_copies.specs.Good.{IsGoodFunction};
 ghost use Rattle.obj_link.specs.Shown.{shown};
 ghost use Rattle.qbec.specs.Candidates.{AreCandidatesIn};
 ghost use Rattle.qbec.specs.Promoted.{StandPromoted};
+ghost use Rattle.asm_layout.specs.Forms.{HaveForm};
+ghost use Rattle.obj_link.specs.Placed.{calls_reach};
+ghost use Rattle.obj_link.specs.Program.{IsProgram};
 ghost use Rattle.obj_link.specs.ProgramOf.{program};
 ghost use Rattle.rv_isa.specs.Words.{IsCode};
-ghost use Rattle.qbec.specs.Codes.{AreGood, AreWords, AreWordsIn};
+ghost use Rattle.qbec.specs.Codes.{AllHaveForm, AreGood, AreWords, AreWordsIn};
 
 use crate::candidates::{candidates_in, candidates_of};
 use crate::pipeline::function_words;
+use asm_layout::call::CallForm;
 use certificates::strategy::Strategy;
 use il_ast::function::Func;
 use il_ast::program::InText;
 use obj_link::linking::linked::Linked;
+use obj_link::placing::place::calls_reach;
 use rv_isa::code::MachineCode;
 use std::alloc::{AllocError, Global};
 use vcode::function::VFunc;
@@ -33,6 +38,7 @@ fn push_code(codes: &mut Vec<MachineCode>, code: MachineCode) -> Result<(), Allo
 /// The words of a function of this text, with calls of the text's candidates in place.
 fn words_of(
     alloc: Global,
+    form: CallForm,
     tables: &[Vec<Option<VFunc>>],
     text: usize,
     func: &Func,
@@ -41,29 +47,58 @@ fn words_of(
     requires { IsGoodFunction func.now }
     ensures stand { IfOk result (λ c. (p : Program) → AreCandidatesIn p (map (λ t. t.items) tables.now) → StandPromoted p (record { text = text; item = func.now }) c) }
     ensures few { IfOk result (λ c. length c.words ≤ 32 * weight func.now + 256) }
+    ensures calls { IfOk result (λ c. HaveForm form c.holes) }
 {
-    function_words(alloc, candidates_in(tables, text), func, allocator)
+    function_words(alloc, form, candidates_in(tables, text), func, allocator)
 }
 
 /// The words of functions, in order, with calls of their texts' candidates in place.
 fn codes_with(
     alloc: Global,
+    form: CallForm,
     tables: &[Vec<Option<VFunc>>],
     functions: &[InText<&Func>],
     allocator: &mut dyn Strategy,
 ) -> Result<Vec<MachineCode>, AllocError>
     requires { AreGood functions.now }
-    ensures { IfOk result (λ v. (p : Program) → AreCandidatesIn p (map (λ t. t.items) tables.now) → AreWordsIn p v.items (map shown functions.now)) }
+    ensures words { IfOk result (λ v. (p : Program) → AreCandidatesIn p (map (λ t. t.items) tables.now) → AreWordsIn p v.items (map shown functions.now)) }
+    ensures calls { IfOk result (λ v. AllHaveForm form v.items) }
 {
     let mut codes = Vec::new(alloc);
     for function in functions {
-        let code = words_of(alloc, tables, function.text, function.item, allocator)?;
+        let code = words_of(alloc, form, tables, function.text, function.item, allocator)?;
         push_code(&mut codes, code)?;
     }
     Ok(codes)
 }
 
-/// The words of all functions of a program, in order, with calls of small candidates in place.
+/// The words of all functions of a program, in order, with calls of small candidates in place, and calls in this form.
+fn codes_in(
+    alloc: Global,
+    form: CallForm,
+    linked: &Linked<'_>,
+    allocator: &mut dyn Strategy,
+) -> Result<Vec<MachineCode>, AllocError>
+    requires { AreGood linked.now.functions }
+    ensures words { IfOk result (λ v. AreWords v.items (program linked.now)) }
+    ensures calls { IfOk result (λ v. AllHaveForm form v.items) }
+{
+    let tables = candidates_of(alloc, linked)?;
+    let functions = linked.functions.as_slice();
+    codes_with(alloc, form, tables.as_slice(), functions, allocator)
+}
+
+/// Whether the calls by `jal` of functions of these words reach.
+fn reach(alloc: Global, linked: &Linked<'_>, codes: &[MachineCode]) -> Result<bool, AllocError>
+    requires program { IsProgram linked.now.texts.now (program linked.now) }
+    requires words { AreWords codes.now (program linked.now) }
+    ensures { IfOk result (λ all. all ≡ calls_reach (program linked.now) codes.now) }
+{
+    calls_reach(alloc, codes, linked)
+}
+
+/// The words of all functions of a program, in order, with calls of small candidates in place. Calls are `jal` where this reaches each function that is
+/// called, else all are `lui` and `jalr`.
 ///
 /// # Errors
 ///
@@ -73,10 +108,14 @@ pub fn codes_of(
     linked: &Linked<'_>,
     allocator: &mut dyn Strategy,
 ) -> Result<Vec<MachineCode>, AllocError>
-    requires { AreGood linked.now.functions }
-    ensures { IfOk result (λ v. AreWords v.items (program linked.now)) }
+    requires program { IsProgram linked.now.texts.now (program linked.now) }
+    requires good { AreGood linked.now.functions }
+    ensures words { IfOk result (λ v. AreWords v.items (program linked.now)) }
+    ensures reach { IfOk result (λ v. IsTrue (calls_reach (program linked.now) v.items)) }
 {
-    let tables = candidates_of(alloc, linked)?;
-    let functions = linked.functions.as_slice();
-    codes_with(alloc, tables.as_slice(), functions, allocator)
+    let codes = codes_in(alloc, CallForm::Near, linked, allocator)?;
+    if reach(alloc, linked, codes.as_slice())? {
+        return Ok(codes);
+    }
+    codes_in(alloc, CallForm::Far, linked, allocator)
 }

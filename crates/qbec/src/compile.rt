@@ -1,7 +1,8 @@
 //! From texts to an executable file.
-ghost use Rattle.std.specs.Prelude.{◌≡◌, IfOk, IfErr, map};
+ghost use Rattle.std.specs.Prelude.{◌≡◌, IsTrue, IfOk, IfErr, map};
 ghost use Rattle.std.specs.Result.{MatchResult};
 ghost use Rattle.il_ast.specs.declared.program.Program.{Program};
+ghost use Rattle.obj_link.specs.Placed.{calls_reach};
 ghost use Rattle.obj_link.specs.ProgramOf.{program};
 ghost use Rattle.obj_link.specs.Program.{IsProgram};
 ghost use Rattle.qbec.specs.declared.error.CompileError.TheVariants.{Memory};
@@ -28,6 +29,7 @@ fn file_of(
 ) -> Result<Vec<u8>, CompileError>
     requires program { IsProgram linked.now.texts.now (program linked.now) }
     requires words { AreWords codes.now (program linked.now) }
+    requires reach { IsTrue (calls_reach (program linked.now) codes.now) }
     ensures { MatchResult result (λ v. IsFile (program linked.now) v.items) (λ e. e ≡ Memory) }
 {
     match place(alloc, codes, linked) {

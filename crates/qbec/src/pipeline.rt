@@ -8,6 +8,7 @@ ghost use Rattle.il_ast.specs.declared.function.Func.{Func as PromotedFunc};
 ghost use Rattle.il_ast.specs.Passes.{Keeps, IsCodeOf};
 ghost use Rattle.phi_copies.specs.Good.{IsGoodFunction};
 ghost use Rattle.abi_frames.specs.Layout.{frame_bound};
+ghost use Rattle.asm_layout.specs.Forms.{HaveForm};
 ghost use Rattle.flat_code.specs.Laws.{FlatKept};
 ghost use Rattle.inlining.specs.Candidates.{is_candidate};
 ghost use Rattle.vcode.specs.Regular.{code_weight};
@@ -20,6 +21,7 @@ use crate::passes::PASSES;
 use abi_frames::frame::{frame, frame_bound};
 use alloc_check::accept::{Refused, accept};
 use alloc_check::spill_all::spill_all;
+use asm_layout::call::CallForm;
 use asm_layout::layout::layout;
 use certificates::certificate::Certificate;
 use certificates::strategy::Strategy;
@@ -122,12 +124,16 @@ pub fn virtual_code_of(
     Ok(function)
 }
 
-/// The words of a function's machine code.
-pub fn laid_out(alloc: Global, function: &FlatFunc) -> Result<MachineCode, AllocError>
-    ensures { IfOk result (λ c. IsLaidOut function.now.located c) }
+/// The words of a function's machine code, with calls in this form.
+pub fn laid_out(
+    alloc: Global,
+    form: CallForm,
+    function: &FlatFunc,
+) -> Result<MachineCode, AllocError>
+    ensures { IfOk result (λ c. IsLaidOut form function.now.located c) }
 {
     let labelled = frame(alloc, function)?;
-    let code = layout(alloc, labelled)?;
+    let code = layout(alloc, form, labelled)?;
     Ok(code)
 }
 
@@ -167,14 +173,15 @@ fn located(
 /// than its weight allows.
 fn fitting(
     alloc: Global,
+    form: CallForm,
     func: &Func,
     function: &FlatFunc,
 ) -> Result<Option<MachineCode>, AllocError>
-    ensures { IfOk result (λ o. IfSome o (λ c. IsLaidOut function.now.located c
+    ensures { IfOk result (λ o. IfSome o (λ c. IsLaidOut form function.now.located c
         × (frame_bound function.now.located.code function.now.located.slots ≤ need func.now)
         × (length c.words ≤ 32 * weight func.now + 256))) }
 {
-    let code = laid_out(alloc, function)?;
+    let code = laid_out(alloc, form, function)?;
     if is_small(func, function) && is_short(func, &code) {
         Ok(Some(code))
     } else {
@@ -185,15 +192,16 @@ fn fitting(
 /// By all passes, and as the strategy has it. None where that doesn't fit: passes may add registers and copy lines, and nothing else bounds how many.
 fn optimized(
     alloc: Global,
+    form: CallForm,
     candidates: &[Option<VFunc>],
     func: &Func,
     allocator: &mut dyn Strategy,
 ) -> Result<Option<MachineCode>, AllocError>
     requires { IsGoodFunction func.now }
-    ensures { IfOk result (λ o. IfSome o (λ c. StandWithin candidates.now func.now c)) }
+    ensures { IfOk result (λ o. IfSome o (λ c. StandWithin form candidates.now func.now c)) }
 {
     let placed = located(alloc, candidates, func, allocator)?;
-    fitting(alloc, func, &placed)
+    fitting(alloc, form, func, &placed)
 }
 
 /// The function as it is selected, with every register in a slot of its own.
@@ -211,42 +219,44 @@ fn spilled(alloc: Global, func: &Func) -> Result<FlatFunc, AllocError>
 
 /// As it is selected, with every register in a slot of its own: its frame takes no more of the stack than a call of the function is counted for, and its words
 /// are as few as its weight allows.
-fn unoptimized(alloc: Global, func: &Func) -> Result<MachineCode, AllocError>
+fn unoptimized(alloc: Global, form: CallForm, func: &Func) -> Result<MachineCode, AllocError>
     requires { IsGoodFunction func.now }
-    ensures { IfOk result (λ c. StandWithin [] func.now c) }
+    ensures { IfOk result (λ c. StandWithin form [] func.now c) }
 {
     let placed = spilled(alloc, func)?;
-    laid_out(alloc, &placed)
+    laid_out(alloc, form, &placed)
 }
 
 /// By all passes where that fits, else as it is selected.
 fn without_calls_placed(
     alloc: Global,
+    form: CallForm,
     func: &Func,
     allocator: &mut dyn Strategy,
 ) -> Result<MachineCode, AllocError>
     requires { IsGoodFunction func.now }
-    ensures { IfOk result (λ c. StandWithin [] func.now c) }
+    ensures { IfOk result (λ c. StandWithin form [] func.now c) }
 {
-    match optimized(alloc, &[], func, allocator)? {
+    match optimized(alloc, form, &[], func, allocator)? {
         Some(code) => Ok(code),
-        None => unoptimized(alloc, func),
+        None => unoptimized(alloc, form, func),
     }
 }
 
 /// With calls of candidates in place where that fits, else without.
 fn promoted_words(
     alloc: Global,
+    form: CallForm,
     candidates: &[Option<VFunc>],
     func: &Func,
     allocator: &mut dyn Strategy,
 ) -> Result<MachineCode, AllocError>
     requires { IsGoodFunction func.now }
-    ensures { IfOk result (λ c. StandWithin candidates.now func.now c) }
+    ensures { IfOk result (λ c. StandWithin form candidates.now func.now c) }
 {
-    match optimized(alloc, candidates, func, allocator)? {
+    match optimized(alloc, form, candidates, func, allocator)? {
         Some(code) => Ok(code),
-        None => without_calls_placed(alloc, func, allocator),
+        None => without_calls_placed(alloc, form, func, allocator),
     }
 }
 
@@ -285,13 +295,14 @@ pub fn candidate_code(
 }
 
 /// The words of a function, whose locals are taken out of memory first: by all passes, with calls of candidates in place where that fits, else without; and as it is
-/// selected where all that doesn't fit.
+/// selected where all that doesn't fit. Calls have the form that is asked for.
 ///
 /// # Errors
 ///
 /// Only where memory was refused.
 pub fn function_words(
     alloc: Global,
+    form: CallForm,
     candidates: &[Option<VFunc>],
     func: &Func,
     allocator: &mut dyn Strategy,
@@ -299,10 +310,11 @@ pub fn function_words(
     requires { IsGoodFunction func.now }
     ensures stand { IfOk result (λ c. (promoted : PromotedFunc) × IsPromoted func.now promoted × StandWith candidates.now promoted c) }
     ensures few { IfOk result (λ c. length c.words ≤ 32 * weight func.now + 256) }
+    ensures calls { IfOk result (λ c. HaveForm form c.holes) }
 {
     if !has_alloc(func) {
-        return promoted_words(alloc, candidates, func, allocator);
+        return promoted_words(alloc, form, candidates, func, allocator);
     }
     let promoted = promote(alloc, func)?;
-    promoted_words(alloc, candidates, &promoted, allocator)
+    promoted_words(alloc, form, candidates, &promoted, allocator)
 }

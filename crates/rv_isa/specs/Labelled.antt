@@ -8,11 +8,11 @@ use Rattle.rv_isa.specs.Arithmetic.{taken}
 use Rattle.rv_isa.specs.Decoding.{instruction_of}
 use Rattle.rv_isa.specs.Relocations.{relocated}
 use Rattle.rv_isa.specs.Runs.{Comes}
-use Rattle.rv_isa.specs.declared.abi.TheConstants.{JUMP_SCRATCH}
+use Rattle.rv_isa.specs.declared.abi.TheConstants.{JUMP_SCRATCH, RETURN_ADDRESS}
 use Rattle.rv_isa.specs.declared.permission.Permission.{Permission}
 use Rattle.rv_isa.specs.declared.instruction.Instr.{Instr}
 use Rattle.rv_isa.specs.declared.labelled.Item.{Item}
-use Rattle.rv_isa.specs.declared.labelled.Item.TheVariants.{Plain, Label, Branch, Goto, Relocated}
+use Rattle.rv_isa.specs.declared.labelled.Item.TheVariants.{Plain, Label, Branch, Goto, Call, Relocated}
 
 -- what stays while a program runs: the permissions, and the bytes that can't be written
 pub record Ground : Type 0 where
@@ -46,7 +46,23 @@ pub record Moves (g : Ground) (most to : ℕ) (s : State) : Type 0 where
   pub bytes : after.bytes ≡ s.bytes
   pub registers : (n : ℕ) → n ≢ JUMP_SCRATCH → after.registers n ≡ s.registers n
 
--- the item stands from a up to b, with labels and globals at these addresses
+-- in one or two instructions the machine comes from s to the address `to`, with the address `back`
+-- in x1; all else stays
+pub record Calls (g : Ground) (to back : ℕ) (s : State) : Type 0 where
+  pub count : ℕ
+  pub after : State
+  pub comes : Comes s count after
+  pub at_least_one : 0 < count
+  pub at_most : count ≤ 2
+  pub place : after.pc ≡ to
+  pub fixed : Fixed g after
+  pub output : after.output ≡ s.output
+  pub bytes : after.bytes ≡ s.bytes
+  pub return_address : after.registers RETURN_ADDRESS ≡ back
+  pub registers : (n : ℕ) → n ≢ RETURN_ADDRESS → after.registers n ≡ s.registers n
+
+-- the item stands from a up to b, with labels and globals at these addresses; a call does what it
+-- says where the global's address is a multiple of 4 and small
 unfoldable pub Stands : (g : Ground) (label global : ℕ → ℕ) → Item → (a b : ℕ) → Type 0
 Stands g label global (Plain i) a b = InstrAt g a i × (b ≡ a + 4)
 Stands g label global (Label l) a b = (label l ≡ a) × (b ≡ a)
@@ -54,6 +70,9 @@ Stands g label global (Branch op rs1 rs2 l) a b =
     (s : State) → Fixed g s → s.pc ≡ a → Moves g 3
     (if taken op (register s rs1) (register s rs2) then label l else b) s
 Stands g label global (Goto l) a b = (s : State) → Fixed g s → s.pc ≡ a → Moves g 2 (label l) s
+Stands g label global (Call n) a b =
+    (b % 4 ≡ 0)
+    × (global n % 4 ≡ 0 → global n < 2 ^ 30 → (s : State) → Fixed g s → s.pc ≡ a → Calls g (global n) b s)
 Stands g label global (Relocated r) a b = InstrAt g a (relocated r (global r.global)) × (b ≡ a + 4)
 
 -- the items stand one after another from a on

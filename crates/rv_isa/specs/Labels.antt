@@ -2,7 +2,7 @@
 use Rattle.std.specs.Prelude.{ℕ, ◌+◌, ◌^◌, ◌<◌, ◌≤◌, Bool, true, false, nat_eq, nat_lt, if◌then◌else◌, IsTrue, List, [], ◌∷◌}
 use Rattle.std.specs.List.{list_all}
 use Rattle.rv_isa.specs.declared.labelled.Item.{Item}
-use Rattle.rv_isa.specs.declared.labelled.Item.TheVariants.{Plain, Label, Branch, Goto, Relocated}
+use Rattle.rv_isa.specs.declared.labelled.Item.TheVariants.{Plain, Label, Branch, Goto, Call, Relocated}
 
 -- the items of a function, and how many labels they have
 pub record LabelledItems : Type 0 where
@@ -17,6 +17,7 @@ is_label l (Plain i) = false
 is_label l (Label m) = nat_eq m l
 is_label l (Branch op rs1 rs2 m) = false
 is_label l (Goto m) = false
+is_label l (Call n) = false
 is_label l (Relocated r) = false
 
 -- how often it stands in the code
@@ -30,6 +31,7 @@ has_label_below labels (Plain i) = true
 has_label_below labels (Label l) = nat_lt l labels
 has_label_below labels (Branch op rs1 rs2 l) = nat_lt l labels
 has_label_below labels (Goto l) = nat_lt l labels
+has_label_below labels (Call n) = true
 has_label_below labels (Relocated r) = true
 
 -- ---- sizes
@@ -40,6 +42,7 @@ longest (Plain i) = 1
 longest (Label l) = 0
 longest (Branch op rs1 rs2 l) = 3
 longest (Goto l) = 2
+longest (Call n) = 2
 longest (Relocated r) = 1
 
 abbrev pub longest_size : List Item → ℕ

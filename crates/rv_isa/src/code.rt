@@ -3,7 +3,7 @@
 ghost use Rattle.std.specs.Prelude.{◌≡◌};
 ghost use Rattle.rv_isa.specs.Words.{IsCode};
 
-use crate::relocation::Relocation;
+use crate::relocation::Filling;
 use std::marker::Model;
 
 /// A word that waits for the address of a global.
@@ -11,8 +11,8 @@ use std::marker::Model;
 pub struct Hole {
     /// The number of the word.
     pub word: usize,
-    /// The instruction that it becomes.
-    pub relocation: Relocation,
+    /// What it becomes.
+    pub filling: Filling,
 }
 
 /// The words of a function.

@@ -24,6 +24,8 @@ pub enum Item {
     },
     /// A jump to a label, of one or two instructions.
     Goto(usize),
+    /// A call of a global, of one or two instructions: a jump to its address, with that of the next item in x1.
+    Call(usize),
     /// An instruction with a part of the address of a global.
     Relocated(Relocation),
 }

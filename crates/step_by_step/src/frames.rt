@@ -1,8 +1,9 @@
 //! The machine code of functions in location code.
 //!
 //! Instructions are written as a disassembly has them. A label is `@N:`, a branch or a jump to it has `@N` in the place of an offset, and an instruction with a part of an
-//! address has ` + $N + OFFSET` behind it.
+//! address has ` + $N + OFFSET` behind it; `call $N` calls a name.
 use abi_frames::frame::frame;
+use asm_layout::call::CallForm;
 use asm_layout::layout::layout;
 use code_text::function::{located_function, located_text};
 use flat_code::function::flat;
@@ -54,6 +55,7 @@ fn item_text(alloc: Global, item: Item) -> Result<String, AllocError> {
             label,
         } => branch_text(alloc, op, rs1, rs2, label),
         Item::Goto(label) => format!(in alloc; "goto @{label}"),
+        Item::Call(global) => format!(in alloc; "call ${global}"),
         Item::Relocated(relocated) => relocated_text(alloc, relocated),
     }
 }
@@ -97,7 +99,7 @@ fn words_text(alloc: Global, code: &MachineCode) -> Result<String, AllocError> {
 pub fn words(alloc: Global, text: &str) -> Option<String> {
     let function = located_function(alloc, text)?;
     let labelled = frame(alloc, &flat(function)).ok()?;
-    let code = layout(alloc, labelled).ok()?;
+    let code = layout(alloc, CallForm::Near, labelled).ok()?;
     words_text(alloc, &code).ok()
 }
 

@@ -5,7 +5,7 @@ ghost use Rattle.std.specs.List.{flat_map};
 ghost use Rattle.obj_link.specs.declared.linking.error.LinkError.TheVariants.{Memory};
 ghost use Rattle.obj_link.specs.ProgramOf.{program};
 ghost use Rattle.obj_link.specs.DataBytes.{slot_bytes};
-ghost use Rattle.obj_link.specs.Placed.{addresses_of, objects_start, code_of, contents_of, FitsBelow, EveryCode};
+ghost use Rattle.obj_link.specs.Placed.{addresses_of, objects_start, code_of, contents_of, calls_reach, FitsBelow, EveryCode};
 
 use crate::linking::error::LinkError;
 use crate::linking::linked::Linked;
@@ -16,6 +16,7 @@ use crate::placing::data_bytes::push_objects;
 use crate::placing::fill::push_functions;
 use crate::placing::image::{CODE_START, Image, PAGE};
 use crate::placing::natives::{push_natives, push_start};
+use crate::placing::reach::functions_reach;
 use il_ast::list::Seq;
 use il_ast::value::Callee;
 use rv_isa::code::MachineCode;
@@ -55,13 +56,15 @@ fn addresses_of(
     })
 }
 
+#[tactic(auto, using(crate::proofs::ImageLemmas::ends))]
 fn code_of(
     alloc: Global,
     addresses: &Addresses,
     codes: &[MachineCode],
     linked: &Linked,
 ) -> Result<Vec<u32>, AllocError>
-    requires { length codes.now ≡ length linked.now.functions }
+    requires one_each { length codes.now ≡ length linked.now.functions }
+    requires fits { FitsBelow (program linked.now) codes.now }
     ensures { IfOk result (λ words. words.items ≡ code_of addresses.now (program linked.now) codes.now) }
 {
     let mut words = Vec::new(alloc);
@@ -70,7 +73,9 @@ fn code_of(
     push_natives(&mut words)?;
     let targets = linked.targets.as_slice();
     let functions = linked.functions.as_slice();
-    push_functions(alloc, &mut words, addresses, targets, codes, functions)?;
+    push_functions(
+        alloc, &mut words, FUNCTIONS, addresses, targets, codes, functions,
+    )?;
     Ok(words)
 }
 
@@ -133,4 +138,24 @@ pub fn place<'a>(
         Ok(image) => Ok(image),
         Err(_) => Err(LinkError::Memory),
     }
+}
+
+/// Whether, in the image of a linked program whose functions have these words, in order, all calls by `jal` reach their functions.
+///
+/// There must be one code for each function, and all must fit below [`crate::IMAGE_END`]. Memory is all that can be wanting.
+#[tactic(auto, using(crate::proofs::ImageLemmas::ends))]
+pub fn calls_reach(
+    alloc: Global,
+    codes: &[MachineCode],
+    linked: &Linked<'_>,
+) -> Result<bool, AllocError>
+    requires one_each { length codes.now ≡ length linked.now.functions }
+    requires fits { FitsBelow (program linked.now) codes.now }
+    ensures { IfOk result (λ all. all ≡ calls_reach (program linked.now) codes.now) }
+{
+    let start = objects_start(codes, linked);
+    let addresses = addresses_of(alloc, start, codes, linked)?;
+    let targets = linked.targets.as_slice();
+    let functions = linked.functions.as_slice();
+    Ok(functions_reach(FUNCTIONS, &addresses, targets, codes, functions))
 }

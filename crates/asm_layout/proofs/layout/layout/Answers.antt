@@ -1,28 +1,25 @@
-use Rattle.std.proofs.Common.{arith}
-use Rattle.std.proofs.lemmas.Grind.{common_steps}
-use Rattle.asm_layout.proofs.Whole.{lays_out, is_code, not_longer, forms_fit}
+use Rattle.std.proofs.Common.{◌≡◌, ◌≤◌, length}
+use Rattle.std.proofs.lemmas.Result.{IfOk-weaker}
+use Rattle.rv_isa.specs.Labels.{longest_size}
+use Rattle.rv_isa.specs.Laid.{LaysOut}
+use Rattle.asm_layout.specs.Forms.{words_of, holes_of, HaveForm}
+use Rattle.asm_layout.proofs.Whole.{made_lays_out, made_not_longer, made_have_form}
 use Rattle.asm_layout.proofs.layout.layout.Goals as goal
 
-pub push_words-requires-clause-fits : goal.push_words-requires-clause-fits
-push_words-requires-clause-fits c = grind (arith, forms_fit)
-
-pub new-requires : goal.new-requires
-new-requires c = grind (arith, is_code)
-
 pub returns-clause-laid : goal.returns-clause-laid
-returns-clause-laid c = grind (arith, lays_out)
+returns-clause-laid c =
+    let d = c.in_ok-formed.formed in
+    IfOk-weaker c.laid.result (λ out. (out.words ≡ words_of d) × (out.holes ≡ holes_of d)) (λ out. LaysOut c.args.code.items out.words out.holes)
+    (λ out h. made_lays_out c.args.form c.args.code d c.in_ok-formed.ensures.labelled c.in_ok-formed.ensures.value out.words out.holes h.0 h.1) c.laid.ensures
 
 pub returns-clause-not_longer : goal.returns-clause-not_longer
-returns-clause-not_longer c = grind (arith, not_longer)
+returns-clause-not_longer c =
+    let d = c.in_ok-formed.formed in
+    IfOk-weaker c.laid.result (λ out. (out.words ≡ words_of d) × (out.holes ≡ holes_of d)) (λ out. length out.words ≤ longest_size c.args.code.items)
+    (λ out h. made_not_longer c.args.form c.args.code d c.in_ok-formed.ensures.value out.words h.0) c.laid.ensures
 
-pub returns-in_err-far-clause-laid : goal.returns-in_err-far-clause-laid
-returns-in_err-far-clause-laid c = grind (arith, common_steps)
-
-pub returns-in_err-push_words-clause-laid : goal.returns-in_err-push_words-clause-laid
-returns-in_err-push_words-clause-laid c = grind (arith, common_steps)
-
-pub returns-in_err-push_holes-clause-laid : goal.returns-in_err-push_holes-clause-laid
-returns-in_err-push_holes-clause-laid c = grind (arith, common_steps)
-
-pub returns-in_err-places-clause-laid : goal.returns-in_err-places-clause-laid
-returns-in_err-places-clause-laid c = grind (arith, common_steps)
+pub returns-clause-calls : goal.returns-clause-calls
+returns-clause-calls c =
+    let d = c.in_ok-formed.formed in
+    IfOk-weaker c.laid.result (λ out. (out.words ≡ words_of d) × (out.holes ≡ holes_of d)) (λ out. HaveForm c.args.form out.holes)
+    (λ out h. made_have_form c.args.form c.args.code d c.in_ok-formed.ensures.value out.holes h.1) c.laid.ensures

@@ -1,23 +1,13 @@
-use Rattle.std.proofs.Common.{List, Vec, Global, Option, Bor, map, sym, subst}
+use Rattle.std.proofs.Common.{◌≡◌, true}
 use Rattle.std.proofs.lemmas.Result.{IfOk-weaker}
-use Rattle.il_ast.specs.declared.function.Func.{Func}
-use Rattle.il_ast.specs.declared.program.InText.{InText}
-use Rattle.il_ast.specs.declared.program.Program.{Program}
+use Rattle.obj_link.specs.Placed.{calls_reach}
 use Rattle.obj_link.specs.ProgramOf.{program}
-use Rattle.obj_link.specs.Shown.{shown}
-use Rattle.vcode.specs.declared.function.VFunc.{VFunc}
-use Rattle.qbec.specs.Codes.{AreGood, AreWords, AreWordsIn}
-use Rattle.qbec.specs.Candidates.{AreCandidatesIn}
+use Rattle.asm_layout.specs.declared.call.CallForm.TheVariants.{Far}
+use Rattle.qbec.specs.Codes.{AllHaveForm}
+use Rattle.qbec.proofs.Reaching.{far_calls_reach}
 use Rattle.qbec.proofs.codes.codes_of.Goals as goal
 
-pub codes_with-requires : goal.codes_with-requires
-codes_with-requires g c = subst AreGood (sym c.as_slice-functions.ensures) c.requires
-
-pub returns : goal.returns
-returns g c =
-    let p = program c.args.linked.now in
-    let tables = c.as_slice.result.now in
-    let are = subst (λ (ts : List (Vec (Option VFunc) Global)). AreCandidatesIn p (map (λ t. t.items) ts)) (sym c.as_slice.ensures.value) c.in_ok-tables.ensures in
-    IfOk-weaker c.codes_with.result (λ v. (q : Program) → AreCandidatesIn q (map (λ t. t.items) tables) → AreWordsIn q v.items (map shown c.as_slice-functions.result.now))
-    (λ v. AreWords v.items p)
-    (λ v each. subst (λ (fs : List (InText (Bor Func))). AreWordsIn p v.items (map shown fs)) c.as_slice-functions.ensures (each p are)) c.codes_with.ensures
+pub returns-clause-reach : goal.returns-clause-reach
+returns-clause-reach g c =
+    IfOk-weaker c.codes_in-2.result (λ v. AllHaveForm Far v.items) (λ v. calls_reach (program c.args.linked.now) v.items ≡ true)
+    (λ v h. far_calls_reach (program c.args.linked.now) v.items h) c.codes_in-2.ensures.calls

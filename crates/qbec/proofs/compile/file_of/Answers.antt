@@ -16,5 +16,5 @@ place-requires-clause-fits c = fits_below c.args.linked.now.texts.now (program c
 
 pub returns-in_ok-bytes-in-Ok : goal.returns-in_ok-bytes-in-Ok
 returns-in_ok-bytes-in-Ok c =
-    is_file c.args.linked.now.texts.now (program c.args.linked.now) c.args.codes.now c.in-Ok.image c.in_ok-bytes-in-Ok.bytes.items c.requires.program c.requires.words
+    is_file c.args.linked.now.texts.now (program c.args.linked.now) c.args.codes.now c.in-Ok.image c.in_ok-bytes-in-Ok.bytes.items c.requires.program c.requires.words c.requires.reach
     c.in-Ok.ensures (subst IsImage c.image.view_is c.image.invariant) c.in_ok-bytes-in-Ok.ensures.loads c.in_ok-bytes-in-Ok.ensures.stands

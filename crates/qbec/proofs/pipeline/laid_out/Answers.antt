@@ -9,5 +9,6 @@ returns c =
       items = c.in_ok-labelled.labelled.items;
       machine = c.in_ok-labelled.ensures.promise;
       laid = c.in_ok-code.ensures.laid;
+      calls = c.in_ok-code.ensures.calls;
       few = omega (arith, short, small);
     }

@@ -7,5 +7,5 @@ use Rattle.qbec.proofs.pipeline.promoted_words.Goals as goal
 pub returns-in-None : goal.returns-in-None
 returns-in-None g c =
     let f = c.args.func.now in
-    IfOk-weaker c.without_calls_placed.result (λ code. StandWithin [] f code) (λ code. StandWithin c.args.candidates.now f code)
-    (λ code h. stands_anyhow c.args.candidates.now f code h) c.without_calls_placed.ensures
+    IfOk-weaker c.without_calls_placed.result (λ code. StandWithin c.args.form [] f code) (λ code. StandWithin c.args.form c.args.candidates.now f code)
+    (λ code h. stands_anyhow c.args.form c.args.candidates.now f code h) c.without_calls_placed.ensures

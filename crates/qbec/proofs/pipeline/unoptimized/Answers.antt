@@ -9,5 +9,5 @@ returns c =
     let f = c.args.func.now in
     let l = c.in_ok-placed.placed.located in
     let is = c.in_ok-placed.ensures in
-    IfOk-weaker c.laid_out.result (λ code. IsLaidOut l code) (λ code. StandWithin [] f code)
-    (λ code laid. stands_within f l code is.is is.keeps is.fits is.weighs laid) c.laid_out.ensures
+    IfOk-weaker c.laid_out.result (λ code. IsLaidOut c.args.form l code) (λ code. StandWithin c.args.form [] f code)
+    (λ code laid. stands_within c.args.form f l code is.is is.keeps is.fits is.weighs laid) c.laid_out.ensures

@@ -1,0 +1,10 @@
+use Rattle.std.proofs.Common.{◌≡◌, drop, map}
+use Rattle.obj_link.specs.Shown.{shown}
+use Rattle.obj_link.specs.Placed.{functions_end, functions_reach}
+use Rattle.obj_link.proofs.placing.reach.functions_reach.Given as goal
+
+abbrev pub invariant-loop-number : goal.invariant-loop-number
+invariant-loop-number l =
+    (functions_reach l.addresses l.targets l.at (drop l.number l.codes) (map shown (drop l.number l.functions))
+    ≡ functions_reach l.fn.addresses l.fn.targets l.fn.start l.fn.codes (map shown l.fn.functions))
+    × (functions_end l.at (drop l.number l.codes) ≡ functions_end l.fn.start l.fn.codes)
