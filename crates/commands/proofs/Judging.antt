@@ -8,7 +8,8 @@ use Rattle.il_ast.specs.declared.program.Program.{Program}
 use Rattle.diagnostics.specs.declared.note.Note.{Note}
 use Rattle.qbec.specs.declared.error.CompileError.{CompileError}
 use Rattle.qbec.specs.declared.error.CompileError.TheVariants.{Syntax, Rule, UnknownName, ExportedTwice, NoMain, Limit, Memory}
-use Rattle.qbec.specs.Refusals.{Refuses, RefusesText}
+use Rattle.qbec.specs.Refusals.{Refuses}
+use Rattle.qbec.specs.Reasons.{RefusesText}
 use Rattle.qbec.specs.Texts.{AreProgram}
 use Rattle.qbec.proofs.ProgramLemmas.{no_refusal}
 use Rattle.qbec.proofs.TextLemmas.{bytes_of, text_refused}

@@ -7,7 +7,8 @@ use Rattle.il_ast.specs.declared.value.End.{End}
 use Rattle.rv_machine.specs.declared.stop.Stop.{Stop}
 use Rattle.elf_file.specs.declared.error.LoadError.{LoadError}
 use Rattle.elf_file.specs.Loaded.{Executable}
-use Rattle.elf_file.specs.Conditions.{Loads, Refuses as RefusesFile}
+use Rattle.elf_file.specs.Conditions.{Loads}
+use Rattle.elf_file.specs.Refusals.{Refuses as RefusesFile}
 use Rattle.shell.specs.declared.disk.Access.TheVariants.{Read, Write}
 use Rattle.shell.specs.declared.disk.FileFault.TheVariants.{Device, Memory as NoRoom}
 use Rattle.shell.specs.Disk.{DiskState, Files, Holds, Spares, failed, with_fault}

@@ -5,7 +5,8 @@ use Rattle.il_types.specs.RuleNumber.{rule_number}
 use Rattle.il_interp.specs.declared.error.RunError.{RunError}
 use Rattle.il_interp.specs.declared.error.RunError.TheVariants.{Words as WordsRefused, Memory as NotRun}
 use Rattle.il_interp.specs.Begun.{Refuses as RefusesWords}
-use Rattle.elf_file.specs.Conditions.{Loads, Refuses as RefusesFile}
+use Rattle.elf_file.specs.Conditions.{Loads}
+use Rattle.elf_file.specs.Refusals.{Refuses as RefusesFile}
 use Rattle.elf_file.specs.Loaded.{Executable}
 use Rattle.obj_link.specs.Arguments.{are_arguments}
 use Rattle.rv_machine.specs.declared.start.StartError.{StartError}

@@ -12,7 +12,7 @@ use Rattle.byteorder.specs.Numbers.{little_number-reads_back}
 use Rattle.obj_link.specs.Image.{Contents, IsImage, code_start, code_size, data_start, round_to_page}
 use Rattle.elf_file.specs.declared.flags.Flags.{Flags}
 use Rattle.elf_file.specs.declared.flags.Flags.TheVariants.{Execute, Read, ReadExecute, ReadWrite}
-use Rattle.elf_file.specs.Flags.{flags_number}
+use Rattle.elf_file.specs.File.{flags_number, field_bytes, fields_bytes, file_header_fields, program_header_fields, header_for, headers_bytes, segment_header, code_bytes, padded, with_code, file_with, file_of, code_header, data_header, data_offset, code_mapping, data_mappings, executable_of}
 use Rattle.elf_file.specs.declared.fields.Field.{Field}
 use Rattle.elf_file.specs.declared.fields.Field.TheVariants.{Half, Word, Xword}
 use Rattle.elf_file.specs.declared.headers.FileHeader.{FileHeader}
@@ -20,7 +20,6 @@ use Rattle.elf_file.specs.declared.headers.ProgramHeader.{ProgramHeader}
 use Rattle.elf_file.specs.Headers.{field, file_header, program_header, program_header_at}
 use Rattle.elf_file.specs.Loaded.{Mapping, Executable, has_entry, holds_instruction}
 use Rattle.elf_file.specs.Conditions.{e_ident, HasHeaders, Maps, Loads, lowest, is_loadable}
-use Rattle.elf_file.specs.File.{field_bytes, fields_bytes, file_header_fields, program_header_fields, header_for, headers_bytes, segment_header, code_bytes, padded, with_code, file_with, file_of, code_header, data_header, data_offset, code_mapping, data_mappings, executable_of}
 
 -- the width of a field, and its number
 abbrev width : Field → ℕ

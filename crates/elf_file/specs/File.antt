@@ -7,12 +7,11 @@ use Rattle.std.specs.List.{flat_map}
 use Rattle.byteorder.specs.Endian.{little_bytes}
 use Rattle.obj_link.specs.Image.{Contents, code_start, code_size, data_start, round_to_page}
 use Rattle.elf_file.specs.declared.flags.Flags.{Flags}
-use Rattle.elf_file.specs.declared.flags.Flags.TheVariants.{Execute, ReadWrite}
+use Rattle.elf_file.specs.declared.flags.Flags.TheVariants.{Execute, Read, ReadExecute, ReadWrite}
 use Rattle.elf_file.specs.declared.fields.Field.{Field}
 use Rattle.elf_file.specs.declared.fields.Field.TheVariants.{Half, Word, Xword}
 use Rattle.elf_file.specs.declared.headers.FileHeader.{FileHeader}
 use Rattle.elf_file.specs.declared.headers.ProgramHeader.{ProgramHeader}
-use Rattle.elf_file.specs.Flags.{flags_number}
 use Rattle.elf_file.specs.Conditions.{e_ident}
 use Rattle.elf_file.specs.Loaded.{Mapping, Executable}
 
@@ -55,6 +54,13 @@ header_for count = record {
   e_shnum = 0;
   e_shstrndx = 0;
 }
+
+-- the number of flags
+abbrev pub flags_number : Flags → ℕ
+flags_number Execute = 1
+flags_number Read = 4
+flags_number ReadExecute = 5
+flags_number ReadWrite = 6
 
 -- the program header of a segment whose `size` bytes stand at `offset` in the file
 abbrev pub segment_header : Flags → (offset address size : ℕ) → ProgramHeader

@@ -4,12 +4,6 @@ use Rattle.std.specs.Prelude.{ℕ, Bool, true, false, ◌==◌, Option, Some, No
 use Rattle.elf_file.specs.declared.flags.Flags.{Flags}
 use Rattle.elf_file.specs.declared.flags.Flags.TheVariants.{Execute, Read, ReadExecute, ReadWrite}
 
-abbrev pub flags_number : Flags → ℕ
-flags_number Execute = 1
-flags_number Read = 4
-flags_number ReadExecute = 5
-flags_number ReadWrite = 6
-
 -- the flags of a number; a number that is none of the four has none
 abbrev pub flags_of : ℕ → Option Flags
 flags_of n =

@@ -14,7 +14,8 @@ pub enum Flags {
 }
 
 impl Flags {
-    ghost use Rattle.elf_file.specs.Flags.{flags_number, flags_of, is_executable, is_readable, is_writable};
+    ghost use Rattle.elf_file.specs.Flags.{flags_of, is_executable, is_readable, is_writable};
+    ghost use Rattle.elf_file.specs.File.{flags_number};
 
     /// The flags of a `p_flags`; `None` for a number that is none of the four.
     pub(crate) fn from_number(p_flags: u32) -> Option<Flags>

@@ -8,8 +8,8 @@
 //!   by address what that is: each word of the code, which can be executed and neither read nor written, each byte of the data, which can be read
 //!   and written, and nothing else.
 //! - `read_image` accepts exactly the files that keep `Loads` of `specs/Conditions.antt`, a record of conditions by the names of ELF's fields, and
-//!   gives exactly the entry, addresses, flags and bytes that `Loads` tells of. What it refuses does not keep a condition that the refusal names,
-//!   but for want of memory. Bytes of the file that no header speaks of do not count. The law [`laws::loads_once`] says that a file loads as one
+//!   gives exactly the entry, addresses, flags and bytes that `Loads` tells of. What it refuses does not keep a condition that the refusal names
+//!   (`specs/Refusals.antt`), but for want of memory. Bytes of the file that no header speaks of do not count. The law [`laws::loads_once`] says that a file loads as one
 //!   executable at most.
 //! - [`Loaded`] holds what was read. Each keeps `IsExecutable` of `specs/Loaded.antt`: segments rise without overlap between
 //!   [`CODE_START`](obj_link::CODE_START) and [`IMAGE_END`](obj_link::IMAGE_END), and the program starts at an instruction's address in code.

@@ -2,7 +2,8 @@ ghost use Rattle.std.specs.Prelude.{◌≡◌, ◌+◌, ◌*◌, ◌≤◌, ◌^
 ghost use Rattle.obj_link.specs.Image.{code_start};
 ghost use Rattle.elf_file.specs.Headers.{file_header};
 ghost use Rattle.elf_file.specs.Loaded.{Executable, has_entry, holds_instruction};
-ghost use Rattle.elf_file.specs.Conditions.{HasHeaders, Loads, Maps, MapsAll, Refuses, RefusesSegment, has_one_table, is_kind, is_loadable, is_placed, is_whole};
+ghost use Rattle.elf_file.specs.Conditions.{HasHeaders, Loads, Maps, MapsAll, has_one_table, is_kind, is_loadable, is_placed, is_whole};
+ghost use Rattle.elf_file.specs.Refusals.{Refuses, RefusesSegment};
 
 use crate::error::LoadError;
 use crate::flags::Flags;

@@ -22,15 +22,15 @@ use Rattle.abi_frames.specs.Layout.{frame_size}
 use Rattle.rv_isa.specs.Words.{Words}
 use Rattle.rv_isa.specs.State.{State}
 use Rattle.obj_link.specs.declared.placing.addresses.Addresses.{Addresses}
-use Rattle.obj_link.specs.Image.{IsImage}
+use Rattle.obj_link.specs.Image.{IsImage, functions_start}
 use Rattle.obj_link.specs.Limits.{object_size}
-use Rattle.obj_link.specs.Natives.{functions_start}
-use Rattle.obj_link.specs.Placed.{object_addresses, objects_start, objects_end, addresses_of, target_address, name_address, contents_of, calls_reach, FitsBelow, EveryCode}
+use Rattle.obj_link.specs.Placed.{objects_start, objects_end, addresses_of, target_address, name_address, contents_of, calls_reach, FitsBelow, EveryCode}
+use Rattle.obj_link.specs.ImageOf.{object_addresses}
 use Rattle.obj_link.specs.Laws.{IsThere}
 use Rattle.obj_link.proofs.AddressLemmas.{objects_rise}
 use Rattle.elf_file.specs.Loaded.{Executable}
 use Rattle.elf_file.specs.Stands.{Stands}
-use Rattle.rv_machine.specs.Start.{Starts}
+use Rattle.rv_machine.specs.Starts.{Starts}
 use Rattle.headline.specs.Functions.{FunctionsKept, body_of}
 use Rattle.headline.specs.Places.{setting_of, start_places}
 use Rattle.headline.specs.Executables.{entries_of, places_of, NamesAreThere}

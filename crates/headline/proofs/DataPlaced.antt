@@ -33,17 +33,18 @@ use Rattle.rv_isa.specs.Laid.{filled, all_reach, WordsStand}
 use Rattle.rv_isa.specs.State.{State}
 use Rattle.asm_layout.proofs.Filling.{filled_length}
 use Rattle.obj_link.specs.declared.placing.addresses.Addresses.{Addresses}
-use Rattle.obj_link.specs.Image.{IsImage, code_start, image_end, round_to_page, data_start}
+use Rattle.obj_link.specs.Image.{IsImage, code_start, image_end, round_to_page, data_start, functions_start, write_address, exit_address}
 use Rattle.obj_link.specs.Limits.{item_size, field_size, object_size}
-use Rattle.obj_link.specs.Natives.{start_words, write_words, exit_words, functions_start, write_address, exit_address}
-use Rattle.obj_link.specs.Placed.{function_addresses, functions_end, object_addresses, objects_end, objects_start, addresses_of, callee_address, name_address, functions_words, functions_reach, value_number, cell_byte, in_slots, object_bytes, contents_of, FitsBelow, EveryCode}
+use Rattle.obj_link.specs.Natives.{start_words, write_words, exit_words}
+use Rattle.obj_link.specs.Placed.{function_addresses, functions_end, objects_end, objects_start, addresses_of, name_address, functions_words, functions_reach, contents_of, FitsBelow, EveryCode}
+use Rattle.obj_link.specs.ImageOf.{object_addresses, callee_address, value_number, cell_byte, in_slots, object_bytes}
 use Rattle.obj_link.specs.Laws.{IsThere}
 use Rattle.obj_link.proofs.AddressLemmas.{objects_rise, functions_rise}
 use Rattle.obj_link.proofs.ThereLemmas.{what_names_mean}
 use Rattle.elf_file.specs.declared.flags.Flags.TheVariants.{ReadWrite}
 use Rattle.elf_file.specs.Loaded.{Executable, byte_in, flags_in}
 use Rattle.elf_file.specs.Stands.{Stands}
-use Rattle.rv_machine.specs.Start.{Starts}
+use Rattle.rv_machine.specs.Starts.{Starts}
 use Rattle.flat_code.specs.Spots.{Bases, AreEntries}
 use Rattle.headline.specs.Places.{CellStands, CellsStand, BlocksStand, DataStands}
 use Rattle.headline.specs.Executables.{entries_of, places_of, NamesAreThere, ProgramsHaveNames, PlacedStands}

@@ -17,7 +17,7 @@ pub record Before (m k : ℕ) (s u : State) : Type 0 where
   pub first : runs m s ≡ Going now
   pub rest : runs k now ≡ Going u
 
-goes_before : (m k : ℕ) (s u : State) → runs (m + k) s ≡ Going u → Before m k s u
+pub goes_before : (m k : ℕ) (s u : State) → runs (m + k) s ≡ Going u → Before m k s u
 unfolding runs
 goes_before zero k s u h = record { now = s; first = refl; rest = (let e : zero + k ≡ k = omega arith in ap (λ i. runs i s) (sym e)) ∙ h }
 goes_before (suc m) k s u h =
@@ -33,14 +33,14 @@ goes_before (suc m) k s u h =
 
 -- ---- output grows at its end
 
-abbrev silent : State → State
+abbrev pub silent : State → State
 silent s = record s { output = [] }
 
 grows : (o : List ℕ) (r : Run) (u : State) → run_after o r ≡ Going u → IsBeginning o u.output
 grows o (Going t) u h = record { rest = t.output; is = (let same : after_output o t ≡ u = cc in ap (λ (x : State). x.output) (sym same)) }
 grows o (Stopped e t) u h = absurd (let no : ⊥ = cc in no)
 
-output_grows : (k : ℕ) (t u : State) → runs k t ≡ Going u → IsBeginning t.output u.output
+pub output_grows : (k : ℕ) (t u : State) → runs k t ≡ Going u → IsBeginning t.output u.output
 output_grows k t u h =
     let whole : after_output t.output (silent t) ≡ t = ap (λ (o : List ℕ). record t { output = o }) (append-nil t.output) in
     grows t.output (runs k (silent t)) u (sym (runs_after t.output k (silent t)) ∙ ap (runs k) whole ∙ h)

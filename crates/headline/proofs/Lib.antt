@@ -22,3 +22,4 @@ pub mod GoodFunctions
 pub mod InNeed
 pub mod CompiledRuns
 pub mod Endless
+pub mod Answering

@@ -24,12 +24,13 @@ use Rattle.rv_isa.specs.Words.{Words}
 use Rattle.rv_isa.proofs.StepLemmas.{step_at}
 use Rattle.rv_isa.proofs.RunLemmas.{comes_then, comes_by_step}
 use Rattle.asm_layout.proofs.Running.{instr_at, put_fits}
-use Rattle.obj_link.specs.Image.{IsImage}
-use Rattle.obj_link.specs.Natives.{start_words, write_words, exit_words, functions_start, write_address, exit_address}
-use Rattle.obj_link.specs.Placed.{callee_address, functions_words, addresses_of, contents_of}
+use Rattle.obj_link.specs.Image.{IsImage, write_address, exit_address, functions_start}
+use Rattle.obj_link.specs.Natives.{start_words, write_words, exit_words}
+use Rattle.obj_link.specs.Placed.{functions_words, addresses_of, contents_of}
+use Rattle.obj_link.specs.ImageOf.{callee_address}
 use Rattle.elf_file.specs.Loaded.{Executable}
 use Rattle.elf_file.specs.Stands.{Stands}
-use Rattle.rv_machine.specs.Start.{Starts}
+use Rattle.rv_machine.specs.Starts.{Starts}
 use Rattle.flat_code.specs.Spots.{Spot, NoAccess, AnyByte, ThisByte, Spots}
 use Rattle.flat_code.specs.Flat.{FlatGiven}
 use Rattle.abi_frames.specs.Calls.{World, HoldsSpots, Ready, is_kept}

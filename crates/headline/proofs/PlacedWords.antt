@@ -14,7 +14,7 @@ use Rattle.obj_link.specs.Image.{Contents, IsImage, code_start}
 use Rattle.elf_file.specs.declared.flags.Flags.TheVariants.{Execute}
 use Rattle.elf_file.specs.Loaded.{Executable}
 use Rattle.elf_file.specs.Stands.{Stands}
-use Rattle.rv_machine.specs.Start.{Starts}
+use Rattle.rv_machine.specs.Starts.{Starts}
 use Rattle.il_ast.proofs.Listed.{get_before, get_behind}
 
 -- ---- a number of 32 bits by its bytes

@@ -8,7 +8,7 @@ use Rattle.il_ast.specs.Meaning.{main_args, params_of}
 use Rattle.rv_isa.specs.State.{State}
 use Rattle.rv_isa.specs.Start.{stack_top, stack_bottom}
 use Rattle.elf_file.specs.Loaded.{Executable}
-use Rattle.rv_machine.specs.Start.{Starts}
+use Rattle.rv_machine.specs.Starts.{Starts}
 use Rattle.flat_code.specs.Spots.{AreEntries, AllShow}
 use Rattle.abi_frames.specs.Calls.{IsUsable}
 use Rattle.headline.specs.Knot.{IsSetting}

@@ -37,7 +37,7 @@ use Rattle.obj_link.specs.Placed.{contents_of, addresses_of}
 use Rattle.elf_file.specs.declared.flags.Flags.TheVariants.{ReadWrite}
 use Rattle.elf_file.specs.Loaded.{Executable}
 use Rattle.elf_file.specs.Stands.{Stands}
-use Rattle.rv_machine.specs.Start.{Starts}
+use Rattle.rv_machine.specs.Starts.{Starts}
 use Rattle.rv_machine.proofs.Arguments.{arguments_length}
 use Rattle.flat_code.specs.Spots.{NoAccess, ThisByte}
 use Rattle.abi_frames.specs.Calls.{IsUsable, passed}

@@ -11,7 +11,7 @@ use Rattle.il_ast.specs.Start.{object_cells, word_cells, pointers_from, list_cel
 use Rattle.rv_isa.specs.State.{State}
 use Rattle.rv_isa.specs.Start.{stack_top, stack_bottom, argument_bytes, pointer_bytes, word_bytes}
 use Rattle.elf_file.specs.Loaded.{Executable, byte_in}
-use Rattle.rv_machine.specs.Start.{Starts}
+use Rattle.rv_machine.specs.Starts.{Starts}
 use Rattle.flat_code.specs.Spots.{Spot, NoAccess, ThisByte, Spots, Bases, Entries, Grown, ShowsCell, ShowsMemory}
 use Rattle.headline.specs.Places.{Places, CellStands, CellsStand, BlocksStand, DataStands, word_places, first_word, start_places, setting_of, start_spots}
 use Rattle.headline.proofs.LayersKeep.{shows_grown}

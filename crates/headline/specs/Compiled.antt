@@ -23,7 +23,7 @@ use Rattle.obj_link.specs.Image.{IsImage}
 use Rattle.obj_link.specs.Placed.{contents_of, calls_reach, FitsBelow, EveryCode}
 use Rattle.elf_file.specs.Loaded.{Executable}
 use Rattle.elf_file.specs.Stands.{Stands}
-use Rattle.rv_machine.specs.Start.{Starts}
+use Rattle.rv_machine.specs.Starts.{Starts}
 use Rattle.headline.specs.Functions.{IsCodeIn}
 use Rattle.headline.specs.Headline.{Executes}
 use Rattle.headline.specs.Executables.{NamesAreThere}

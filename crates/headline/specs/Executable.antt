@@ -14,7 +14,7 @@ use Rattle.rv_isa.specs.Start.{stack_top, word_bytes}
 use Rattle.rv_isa.specs.Runs.{Comes}
 use Rattle.rv_isa.specs.Labelled.{Fixed}
 use Rattle.elf_file.specs.Loaded.{Executable}
-use Rattle.rv_machine.specs.Start.{Starts}
+use Rattle.rv_machine.specs.Starts.{Starts}
 use Rattle.flat_code.specs.Spots.{AreEntries}
 use Rattle.abi_frames.specs.Calls.{GoodStack, Ready, passed}
 use Rattle.headline.specs.Natives.{NativesPerform}

@@ -9,15 +9,15 @@ use Rattle.il_ast.specs.declared.value.Callee.TheVariants.{Defined, SystemWrite,
 use Rattle.rv_isa.specs.Words.{Words}
 use Rattle.rv_isa.specs.State.{State}
 use Rattle.rv_isa.specs.Start.{word_bytes}
-use Rattle.obj_link.specs.Image.{IsImage, data_start}
-use Rattle.obj_link.specs.Natives.{write_address, exit_address}
+use Rattle.obj_link.specs.Image.{IsImage, data_start, write_address, exit_address}
 use Rattle.il_types.specs.declared.checked.Checked.{Checked}
-use Rattle.obj_link.specs.Placed.{addresses_of, callee_address, contents_of, FitsBelow, EveryCode}
+use Rattle.obj_link.specs.Placed.{addresses_of, contents_of, FitsBelow, EveryCode}
+use Rattle.obj_link.specs.ImageOf.{callee_address}
 use Rattle.obj_link.specs.Program.{IsProgram}
 use Rattle.obj_link.specs.Laws.{IsThere}
 use Rattle.elf_file.specs.Loaded.{Executable}
 use Rattle.elf_file.specs.Stands.{Stands}
-use Rattle.rv_machine.specs.Start.{Starts}
+use Rattle.rv_machine.specs.Starts.{Starts}
 use Rattle.flat_code.specs.Spots.{Entries, AreEntries}
 use Rattle.headline.specs.Places.{Places, DataStands, setting_of}
 use Rattle.headline.specs.Natives.{NativesPerform}

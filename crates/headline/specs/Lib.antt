@@ -5,6 +5,7 @@ pub mod Functions
 pub mod Start
 pub mod Headline
 pub mod Endless
+pub mod Answered
 pub mod Whole
 pub mod Example
 pub mod Places

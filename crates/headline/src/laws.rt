@@ -1,6 +1,7 @@
 //! The theorem that joins the layers, and what the compiler's first steps give the next, each part as the contract of a function that does nothing.
 ghost use Rattle.headline.specs.Functions.{CallsAreKept};
 ghost use Rattle.headline.specs.Endless.{EndlessProgramsRunOn};
+ghost use Rattle.headline.specs.Answered.{RunsAnswer};
 ghost use Rattle.headline.specs.Headline.{Executes};
 ghost use Rattle.headline.specs.Read.{FunctionsAreGood};
 ghost use Rattle.headline.specs.Whole.{ProgramIsExecuted};
@@ -77,4 +78,10 @@ pub fn compiled_programs_run()
 /// A machine that executes a program that never ends never stops, and puts out what the program does: all of it in time, and at each moment a beginning of it.
 pub fn endless_programs_run_on()
     ensures { EndlessProgramsRunOn }
+{}
+
+/// Each run of a machine that executes a program answers as the program means: where that exits or halts, a run of at least its price ends so, with its output; while it
+/// goes on, a run does; and of a program that is defined and stays in the stack every answer tells the truth, and none is a fault.
+pub fn runs_answer()
+    ensures { RunsAnswer }
 {}

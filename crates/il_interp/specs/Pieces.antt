@@ -1,9 +1,12 @@
 -- Runs in pieces: what a piece puts out is taken away before the next one.
-use Rattle.std.specs.Prelude.{ℕ, List, [], ◌++◌, Option, Some, None, unwrap_or, Result, Ok, Err}
+use Rattle.std.specs.Prelude.{ℕ, List, [], ◌++◌, slice_get, Option, Some, None, unwrap_or, Result, Ok, Err}
+use Rattle.std.specs.Option.{option_flatten}
 use Rattle.il_ast.specs.declared.program.Program.{Program}
 use Rattle.il_ast.specs.declared.value.End.{End}
 use Rattle.il_ast.specs.declared.value.End.TheVariants.{Turns}
+use Rattle.il_ast.specs.declared.value.Value.{Value}
 use Rattle.il_ast.specs.Meaning.{Behaviour}
+use Rattle.il_ast.specs.Memory.{Memory}
 use Rattle.il_interp.specs.declared.state.State.{State}
 use Rattle.il_interp.specs.declared.pieces.Running.{Running}
 use Rattle.il_interp.specs.Prepared.{program_of}
@@ -27,6 +30,14 @@ put_before out b = record { output = out ++ b.output; ending = b.ending }
 -- what it puts out in n turns from here on, with what it holds of its output, and how it ends
 unfoldable pub comes_to : Running → (n : ℕ) → Behaviour
 comes_to r n = machine (program_of r.prepared) n r.state
+
+-- the memory that it has
+abbrev pub memory_of : Running → Memory
+memory_of r = r.state.memory
+
+-- what a temporary of its activation holds
+abbrev pub value_of : Running → (temp : ℕ) → Option Value
+value_of r temp = option_flatten (slice_get r.state.frame.temps temp)
 
 -- the output that it holds
 abbrev pub held : Running → List ℕ

@@ -1,11 +1,13 @@
 //! Runs in hand, which are done piece by piece.
-ghost use Rattle.std.specs.Prelude.{◌≡◌, ◌+◌, ℕ, [], map, true, false, Err, IfOk, MatchResult};
+ghost use Rattle.std.specs.Prelude.{◌≡◌, ◌+◌, ℕ, [], map, true, false, Err, IfOk, IfSome, MatchResult, Some, is_some};
+ghost use Rattle.il_ast.specs.declared.value.Value.TheVariants.{Pointer};
 ghost use Rattle.il_ast.specs.Meaning.{meaning};
+ghost use Rattle.il_ast.specs.Memory.{load, size_at};
 ghost use Rattle.obj_link.specs.ProgramOf.{program};
 ghost use Rattle.obj_link.specs.Arguments.{are_arguments};
 ghost use Rattle.il_interp.specs.declared.error.RunError.TheVariants.{Words};
 ghost use Rattle.il_interp.specs.Begun.{Refuses};
-ghost use Rattle.il_interp.specs.Pieces.{begun_as, comes_to, held, left_of, put_before};
+ghost use Rattle.il_interp.specs.Pieces.{begun_as, comes_to, held, left_of, memory_of, put_before, value_of};
 
 use crate::error::RunError;
 use crate::interpret::begin;
@@ -137,12 +139,16 @@ impl Running<'_> {
     }
 
     /// How many bytes a block of memory has, where it is live.
-    pub fn block_size(&self, block: u128) -> Option<usize> {
+    pub fn block_size(&self, block: u128) -> Option<usize>
+        ensures { result ≡ size_at (memory_of self.now) block }
+    {
         self.state.memory.size(block)
     }
 
     /// Whether a byte of a block of memory holds a number.
-    pub fn is_byte(&self, block: u128, offset: u64) -> bool {
+    pub fn is_byte(&self, block: u128, offset: u64) -> bool
+        ensures { result ≡ is_some (load (memory_of self.now) 1 (Pointer block offset)) }
+    {
         self.state
             .memory
             .load(Value::Pointer { block, offset }, Size::Byte)
@@ -158,7 +164,9 @@ impl Running<'_> {
     }
 
     /// What a temporary of the activation holds that had the last turn, if it has a value.
-    pub fn value(&self, temp: usize) -> Option<Value> {
+    pub fn value(&self, temp: usize) -> Option<Value>
+        ensures { IfSome result (λ value. value_of self.now temp ≡ Some value) }
+    {
         if self.is_there() {
             self.state.frame.temps.get(temp)
         } else {

@@ -8,7 +8,8 @@ use Rattle.il_ast.specs.Cost.{round_16}
 use Rattle.rv_isa.specs.Words.{Words}
 use Rattle.obj_link.specs.Shown.{shown}
 use Rattle.obj_link.specs.Limits.{object_size}
-use Rattle.obj_link.specs.Placed.{function_addresses, functions_end, object_addresses, objects_end}
+use Rattle.obj_link.specs.Placed.{function_addresses, functions_end, objects_end}
+use Rattle.obj_link.specs.ImageOf.{object_addresses}
 
 pub functions_rise : (at : ℕ) (codes : List Words) → at ≤ functions_end at codes
 functions_rise at [] = omega arith

@@ -13,7 +13,7 @@ use Rattle.il_types.specs.declared.checked.Checked.{Checked}
 use Rattle.rv_isa.specs.Words.{Words}
 use Rattle.obj_link.specs.Limits.{object_size, total_weight, total_size, within_limits}
 use Rattle.obj_link.specs.Names.{functions_of}
-use Rattle.obj_link.specs.Natives.{functions_start}
+use Rattle.obj_link.specs.Image.{functions_start}
 use Rattle.obj_link.specs.Program.{IsProgram}
 use Rattle.obj_link.specs.Placed.{functions_end, objects_end, objects_start, AreCodes, FitsBelow}
 

@@ -37,10 +37,11 @@ use Rattle.il_ast.specs.declared.value.Callee.TheVariants.{Defined}
 use Rattle.asm_layout.proofs.Filling.{filled_length}
 use Rattle.asm_layout.proofs.WordRanges.{small_at, word_small}
 use Rattle.obj_link.specs.declared.placing.addresses.Addresses.{Addresses}
-use Rattle.obj_link.specs.Image.{Contents, IsImage, code_start}
+use Rattle.obj_link.specs.Image.{Contents, IsImage, code_start, functions_start}
 use Rattle.obj_link.specs.Limits.{item_size, field_size, object_size}
-use Rattle.obj_link.specs.Natives.{start_words, write_words, exit_words, functions_start}
-use Rattle.obj_link.specs.Placed.{functions_end, objects_end, objects_start, callee_address, meaning, name_address, functions_words, code_of, value_number, cell_byte, in_slots, object_bytes, addresses_of, contents_of, FitsBelow, EveryCode}
+use Rattle.obj_link.specs.Natives.{start_words, write_words, exit_words}
+use Rattle.obj_link.specs.Placed.{functions_end, objects_end, objects_start, meaning, name_address, functions_words, code_of, addresses_of, contents_of, FitsBelow, EveryCode}
+use Rattle.obj_link.specs.ImageOf.{callee_address, value_number, cell_byte, in_slots, object_bytes}
 use Rattle.obj_link.specs.DataBytes.{address_bytes, item_bytes, field_bytes, slot_bytes}
 use Rattle.obj_link.proofs.AddressLemmas.{functions_rise, objects_rise}
 use Rattle.il_ast.proofs.Measured.{length_bytes}
@@ -173,7 +174,7 @@ data_end a targets at (d ∷ ds) =
 
 -- ---- sizes of code
 
-functions_count : (a : Addresses) (targets : List (List Target)) (at : ℕ) (codes : List Words) (fs : List (InText Func)) → length codes ≡ length fs
+pub functions_count : (a : Addresses) (targets : List (List Target)) (at : ℕ) (codes : List Words) (fs : List (InText Func)) → length codes ≡ length fs
     → at + 4 * length (functions_words a targets at codes fs) ≡ functions_end at codes
 functions_count a targets at [] fs same = omega arith
 functions_count a targets at (c ∷ codes) [] same = absurd (omega arith)

@@ -10,3 +10,4 @@ pub mod CodeLemmas
 pub mod DataLemmas
 pub mod ImageLemmas
 pub mod FitLemmas
+pub mod ImagesOf

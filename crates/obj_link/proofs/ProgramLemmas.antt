@@ -13,10 +13,10 @@ use Rattle.obj_link.specs.declared.linking.names.GlobalName.{GlobalName}
 use Rattle.obj_link.specs.declared.linking.error.LinkError.{LinkError}
 use Rattle.obj_link.specs.declared.linking.error.LinkError.TheVariants.{UnknownName, ExportedTwice, NoMain, Limit, Memory}
 use Rattle.obj_link.specs.Shown.{shown}
-use Rattle.obj_link.specs.Names.{functions_of, objects_of, names_of, names_of_functions, names_of_objects, visible, meaning_of, symbols_by, targets_by, targets_of}
+use Rattle.obj_link.specs.Names.{functions_of, objects_of, names_of, names_of_functions, names_of_objects, visible, meaning_of, symbols_by, targets_by, targets_of, symbol_at, IsUnknown}
 use Rattle.obj_link.specs.Main.{main_in, ExportsMain}
 use Rattle.obj_link.specs.Limits.{within_limits}
-use Rattle.obj_link.specs.Refusals.{symbol_at, IsUnknown, Refuses}
+use Rattle.obj_link.specs.Refusals.{Refuses}
 use Rattle.obj_link.specs.Joined.{IsJoined}
 use Rattle.obj_link.specs.Linked.{program_with}
 use Rattle.obj_link.specs.Program.{IsProgram}

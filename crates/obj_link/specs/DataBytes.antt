@@ -13,7 +13,8 @@ use Rattle.il_ast.specs.Values.{bytes_of, byte_count}
 use Rattle.obj_link.specs.declared.placing.addresses.Addresses.{Addresses}
 use Rattle.il_ast.specs.declared.program.InText.{InText}
 use Rattle.il_ast.specs.declared.datum.DataDef.{DataDef}
-use Rattle.obj_link.specs.Placed.{callee_address, meaning, in_slots}
+use Rattle.obj_link.specs.Placed.{meaning}
+use Rattle.obj_link.specs.ImageOf.{callee_address, in_slots}
 
 abbrev pub address_bytes : Addresses → Option Target → (offset : ℕ) → List ℕ
 address_bytes a None offset = replicate 8 0

@@ -17,6 +17,17 @@ code_start = CODE_START
 abbrev pub image_end : ℕ
 image_end = IMAGE_END
 
+-- where `write` and `exit` stand, behind the 7 words of the start code, and the first function of the
+-- program
+abbrev pub write_address : ℕ
+write_address = code_start + 28
+
+abbrev pub exit_address : ℕ
+exit_address = code_start + 40
+
+abbrev pub functions_start : ℕ
+functions_start = code_start + 48
+
 -- the least multiple of a page that is at least n
 abbrev pub round_to_page : ℕ → ℕ
 round_to_page n = (n + 4095) / 4096 * 4096

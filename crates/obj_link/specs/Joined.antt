@@ -6,8 +6,7 @@ use Rattle.il_types.specs.declared.checked.Checked.{Checked}
 use Rattle.obj_link.specs.declared.linking.names.GlobalName.{GlobalName}
 use Rattle.obj_link.specs.declared.linking.error.LinkError.{LinkError}
 use Rattle.obj_link.specs.declared.linking.error.LinkError.TheVariants.{UnknownName, ExportedTwice, NoMain, Limit, Memory}
-use Rattle.obj_link.specs.Names.{own, visible, times_exported, targets_by}
-use Rattle.obj_link.specs.Refusals.{IsUnknown}
+use Rattle.obj_link.specs.Names.{own, visible, times_exported, targets_by, IsUnknown}
 
 abbrev pub meaning_by : List Checked → List GlobalName → ℕ → ℕ → List ℕ → Option Target
 meaning_by texts names t s name = option_or (own names t s) (visible texts names name)

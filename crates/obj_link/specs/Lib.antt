@@ -11,6 +11,7 @@ pub mod Linked
 pub mod ProgramOf
 pub mod Laws
 pub mod Natives
+pub mod ImageOf
 pub mod Placed
 pub mod DataBytes
 pub mod Arguments

@@ -1,6 +1,6 @@
 -- Global names over texts: what defines them, which are exported, and what each means (QBE IL,
 -- "Linkage"; names that no text defines are this project's choice).
-use Rattle.std.specs.Prelude.{ℕ, ◌+◌, Bool, nat_eq, ◌&&◌, if◌then◌else◌, List, [], ◌∷◌, ◌++◌, slice_get, slice_index_or, codes, count_by, Option, Some, None}
+use Rattle.std.specs.Prelude.{◌≡◌, ℕ, ◌+◌, Bool, nat_eq, ◌&&◌, if◌then◌else◌, List, [], ◌∷◌, ◌++◌, slice_get, slice_index_or, codes, count_by, Option, Some, None}
 use Rattle.std.specs.List.{flat_map, find}
 use Rattle.std.specs.Option.{option_map, option_and_then, option_or, is_some}
 use Rattle.std.specs.Str.{bytes_eq}
@@ -125,3 +125,15 @@ targets_of texts = targets_by (meaning_of texts) 0 texts
 abbrev pub times_exported : List Checked → List GlobalName → List ℕ → ℕ
 times_exported texts names name =
     count_by (is_export texts name) names + (if is_some (predefined name) then 1 else 0)
+
+-- ---- names without a meaning
+
+-- the name of symbol s of text t
+abbrev pub symbol_at : List Checked → ℕ → ℕ → Option (List ℕ)
+symbol_at texts t s =
+    option_and_then (λ (c : Checked). slice_get c.text.symbols s) (slice_get texts t)
+
+-- a text mentions a name that has no meaning there
+abbrev pub IsUnknown : (ℕ → ℕ → List ℕ → Option Target) → List Checked → List ℕ → Type 0
+IsUnknown meaning texts name =
+    (t : ℕ) × (s : ℕ) × (symbol_at texts t s ≡ Some name) × (meaning t s name ≡ None)

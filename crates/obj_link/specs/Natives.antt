@@ -1,10 +1,9 @@
 -- The words with which every program begins: its start, and the predefined functions `write` and
 -- `exit`. A system call's arguments stand where a function's do.
-use Rattle.std.specs.Prelude.{ℕ, ◌+◌, List, [], ◌∷◌, pos}
+use Rattle.std.specs.Prelude.{ℕ, List, [], ◌∷◌, pos}
 use Rattle.bits.specs.Words.{upper_field, lower_field}
 use Rattle.rv_isa.specs.declared.abi.TheConstants.{ZERO, RETURN_ADDRESS, STACK_POINTER, FIRST_TEMPORARY, FIRST_ARGUMENT, SECOND_ARGUMENT, SYSTEM_CALL, WRITE, EXIT}
 use Rattle.rv_isa.specs.Formats.{i_type, u_type}
-use Rattle.obj_link.specs.Image.{code_start}
 
 abbrev pub load_double : (rd rs1 offset : ℕ) → ℕ
 load_double rd rs1 offset = i_type 0x03 3 rd rs1 (pos offset)
@@ -37,13 +36,3 @@ write_words = add_immediate SYSTEM_CALL ZERO WRITE ∷ system_call ∷ jump_to Z
 
 abbrev pub exit_words : List ℕ
 exit_words = add_immediate SYSTEM_CALL ZERO EXIT ∷ system_call ∷ []
-
--- where the two stand, and the first function of the program
-abbrev pub write_address : ℕ
-write_address = code_start + 28
-
-abbrev pub exit_address : ℕ
-exit_address = code_start + 40
-
-abbrev pub functions_start : ℕ
-functions_start = code_start + 48

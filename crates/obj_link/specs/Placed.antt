@@ -1,7 +1,6 @@
 -- A program's code and data at their addresses.
-use Rattle.std.specs.Prelude.{ℕ, ◌+◌, ◌-◌, ◌*◌, ◌%◌, ◌^◌, ◌≤◌, Bool, true, ◌&&◌, List, [], ◌∷◌, ◌++◌, length, map, replicate, slice_get, slice_index, Option, Some, None}
+use Rattle.std.specs.Prelude.{ℕ, ◌+◌, ◌-◌, ◌*◌, ◌≤◌, Bool, true, ◌&&◌, List, [], ◌∷◌, ◌++◌, length, slice_get, slice_index, Option, Some, None}
 use Rattle.std.specs.Option.{option_and_then}
-use Rattle.std.specs.Int.{byte_at}
 use Rattle.std.specs.List.{flat_map}
 use Rattle.il_ast.specs.declared.datum.DataDef.{DataDef}
 use Rattle.il_ast.specs.declared.function.Func.{Func}
@@ -9,20 +8,15 @@ use Rattle.il_ast.specs.declared.program.InText.{InText}
 use Rattle.il_ast.specs.declared.program.Program.{Program}
 use Rattle.il_ast.specs.declared.program.Target.{Target}
 use Rattle.il_ast.specs.declared.program.Target.TheVariants.{Code, Object}
-use Rattle.il_ast.specs.declared.value.Callee.{Callee}
-use Rattle.il_ast.specs.declared.value.Callee.TheVariants.{Defined, SystemWrite, SystemExit}
-use Rattle.il_ast.specs.declared.value.Cell.{Cell}
-use Rattle.il_ast.specs.declared.value.Cell.TheVariants.{Plain, Part, Blank}
-use Rattle.il_ast.specs.declared.value.Value.{Value}
-use Rattle.il_ast.specs.declared.value.Value.TheVariants.{Integer, Pointer, Function}
+use Rattle.il_ast.specs.declared.value.Callee.TheVariants.{Defined}
 use Rattle.il_ast.specs.Cost.{weight, round_16}
-use Rattle.il_ast.specs.Start.{object_cells}
 use Rattle.rv_isa.specs.Words.{Words, IsCode}
 use Rattle.rv_isa.specs.Laid.{filled, all_reach}
 use Rattle.obj_link.specs.declared.placing.addresses.Addresses.{Addresses}
-use Rattle.obj_link.specs.Image.{Contents, code_start, image_end, round_to_page}
+use Rattle.obj_link.specs.Image.{Contents, code_start, image_end, round_to_page, functions_start}
+use Rattle.obj_link.specs.ImageOf.{object_addresses, callee_address, object_bytes}
 use Rattle.obj_link.specs.Limits.{object_size}
-use Rattle.obj_link.specs.Natives.{start_words, write_words, exit_words, write_address, exit_address, functions_start}
+use Rattle.obj_link.specs.Natives.{start_words, write_words, exit_words}
 
 -- ---- addresses
 
@@ -35,11 +29,6 @@ function_addresses at (c ∷ codes) = at ∷ function_addresses (at + 4 * length
 abbrev pub functions_end : (at : ℕ) → List Words → ℕ
 functions_end at [] = at
 functions_end at (c ∷ codes) = functions_end (at + 4 * length c.words) codes
-
--- data stand one after another, each from a multiple of 16
-abbrev pub object_addresses : (at : ℕ) → List (InText DataDef) → List ℕ
-object_addresses at [] = []
-object_addresses at (d ∷ ds) = at ∷ object_addresses (at + round_16 (object_size d.item)) ds
 
 -- where the last one's slot ends
 abbrev pub objects_end : (at : ℕ) → List (InText DataDef) → ℕ
@@ -57,11 +46,6 @@ addresses_of p codes = record {
 }
 
 -- ---- what names are worth
-
-abbrev pub callee_address : Addresses → Callee → ℕ
-callee_address a (Defined k) = slice_index a.functions k
-callee_address a SystemWrite = write_address
-callee_address a SystemExit = exit_address
 
 abbrev pub target_address : Addresses → Option Target → ℕ
 target_address a None = 0
@@ -99,27 +83,6 @@ functions_reach a targets at (c ∷ codes) [] = true
 functions_reach a targets at (c ∷ codes) (f ∷ fs) =
     all_reach at (name_address a targets f.text) c.holes
     && functions_reach a targets (at + 4 * length c.words) codes fs
-
--- ---- data
-
--- the number that stands for a value
-abbrev pub value_number : Addresses → Value → ℕ
-value_number a (Integer n) = n
-value_number a (Pointer b o) = (slice_index a.objects b + o) % 2 ^ 64
-value_number a (Function f) = callee_address a f
-
--- a blank cell is zero
-abbrev pub cell_byte : Addresses → Cell → ℕ
-cell_byte a (Plain b) = b
-cell_byte a (Part v k) = byte_at k (value_number a v)
-cell_byte a Blank = 0
-
--- zeros after the bytes, up to a multiple of 16
-unfoldable pub in_slots : List ℕ → List ℕ
-in_slots bytes = bytes ++ replicate (round_16 (length bytes) - length bytes) 0
-
-abbrev pub object_bytes : Addresses → Program → InText DataDef → List ℕ
-object_bytes a p d = in_slots (map (cell_byte a) (object_cells p d))
 
 -- ---- the whole
 

@@ -1,12 +1,11 @@
 -- What a refusal says of texts.
 use Rattle.std.specs.Prelude.{◌≡◌, ◌<◌, ℕ, false, List, Option, Some, None, slice_get}
-use Rattle.std.specs.Option.{option_and_then}
 use Rattle.il_ast.specs.declared.program.Target.{Target}
 use Rattle.il_types.specs.declared.checked.Checked.{Checked}
 use Rattle.obj_link.specs.declared.linking.names.GlobalName.{GlobalName}
 use Rattle.obj_link.specs.declared.linking.error.LinkError.{LinkError}
 use Rattle.obj_link.specs.declared.linking.error.LinkError.TheVariants.{UnknownName, ExportedTwice, NoMain, Limit, Memory}
-use Rattle.obj_link.specs.Names.{times_exported, meaning_of, names_of, functions_of, objects_of}
+use Rattle.obj_link.specs.Names.{times_exported, meaning_of, names_of, functions_of, objects_of, IsUnknown}
 use Rattle.obj_link.specs.Main.{ExportsMain}
 use Rattle.obj_link.specs.Limits.{within_limits}
 
@@ -26,16 +25,6 @@ RefusesSymbols (ExportedTwice name) meaning symbols = ⊥
 RefusesSymbols NoMain meaning symbols = ⊥
 RefusesSymbols Limit meaning symbols = ⊥
 RefusesSymbols Memory meaning symbols = Unit {0}
-
--- the name of symbol s of text t
-abbrev pub symbol_at : List Checked → ℕ → ℕ → Option (List ℕ)
-symbol_at texts t s =
-    option_and_then (λ (c : Checked). slice_get c.text.symbols s) (slice_get texts t)
-
--- a text mentions a name that has no meaning there
-abbrev pub IsUnknown : (ℕ → ℕ → List ℕ → Option Target) → List Checked → List ℕ → Type 0
-IsUnknown meaning texts name =
-    (t : ℕ) × (s : ℕ) × (symbol_at texts t s ≡ Some name) × (meaning t s name ≡ None)
 
 abbrev pub RefusesNames : LinkError → (ℕ → ℕ → List ℕ → Option Target) → List Checked → Type 0
 RefusesNames (UnknownName name) meaning texts = IsUnknown meaning texts name.now

@@ -22,7 +22,7 @@ use Rattle.rv_isa.specs.Start.{stack_top, argument_bytes, pointer_bytes, word_by
 use Rattle.rv_isa.specs.Words.{Words}
 use Rattle.obj_link.specs.Laws.{IsThere}
 use Rattle.elf_file.specs.Loaded.{Executable, byte_in}
-use Rattle.rv_machine.specs.Start.{Starts}
+use Rattle.rv_machine.specs.Starts.{Starts}
 use Rattle.flat_code.specs.Spots.{Bases, Entries}
 use Rattle.promote.specs.Programs.{AreBytes, AreWords, ItemsHaveBytes, FieldsHaveBytes, ObjectsHaveBytes, AreAmong, HasBytes}
 use Rattle.headline.specs.Places.{CellsStand, BlocksStand, DataStands}

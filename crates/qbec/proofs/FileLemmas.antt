@@ -5,9 +5,11 @@ use Rattle.il_ast.specs.declared.program.Program.{Program}
 use Rattle.il_types.specs.declared.checked.Checked.{Checked}
 use Rattle.rv_isa.specs.Words.{Words}
 use Rattle.obj_link.specs.Image.{Contents, IsImage}
+use Rattle.obj_link.specs.ImageOf.{IsImageOf}
 use Rattle.obj_link.specs.Placed.{contents_of, calls_reach, FitsBelow}
 use Rattle.obj_link.specs.Program.{IsProgram}
 use Rattle.obj_link.proofs.FitLemmas.{program_fits}
+use Rattle.obj_link.proofs.ImagesOf.{is_image_of}
 use Rattle.rv_isa.specs.State.{State}
 use Rattle.rv_isa.specs.Start.{word_bytes}
 use Rattle.elf_file.specs.Conditions.{Loads}
@@ -15,7 +17,7 @@ use Rattle.elf_file.specs.File.{executable_of}
 use Rattle.elf_file.specs.Loaded.{Executable}
 use Rattle.elf_file.specs.Stands.{Stands}
 use Rattle.elf_file.proofs.Reading.{Loads-unique}
-use Rattle.rv_machine.specs.Start.{Starts}
+use Rattle.rv_machine.specs.Starts.{Starts}
 use Rattle.promote.proofs.Programs.{outcome_stays}
 use Rattle.headline.specs.Headline.{Executes}
 use Rattle.headline.proofs.DataPlaced.{programs_have_names, stands_well}
@@ -57,10 +59,9 @@ is_file texts p codes image bytes is words reach made good loads stands =
     here : IsExecutableOf p (executable_of image)
     here =
         record {
-          codes = codes;
-          one_each = words.few;
-          are_code = words.every;
-          stands = subst (λ i. Stands i (executable_of image)) made stands;
+          image = image;
+          is = subst (IsImageOf p) (sym made) (is_image_of p codes words.few words.every);
+          stands = stands;
           runs =
               λ ws s starts few short.
               runs_promoted texts p codes (executable_of image) ws s is words reach (subst IsImage made good)

@@ -11,3 +11,4 @@ pub mod Reaching
 pub mod FileLemmas
 pub mod CompileLemmas
 pub mod ListingLemmas
+pub mod Answering

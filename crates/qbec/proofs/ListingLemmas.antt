@@ -4,15 +4,13 @@ use Rattle.std.specs.List.{concat}
 use Rattle.std.proofs.lemmas.Simd.{map-map}
 use Rattle.il_ast.specs.declared.program.Program.{Program}
 use Rattle.il_types.specs.declared.checked.Checked.{Checked}
+use Rattle.rv_isa.specs.Words.{Words}
 use Rattle.qbec.specs.declared.symbols.symbol.Symbol.{Symbol}
-use Rattle.qbec.specs.Listing.{ListsProgram, symbol_line}
-use Rattle.qbec.specs.Symbols.{AreSymbols, entry}
+use Rattle.qbec.specs.Listing.{listing_of, symbol_line}
+use Rattle.qbec.specs.Symbols.{entry, symbols_of}
 
-pub lists : {E : Type 0} (texts : List Checked) (p : Program) (found same : List Symbol) (r : Result (Vec ℕ Global) E) → AreSymbols texts p (map entry found) → same ≡ found
-    → IfOk r (λ v. v.items ≡ concat (map (λ s. symbol_line (entry s)) same)) → IfOk r (λ v. ListsProgram texts p v.items)
-lists texts p found same (Ok v) stand is are = record {
-  entries = map entry found;
-  stand = stand;
-  are = are ∙ ap (λ ss. concat (map (λ s. symbol_line (entry s)) ss)) is ∙ ap concat (sym (map-map symbol_line entry found));
-}
-lists texts p found same (Err e) stand is are = tt
+pub lists : {E : Type 0} (texts : List Checked) (p : Program) (codes : List Words) (found same : List Symbol) (r : Result (Vec ℕ Global) E) → map entry found ≡ symbols_of texts p codes → same ≡ found
+    → IfOk r (λ v. v.items ≡ concat (map (λ s. symbol_line (entry s)) same)) → IfOk r (λ v. v.items ≡ listing_of texts p codes)
+lists texts p codes found same (Ok v) stand is are =
+    are ∙ ap (λ ss. concat (map (λ s. symbol_line (entry s)) ss)) is ∙ ap concat (sym (map-map symbol_line entry found)) ∙ ap (λ es. concat (map symbol_line es)) stand
+lists texts p codes found same (Err e) stand is are = tt

@@ -11,8 +11,10 @@ use Rattle.rv_isa.specs.Words.{Words}
 use Rattle.rv_isa.specs.Laid.{filled, all_reach}
 use Rattle.obj_link.specs.declared.placing.addresses.Addresses.{Addresses}
 use Rattle.obj_link.specs.Laws.{IsThere}
-use Rattle.obj_link.specs.Natives.{start_words, write_words, exit_words, functions_start}
-use Rattle.obj_link.specs.Placed.{name_address, functions_words, functions_reach, addresses_of, callee_address, contents_of, calls_reach}
+use Rattle.obj_link.specs.Image.{functions_start}
+use Rattle.obj_link.specs.Natives.{start_words, write_words, exit_words}
+use Rattle.obj_link.specs.Placed.{name_address, functions_words, functions_reach, addresses_of, contents_of, calls_reach}
+use Rattle.obj_link.specs.ImageOf.{callee_address}
 use Rattle.promote.specs.Uses.{mentions_of, width_in}
 use Rattle.promote.specs.Promoted.{IsPromoted, promoted_block}
 use Rattle.il_reader.specs.Definitions.{FunctionParts, function_parts}

@@ -16,7 +16,7 @@ use Rattle.asm_layout.specs.Forms.{is_part, HaveForm}
 use Rattle.asm_layout.specs.declared.call.CallForm.{CallForm}
 use Rattle.asm_layout.specs.declared.call.CallForm.TheVariants.{Far}
 use Rattle.obj_link.specs.declared.placing.addresses.Addresses.{Addresses}
-use Rattle.obj_link.specs.Natives.{functions_start}
+use Rattle.obj_link.specs.Image.{functions_start}
 use Rattle.obj_link.specs.Placed.{name_address, functions_reach, addresses_of, calls_reach}
 use Rattle.qbec.specs.Codes.{AllHaveForm}
 

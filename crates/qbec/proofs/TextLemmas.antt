@@ -17,7 +17,8 @@ use Rattle.il_types.specs.Rules.{IsGood}
 use Rattle.qbec.specs.declared.error.CompileError.{CompileError}
 use Rattle.qbec.specs.declared.error.CompileError.TheVariants.{Syntax, Rule, UnknownName, ExportedTwice, NoMain, Limit, Memory}
 use Rattle.qbec.specs.Texts.{AreTexts}
-use Rattle.qbec.specs.Refusals.{RefusesText, Refuses, read_refusal, check_refusal}
+use Rattle.qbec.specs.Refusals.{Refuses}
+use Rattle.qbec.specs.Reasons.{RefusesText, read_refusal, check_refusal}
 
 -- ---- refusals
 

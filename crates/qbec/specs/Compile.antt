@@ -4,24 +4,23 @@ use Rattle.il_ast.specs.declared.limits.TheConstants.{WORDS, WORD_BYTES}
 use Rattle.il_ast.specs.declared.program.Program.{Program}
 use Rattle.rv_isa.specs.State.{State}
 use Rattle.rv_isa.specs.Start.{word_bytes}
-use Rattle.rv_isa.specs.Words.{Words}
-use Rattle.obj_link.specs.Placed.{contents_of, AreCodes, EveryCode}
+use Rattle.obj_link.specs.Image.{Contents}
+use Rattle.obj_link.specs.ImageOf.{IsImageOf}
 use Rattle.elf_file.specs.Conditions.{Loads}
 use Rattle.elf_file.specs.Loaded.{Executable}
 use Rattle.elf_file.specs.Stands.{Stands}
-use Rattle.rv_machine.specs.Start.{Starts}
+use Rattle.rv_machine.specs.Starts.{Starts}
 use Rattle.headline.specs.Headline.{Executes}
 use Rattle.qbec.specs.Texts.{AreProgram}
 
--- The executable is one of the program: it has code for each function, which can be executed and
--- neither read nor written, and the bytes of the program's data, which can be read and written, and
--- nothing else; and from every start of the machine with argument words within their limits, the
--- machine executes the program.
+-- The executable is one of the program: an image of the program stands in its memory, whose code
+-- can be executed and neither read nor written, and whose data can be read and written, and nothing
+-- else stands there; and from every start of the machine with argument words within their limits,
+-- the machine executes the program.
 pub record IsExecutableOf (p : Program) (x : Executable) : Type 0 where
-  pub codes : List Words
-  pub one_each : AreCodes codes p.functions
-  pub are_code : EveryCode codes
-  pub stands : Stands (contents_of p codes) x
+  pub image : Contents
+  pub is : IsImageOf p image
+  pub stands : Stands image x
   pub runs : (words : List (List ℕ)) (s : State) → Starts x words s → length words ≤ WORDS →
       length (word_bytes words) ≤ WORD_BYTES → Executes p words s
 

@@ -1,5 +1,6 @@
 pub mod Texts
 pub mod Refusals
+pub mod Reasons
 pub mod Laws
 pub mod Promoted
 pub mod Pipeline

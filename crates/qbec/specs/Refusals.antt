@@ -3,19 +3,12 @@ use Rattle.std.specs.Prelude.{◌≡◌, ◌⊎◌, ◌<◌, ◌≤◌, ℕ, ◌
 use Rattle.il_ast.specs.declared.text.Text.{Text}
 use Rattle.il_lex.specs.Line.{lines_in}
 use Rattle.il_reader.specs.Reads.{Reads}
-use Rattle.il_reader.specs.declared.error.ReadError.{ReadError}
-use Rattle.il_reader.specs.declared.error.ReadError.TheVariants.{Syntax as NotRead, Memory as ReadMemory}
 use Rattle.il_types.specs.declared.checked.Checked.{Checked}
 use Rattle.il_types.specs.declared.rule.BrokenRule.{BrokenRule}
 use Rattle.il_types.specs.Rules.{broken, within_limits as is_within}
-use Rattle.il_types.specs.declared.error.CheckError.{CheckError}
-use Rattle.il_types.specs.declared.error.CheckError.TheVariants.{Rule as Broken, Limit as Passed, Memory as CheckMemory}
-use Rattle.obj_link.specs.Names.{times_exported, meaning_of, names_of, functions_of, objects_of}
+use Rattle.obj_link.specs.Names.{times_exported, meaning_of, names_of, functions_of, objects_of, IsUnknown}
 use Rattle.obj_link.specs.Main.{ExportsMain}
 use Rattle.obj_link.specs.Limits.{within_limits}
-use Rattle.obj_link.specs.Refusals.{IsUnknown}
-use Rattle.obj_link.specs.declared.linking.error.LinkError.{LinkError}
-use Rattle.obj_link.specs.declared.linking.error.LinkError.TheVariants.{UnknownName as LinkUnknown, ExportedTwice as LinkTwice, NoMain as LinkNoMain, Limit as LinkLimit, Memory as LinkMemory}
 use Rattle.qbec.specs.declared.error.CompileError.{CompileError}
 use Rattle.qbec.specs.declared.error.CompileError.TheVariants.{Syntax, Rule, UnknownName, ExportedTwice, NoMain, Limit, Memory}
 use Rattle.qbec.specs.Texts.{AreTexts}
@@ -33,14 +26,6 @@ Breaks fault bytes = (t : Text) × Reads bytes t × (broken fault.rule t ≡ Som
 -- it passes a limit of one text
 abbrev pub PassesLimit : List ℕ → Type 0
 PassesLimit bytes = (t : Text) × Reads bytes t × (is_within t ≡ false)
-
--- the text with this number is refused so
-abbrev pub RefusesText : CompileError → (number : ℕ) → List ℕ → Type 0
-RefusesText (Syntax text line) number bytes = (text ≡ number) × IsNoText line bytes
-RefusesText (Rule text fault) number bytes = (text ≡ number) × Breaks fault bytes
-RefusesText Limit number bytes = PassesLimit bytes
-RefusesText Memory number bytes = Unit {0}
-RefusesText e number bytes = ⊥
 
 -- ---- all texts
 
@@ -67,27 +52,3 @@ Refuses Limit texts =
     ⊎ OfAll texts (λ checked. within_limits checked (functions_of checked) (objects_of checked)
     ≡ false)
 Refuses Memory texts = Unit {0}
-
--- ---- which refusal it is
-
--- why reading and checking refuse the text with this number
-abbrev pub read_refusal : (number : ℕ) → ReadError → CompileError
-read_refusal number (NotRead line) = Syntax number line
-read_refusal number ReadMemory = Memory
-
-abbrev pub check_refusal : (number : ℕ) → CheckError → CompileError
-check_refusal number (Broken fault) = Rule number fault
-check_refusal number Passed = Limit
-check_refusal number CheckMemory = Memory
-
--- the refusal says what linking says, with a copy of the name where it has one, or that memory for
--- that was refused
-abbrev pub SaysAsMuch : LinkError → CompileError → Type 0
-SaysAsMuch (LinkUnknown name) (UnknownName copy) = copy.items ≡ name.now
-SaysAsMuch (LinkTwice name) (ExportedTwice copy) = copy.items ≡ name.now
-SaysAsMuch (LinkUnknown name) Memory = Unit {0}
-SaysAsMuch (LinkTwice name) Memory = Unit {0}
-SaysAsMuch LinkNoMain NoMain = Unit {0}
-SaysAsMuch LinkLimit Limit = Unit {0}
-SaysAsMuch LinkMemory Memory = Unit {0}
-SaysAsMuch e r = ⊥

@@ -1,5 +1,5 @@
 -- Where the names of a program stand in an executable of it.
-use Rattle.std.specs.Prelude.{◌≡◌, ℕ, ◌*◌, ◌++◌, Bool, List, [], ◌∷◌, length}
+use Rattle.std.specs.Prelude.{ℕ, ◌*◌, ◌++◌, Bool, List, [], ◌∷◌, length}
 use Rattle.il_ast.specs.declared.datum.DataDef.{DataDef}
 use Rattle.il_ast.specs.declared.function.Func.{Func}
 use Rattle.il_ast.specs.declared.program.InText.{InText}
@@ -9,7 +9,6 @@ use Rattle.obj_link.specs.Limits.{object_size}
 use Rattle.obj_link.specs.Names.{symbol_name}
 use Rattle.obj_link.specs.Placed.{addresses_of}
 use Rattle.rv_isa.specs.Words.{Words}
-use Rattle.qbec.specs.Codes.{AreWords}
 use Rattle.qbec.specs.declared.symbols.symbol.Kind.{Kind}
 use Rattle.qbec.specs.declared.symbols.symbol.Kind.TheVariants.{Function, Object}
 use Rattle.qbec.specs.declared.symbols.symbol.Symbol.{Symbol}
@@ -65,9 +64,3 @@ abbrev pub symbols_of : (texts : List Checked) → Program → List Words → Li
 symbols_of texts p codes =
     function_entries texts (addresses_of p codes).functions codes p.functions
     ++ object_entries texts (addresses_of p codes).objects p.objects
-
--- those of a program whose functions have words that stand for what they become
-pub record AreSymbols (texts : List Checked) (p : Program) (symbols : List Entry) : Type 0 where
-  pub codes : List Words
-  pub words : AreWords codes p
-  pub are : symbols ≡ symbols_of texts p codes

@@ -2,9 +2,11 @@
 ghost use Rattle.std.specs.Prelude.{◌≡◌, IsTrue, IfOk, IfErr, map};
 ghost use Rattle.std.specs.Result.{MatchResult};
 ghost use Rattle.il_ast.specs.declared.program.Program.{Program};
-ghost use Rattle.obj_link.specs.Placed.{calls_reach};
 ghost use Rattle.obj_link.specs.ProgramOf.{program};
 ghost use Rattle.obj_link.specs.Program.{IsProgram};
+ghost use Rattle.obj_link.specs.Placed.{calls_reach, contents_of};
+ghost use Rattle.elf_file.specs.Conditions.{Loads};
+ghost use Rattle.elf_file.specs.File.{executable_of};
 ghost use Rattle.qbec.specs.declared.error.CompileError.TheVariants.{Memory};
 ghost use Rattle.qbec.specs.Codes.{AreGood, AreWords};
 ghost use Rattle.qbec.specs.Compile.{IsFile, IsCompiled};
@@ -22,7 +24,8 @@ use obj_link::placing::place::place;
 use rv_isa::code::MachineCode;
 use std::alloc::Global;
 
-fn file_of(
+/// The file of a program whose functions have these words.
+pub(crate) fn file_of(
     alloc: Global,
     linked: &Linked<'_>,
     codes: &[MachineCode],
@@ -30,7 +33,8 @@ fn file_of(
     requires program { IsProgram linked.now.texts.now (program linked.now) }
     requires words { AreWords codes.now (program linked.now) }
     requires reach { IsTrue (calls_reach (program linked.now) codes.now) }
-    ensures { MatchResult result (λ v. IsFile (program linked.now) v.items) (λ e. e ≡ Memory) }
+    ensures file { MatchResult result (λ v. IsFile (program linked.now) v.items) (λ e. e ≡ Memory) }
+    ensures loads { IfOk result (λ v. Loads v.items (executable_of (contents_of (program linked.now) codes.now))) }
 {
     match place(alloc, codes, linked) {
         Ok(image) => {

@@ -5,16 +5,17 @@
 //!
 //! Each function goes by the passes of one table, [`passes::PASSES`], and then by the register allocator and the back end ([`pipeline`]).
 //!
-//! Before it, [`texts::checked_texts`] reads and checks texts; [`laws`] says that texts are at most one program, and that what a refusal says is true of no program.
+//! Before it, [`texts::checked_texts`] reads and checks texts; [`laws`] says that texts are at most one program, that what a refusal says is true of no program, and what
+//! comes of a file that was compiled where it is read, started and run.
 //!
-//! [`symbols::listing::listing`] says where the names of texts stand in an executable of the program that they are: the addresses of its image.
+//! [`symbols::listing::listed_file`] compiles texts too, and says where their names stand in the file that this makes.
 //!
 //! | Definitions | Subject |
 //! |---|---|
 //! | `specs/Texts`, `specs/Compile` | the program that texts are; what an executable file of a program is |
-//! | `specs/Refusals` | what each refusal says |
+//! | `specs/Refusals`, `specs/Reasons` | what each refusal says; which one comes of what reading, checking and linking refuse |
 //! | `specs/Pipeline`, `specs/Candidates`, `specs/Promoted`, `specs/Codes` | functions on their way to words; the program that is compiled in a program's place |
-//! | `specs/Symbols`, `specs/Listing` | where the names of a program stand in an executable of it; the lines that show it |
+//! | `specs/Symbols`, `specs/Listing` | where the names of a program stand in its executable; a file, and the lines that show it |
 #![tactic(auto)]
 
 pub mod candidates;

@@ -1,7 +1,6 @@
 -- The state that a machine starts in is a start of its file.
-use Rattle.std.proofs.Common.{◌≡◌, ℕ, zero, suc, ◌+◌, ◌*◌, ◌^◌, ◌<◌, ◌≤◌, Bool, true, false, refl, ◌∙◌, ap, arith, List, [], ◌∷◌, ◌++◌, length, lit<, mod-lt}
+use Rattle.std.proofs.Common.{◌≡◌, ℕ, zero, suc, ◌+◌, ◌*◌, ◌^◌, ◌<◌, ◌≤◌, Bool, true, false, refl, ◌∙◌, ap, arith, List, [], ◌∷◌, ◌++◌, length, lit<, mod-lt, inl, inr}
 use Rattle.std.specs.Prelude.{◌&&◌, ◌⊎◌, nat_le, nat_lt, Option, Some, None, slice_get, slice_index, find, replicate, unwrap_or, ◌==◌, if◌then◌else◌}
-use Rattle.std.proofs.Common.{inl, inr}
 use Rattle.std.specs.Option.{option_map}
 use Rattle.std.specs.Int.{w64, to_le_bytes}
 use Rattle.std.proofs.lemmas.Bool.{le-ltb, ltb-true, ltb-false}
@@ -14,7 +13,8 @@ use Rattle.elf_file.specs.declared.flags.Flags.{Flags}
 use Rattle.elf_file.specs.Loaded.{Executable, Mapping, IsMapping, IsExecutable, holds, mapping_at, byte_in, byte_of}
 use Rattle.rv_machine.specs.Mapped.{read_and_write, stack_permission, permission_in, start_byte, flags_or}
 use Rattle.obj_link.specs.Arguments.{are_arguments}
-use Rattle.rv_machine.specs.Start.{filled, start_state, Starts, AreBytes, AreTexts}
+use Rattle.rv_machine.specs.Start.{filled, start_state, AreBytes, AreTexts}
+use Rattle.rv_machine.specs.Starts.{Starts}
 use Rattle.rv_machine.proofs.Arguments.{in_stack}
 
 -- ---- bytes that were filled in

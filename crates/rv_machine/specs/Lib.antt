@@ -10,6 +10,7 @@ pub mod Regions
 pub mod Registers
 pub mod Runs
 pub mod Start
+pub mod Starts
 pub mod Steps
 pub mod Width
 pub mod Words

@@ -5,8 +5,8 @@ use Rattle.rv_isa.specs.declared.permission.Permission.{Permission}
 use Rattle.rv_isa.specs.Memory.{number_at, stored, allowed}
 use Rattle.rv_isa.specs.Start.{stack_bottom, stack_top}
 use Rattle.elf_file.specs.declared.flags.Flags.{Flags}
-use Rattle.elf_file.specs.Flags.{is_readable, is_writable, is_executable}
 use Rattle.elf_file.specs.Loaded.{Executable, byte_in, flags_in}
+use Rattle.rv_machine.specs.Starts.{permission_of}
 
 -- there is memory at an address where anything is allowed
 abbrev pub is_mapped : Permission → Bool
@@ -18,10 +18,6 @@ nothing_allowed = record { readable = false; writable = false; executable = fals
 -- the stack and the arguments, which can't be executed here
 abbrev pub read_and_write : Permission
 read_and_write = record { readable = true; writable = true; executable = false }
-
-abbrev pub permission_of : Flags → Permission
-permission_of f =
-    record { readable = is_readable f; writable = is_writable f; executable = is_executable f }
 
 -- the stack, and above it as many bytes for the arguments
 abbrev pub stack_permission : (arguments at : ℕ) → Permission

@@ -5,7 +5,7 @@
 //!
 //! - [`Machine::start`](machine::Machine::start) gives exactly `start_state` of `specs/Start.antt`: at the file's entry, with the argument words above the
 //!   stack pointer, zeros elsewhere, and nothing mapped but the file's segments, the stack and the words. It refuses exactly the words that pass
-//!   a limit, [`obj_link::arguments::are_arguments`].
+//!   a limit, [`obj_link::arguments::are_arguments`]. That is one of the starts of `specs/Starts.antt`, which leave free what a program can't count on.
 //! - [`Machine::step`](machine::Machine::step) does exactly what `step` says: it comes to that state, or stops as that stop, [`stop::Stop`], and is
 //!   then as it was. Beyond that it may only stop for want of memory, where the instruction is a store and the memory
 //!   refuses, or calls `write` with descriptor 1 and some bytes, and only where what it stores or puts out may be written or read; then too nothing has

@@ -3,7 +3,7 @@
 ghost use Rattle.std.specs.Prelude.{◌≡◌, ◌≢◌, ℕ, ◌+◌, ◌-◌, ◌≤◌, ◌<◌, ◌^◌, ◌∷◌, ◌++◌, [], drop, true, IfOk, IfSome, MatchOption, Some, length, position, slice_index, vec_len, max};
 ghost use Rattle.byteorder.specs.Endian.{little_bytes, little_number};
 ghost use Rattle.rv_machine.specs.Width.{bytes_of};
-ghost use Rattle.rv_machine.specs.Mapped.{permission_of};
+ghost use Rattle.rv_machine.specs.Starts.{permission_of};
 
 use crate::width::Width;
 use byteorder::{ByteOrder, LittleEndian};

@@ -9,7 +9,7 @@ use std::alloc::{AllocError, Global};
 /// Why a file could not be read or written.
 #[derive(Clone, Copy, Debug, PartialEq, Eq, thiserror::Error)]
 pub enum FileFault {
-    /// The device or the file system refused.
+    /// The device or the file system refused, or the disk itself, as one does that writes over no file that was read.
     #[error("the device refused")]
     Device,
     /// Memory was refused.

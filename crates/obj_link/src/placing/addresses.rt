@@ -4,8 +4,9 @@ ghost use Rattle.std.specs.Prelude.{◌≡◌, ◌+◌, ◌*◌, ◌^◌, ◌<�
 ghost use Rattle.obj_link.specs.Shown.{shown};
 ghost use Rattle.obj_link.specs.Limits.{object_size};
 ghost use Rattle.il_ast.specs.Cost.{round_16};
-ghost use Rattle.obj_link.specs.Natives.{write_address, exit_address};
-ghost use Rattle.obj_link.specs.Placed.{function_addresses, functions_end, object_addresses, objects_end, callee_address, target_address, meaning, EveryCode};
+ghost use Rattle.obj_link.specs.Image.{write_address, exit_address};
+ghost use Rattle.obj_link.specs.Placed.{function_addresses, functions_end, objects_end, target_address, meaning, EveryCode};
+ghost use Rattle.obj_link.specs.ImageOf.{object_addresses, callee_address};
 
 use crate::linking::limits::object_size;
 use crate::placing::image::CODE_START;

@@ -5,7 +5,7 @@ ghost use Rattle.std.specs.Int.{w64, to_le_bytes};
 ghost use Rattle.std.specs.List.{flat_map};
 ghost use Rattle.il_ast.specs.Values.{bytes_of, byte_count};
 ghost use Rattle.obj_link.specs.Shown.{shown};
-ghost use Rattle.obj_link.specs.Placed.{in_slots};
+ghost use Rattle.obj_link.specs.ImageOf.{in_slots};
 ghost use Rattle.il_ast.specs.Cost.{round_16};
 ghost use Rattle.obj_link.specs.DataBytes.{address_bytes, item_bytes, field_bytes, slot_bytes};
 
@@ -144,7 +144,7 @@ fn padding(size: usize) -> u64
     ((16 - size % 16) % 16) as u64
 }
 
-#[tactic(auto, unfolding(crate::specs::Placed::in_slots))]
+#[tactic(auto, unfolding(crate::specs::ImageOf::in_slots))]
 fn push_object(
     bytes: &mut Vec<u8>,
     addresses: &Addresses,

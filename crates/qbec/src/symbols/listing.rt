@@ -6,12 +6,14 @@ ghost use Rattle.il_ast.specs.declared.program.Program.{Program};
 ghost use Rattle.obj_link.specs.Program.{IsProgram};
 ghost use Rattle.obj_link.specs.ProgramOf.{program};
 ghost use Rattle.qbec.specs.declared.error.CompileError.TheVariants.{Memory};
-ghost use Rattle.qbec.specs.Codes.{AreGood};
+ghost use Rattle.qbec.specs.Codes.{AreGood, AreWords};
 ghost use Rattle.qbec.specs.Refusals.{Refuses};
 ghost use Rattle.qbec.specs.Texts.{AreProgram};
-ghost use Rattle.qbec.specs.Listing.{IsListed, ListsProgram, letter, symbol_line};
+ghost use Rattle.qbec.specs.Listing.{IsFileListed, IsListed, IsListedFile, letter, listing_of, symbol_line};
 ghost use Rattle.qbec.specs.Symbols.{entry};
 
+use crate::codes::codes_of;
+use crate::compile::file_of;
 use crate::error::{CompileError, link_refusal};
 use crate::symbols::symbol::{Kind, Symbol};
 use crate::symbols::table::symbols;
@@ -19,6 +21,7 @@ use crate::texts::checked_texts;
 use certificates::strategy::Strategy;
 use obj_link::linking::linked::Linked;
 use obj_link::linking::resolve::resolve;
+use rv_isa::code::MachineCode;
 use shell::digits::sixteen_digits;
 use std::alloc::{AllocError, Global};
 
@@ -57,41 +60,72 @@ fn lines_of(alloc: Global, symbols: &[Symbol<'_>]) -> Result<Vec<u8>, AllocError
     Ok(listing)
 }
 
-/// The lines of the symbols of a program.
-fn linked_listing(
+/// The lines of the symbols of a program whose functions have these words.
+fn listing_of(
     alloc: Global,
     linked: &Linked<'_>,
-    allocator: &mut dyn Strategy,
+    codes: &[MachineCode],
 ) -> Result<Vec<u8>, AllocError>
     requires program { IsProgram linked.now.texts.now (program linked.now) }
-    requires good { AreGood linked.now.functions }
-    ensures { IfOk result (λ v. ListsProgram linked.now.texts.now (program linked.now) v.items) }
+    requires words { AreWords codes.now (program linked.now) }
+    ensures { IfOk result (λ v. v.items ≡ listing_of linked.now.texts.now (program linked.now) codes.now) }
 {
-    let found = symbols(alloc, linked, allocator)?;
+    let found = symbols(alloc, linked, codes)?;
     lines_of(alloc, found.as_slice())
 }
 
-/// The same, of a program that memory alone can refuse.
+/// An executable file, and the lines of the names in it.
+#[derive(Drop)]
+pub struct ListedFile {
+    pub file: Vec<u8>,
+    pub listing: Vec<u8>,
+}
+
+/// The file of a program, and its lines, with the same words for each function.
 fn listed(
     alloc: Global,
     linked: &Linked<'_>,
     allocator: &mut dyn Strategy,
-) -> Result<Vec<u8>, CompileError>
+) -> Result<ListedFile, CompileError>
     requires program { IsProgram linked.now.texts.now (program linked.now) }
     requires good { AreGood linked.now.functions }
-    ensures { MatchResult result (λ v. ListsProgram linked.now.texts.now (program linked.now) v.items) (λ e. e ≡ Memory) }
+    ensures { MatchResult result (λ l. IsFileListed linked.now.texts.now (program linked.now) l.file.items l.listing.items) (λ e. e ≡ Memory) }
 {
-    match linked_listing(alloc, linked, allocator) {
-        Ok(listing) => Ok(listing),
-        Err(error) => Err(CompileError::from(error)),
-    }
+    let codes = codes_of(alloc, linked, allocator)?;
+    let words = codes.as_slice();
+    let file = file_of(alloc, linked, words)?;
+    let listing = listing_of(alloc, linked, words)?;
+    Ok(ListedFile { file, listing })
 }
 
-/// Where the names of texts stand in an executable of the program that they are, with the registers that the strategy chooses: a line for each function, and behind
-/// them one for each datum, in the order of addresses.
+/// Compiles texts as [`crate::compile::compile`] does, and says where their names stand in the file that this makes: a line for each function, and behind them one for
+/// each datum, in the order of addresses.
 ///
 /// A line has the address and the size, each as sixteen hexadecimal digits, the letter of what stands there, and the name without its `$`. `nm -S` prints such lines of
 /// other executables. Sizes are in bytes; that of a datum leaves out the zeros behind it.
+///
+/// # Errors
+///
+/// Those of [`crate::compile::compile`], for the same texts.
+pub fn listed_file(
+    alloc: Global,
+    texts: &[&[u8]],
+    allocator: &mut dyn Strategy,
+) -> Result<ListedFile, CompileError>
+    ensures listed { IfOk result (λ l. IsListedFile (map (λ t. t.now) texts.now) l.file.items l.listing.items) }
+    ensures refused { IfErr result (λ e. Refuses e (map (λ t. t.now) texts.now)) }
+    ensures only { (p : Program) → AreProgram (map (λ t. t.now) texts.now) p → IfErr result (λ e. e ≡ Memory) }
+{
+    match checked_texts(alloc, texts) {
+        Ok(checked) => match resolve(alloc, checked.as_slice()) {
+            Ok(linked) => listed(alloc, &linked, allocator),
+            Err(error) => Err(link_refusal(alloc, error)),
+        },
+        Err(error) => Err(error),
+    }
+}
+
+/// The lines of [`listed_file`] alone.
 ///
 /// # Errors
 ///
@@ -105,11 +139,8 @@ pub fn listing(
     ensures refused { IfErr result (λ e. Refuses e (map (λ t. t.now) texts.now)) }
     ensures only { (p : Program) → AreProgram (map (λ t. t.now) texts.now) p → IfErr result (λ e. e ≡ Memory) }
 {
-    match checked_texts(alloc, texts) {
-        Ok(checked) => match resolve(alloc, checked.as_slice()) {
-            Ok(linked) => listed(alloc, &linked, allocator),
-            Err(error) => Err(link_refusal(alloc, error)),
-        },
+    match listed_file(alloc, texts, allocator) {
+        Ok(ListedFile { file: _, listing }) => Ok(listing),
         Err(error) => Err(error),
     }
 }

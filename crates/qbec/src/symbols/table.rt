@@ -1,19 +1,17 @@
 //! The symbols of a program.
 ghost use Rattle.std.specs.Prelude.{◌≡◌, ◌+◌, ◌-◌, ◌^◌, ◌<◌, ◌≤◌, ◌++◌, length, map, IfOk, OnOk};
 ghost use Rattle.il_ast.specs.Cost.{round_16};
-ghost use Rattle.obj_link.specs.Image.{code_start, round_to_page};
+ghost use Rattle.obj_link.specs.Image.{code_start, round_to_page, functions_start};
 ghost use Rattle.obj_link.specs.Limits.{object_size};
-ghost use Rattle.obj_link.specs.Natives.{functions_start};
-ghost use Rattle.obj_link.specs.Placed.{function_addresses, functions_end, object_addresses, objects_end};
+ghost use Rattle.obj_link.specs.Placed.{function_addresses, functions_end, objects_end};
+ghost use Rattle.obj_link.specs.ImageOf.{object_addresses};
 ghost use Rattle.obj_link.specs.Program.{IsProgram};
 ghost use Rattle.obj_link.specs.ProgramOf.{program};
 ghost use Rattle.obj_link.specs.Shown.{shown};
-ghost use Rattle.qbec.specs.Codes.{AreGood, AreWords};
-ghost use Rattle.qbec.specs.Symbols.{AreSymbols, entry, function_entries, object_entries, symbols_of};
+ghost use Rattle.qbec.specs.Codes.{AreWords};
+ghost use Rattle.qbec.specs.Symbols.{entry, function_entries, object_entries, symbols_of};
 
-use crate::codes::codes_of;
 use crate::symbols::symbol::{Kind, Symbol, name_in};
-use certificates::strategy::Strategy;
 use il_ast::datum::DataDef;
 use il_ast::function::Func;
 use il_ast::program::InText;
@@ -99,8 +97,12 @@ fn push_objects<'a>(
     Ok(())
 }
 
-/// The symbols of a program whose functions have these words.
-fn symbols_with<'a>(
+/// The functions and the data of a program whose functions have these words, as they stand in its executable: in the order of addresses.
+///
+/// # Errors
+///
+/// Only where memory was refused.
+pub fn symbols<'a>(
     alloc: Global,
     linked: &Linked<'a>,
     codes: &[MachineCode],
@@ -115,22 +117,4 @@ fn symbols_with<'a>(
     let objects = linked.objects.as_slice();
     push_objects(&mut found, linked.texts, data_start(end), objects)?;
     Ok(found)
-}
-
-/// The functions and the data of a program, as they stand in an executable of it: in the order of addresses.
-///
-/// # Errors
-///
-/// Only where memory was refused.
-pub fn symbols<'a>(
-    alloc: Global,
-    linked: &Linked<'a>,
-    allocator: &mut dyn Strategy,
-) -> Result<Vec<Symbol<'a>>, AllocError>
-    requires program { IsProgram linked.now.texts.now (program linked.now) }
-    requires good { AreGood linked.now.functions }
-    ensures { IfOk result (λ v. AreSymbols linked.now.texts.now (program linked.now) (map entry v.items)) }
-{
-    let codes = codes_of(alloc, linked, allocator)?;
-    symbols_with(alloc, linked, codes.as_slice())
 }

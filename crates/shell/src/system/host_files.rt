@@ -59,7 +59,8 @@ fn is_among(file: FileId, files: &[FileId]) -> bool {
     false
 }
 
-/// The files of the system, and which calls failed. A file that was read isn't written.
+/// The files of the system, and which calls failed. A file that was read isn't written, nor is standard output: that counts as the device's fault. So does a write that
+/// the system breaks off in its midst, also where it says that it was for want of memory.
 #[derive(Drop)]
 pub struct HostFiles<'r, R> {
     rt: &'r R,

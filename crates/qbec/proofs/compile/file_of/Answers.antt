@@ -1,5 +1,7 @@
 use Rattle.std.proofs.Common.{◌∙◌, subst}
 use Rattle.obj_link.specs.Image.{IsImage}
+use Rattle.elf_file.specs.Conditions.{Loads}
+use Rattle.elf_file.specs.File.{executable_of}
 use Rattle.std.proofs.lemmas.List.{length-map}
 use Rattle.obj_link.specs.ProgramOf.{program}
 use Rattle.obj_link.specs.Shown.{shown}
@@ -14,7 +16,10 @@ place-requires-clause-one_each c =
 pub place-requires-clause-fits : goal.place-requires-clause-fits
 place-requires-clause-fits c = fits_below c.args.linked.now.texts.now (program c.args.linked.now) c.args.codes.now c.requires.program c.requires.words
 
-pub returns-in_ok-bytes-in-Ok : goal.returns-in_ok-bytes-in-Ok
-returns-in_ok-bytes-in-Ok c =
+pub returns-in_ok-bytes-in-Ok-clause-file : goal.returns-in_ok-bytes-in-Ok-clause-file
+returns-in_ok-bytes-in-Ok-clause-file c =
     is_file c.args.linked.now.texts.now (program c.args.linked.now) c.args.codes.now c.in-Ok.image c.in_ok-bytes-in-Ok.bytes.items c.requires.program c.requires.words c.requires.reach
     c.in-Ok.ensures (subst IsImage c.image.view_is c.image.invariant) c.in_ok-bytes-in-Ok.ensures.loads c.in_ok-bytes-in-Ok.ensures.stands
+
+pub returns-in_ok-bytes-in-Ok-clause-loads : goal.returns-in_ok-bytes-in-Ok-clause-loads
+returns-in_ok-bytes-in-Ok-clause-loads c = subst (λ i. Loads c.in_ok-bytes-in-Ok.bytes.items (executable_of i)) c.in-Ok.ensures c.in_ok-bytes-in-Ok.ensures.loads

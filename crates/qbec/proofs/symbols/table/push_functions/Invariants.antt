@@ -1,5 +1,5 @@
 use Rattle.std.proofs.Common.{◌≡◌, ◌++◌, drop, map}
-use Rattle.obj_link.specs.Natives.{functions_start}
+use Rattle.obj_link.specs.Image.{functions_start}
 use Rattle.obj_link.specs.Placed.{function_addresses, functions_end}
 use Rattle.obj_link.specs.Shown.{shown}
 use Rattle.qbec.specs.Symbols.{entry, function_entries}

@@ -1,5 +1,6 @@
 use Rattle.std.proofs.Common.{◌≡◌, ◌++◌, drop, map}
-use Rattle.obj_link.specs.Placed.{object_addresses, objects_end}
+use Rattle.obj_link.specs.Placed.{objects_end}
+use Rattle.obj_link.specs.ImageOf.{object_addresses}
 use Rattle.obj_link.specs.Shown.{shown}
 use Rattle.qbec.specs.Symbols.{entry, object_entries}
 use Rattle.qbec.proofs.symbols.table.push_objects.Given as goal

@@ -1,7 +1,6 @@
 use Rattle.std.proofs.Common.{◌∙◌, ◌+◌, ◌-◌, ◌^◌, ◌<◌, ap, sym, subst, length, map, arith}
 use Rattle.std.proofs.lemmas.List.{length-map}
-use Rattle.obj_link.specs.Image.{code_start, round_to_page}
-use Rattle.obj_link.specs.Natives.{functions_start}
+use Rattle.obj_link.specs.Image.{code_start, round_to_page, functions_start}
 use Rattle.obj_link.specs.Placed.{objects_end, objects_start}
 use Rattle.obj_link.specs.ProgramOf.{program}
 use Rattle.obj_link.specs.Shown.{shown}
@@ -9,7 +8,7 @@ use Rattle.obj_link.proofs.AddressLemmas.{functions_rise}
 use Rattle.obj_link.proofs.ImageLemmas.{ends}
 use Rattle.qbec.proofs.FileLemmas.{fits_below}
 use Rattle.qbec.proofs.PromotedFunctions.{one_each}
-use Rattle.qbec.proofs.symbols.table.symbols_with.Goals as goal
+use Rattle.qbec.proofs.symbols.table.symbols.Goals as goal
 
 pub push_functions-requires-clause-one_each : goal.push_functions-requires-clause-one_each
 push_functions-requires-clause-one_each c =

@@ -3,7 +3,7 @@ use Rattle.il_types.specs.declared.checked.Checked.{Checked}
 use Rattle.obj_link.specs.Refusals.{Refuses as LinkRefuses}
 use Rattle.headline.proofs.GoodFunctions.{functions_are_good}
 use Rattle.qbec.proofs.CompileLemmas.{link_says}
-use Rattle.qbec.proofs.symbols.listing.listing.Goals as goal
+use Rattle.qbec.proofs.symbols.listing.listed_file.Goals as goal
 
 pub listed-requires-clause-good : goal.listed-requires-clause-good
 listed-requires-clause-good g c = functions_are_good c.as_slice.result.now c.in-Ok-resolve.linked c.in-Ok-resolve.ensures.truth
