@@ -18,6 +18,7 @@
 mod claim;
 mod entries;
 pub mod fact;
+mod look;
 pub mod propagate;
 mod replace;
 pub mod strength_reduction;

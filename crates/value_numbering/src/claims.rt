@@ -36,9 +36,32 @@ struct Claim {
     changes: u32,
 }
 
+/// What is known on the way along a block, and whether lines have become others somewhere.
+#[derive(Drop)]
+struct Along {
+    facts: Vec<Fact>,
+    has_changed: bool,
+}
+
+/// Takes what is known before a line to what is known behind it, or behind the one that stands in its place.
+fn pass_line(
+    alloc: Global,
+    along: &mut Along,
+    registers: u32,
+    line: &Line<u32>,
+) -> Result<(), AllocError> {
+    match changed(along.facts.as_slice(), registers, line) {
+        Some(changed) => {
+            along.has_changed = true;
+            pass(alloc, &mut along.facts, &changed)
+        }
+        None => pass(alloc, &mut along.facts, line),
+    }
+}
+
 fn pass_lines(
     alloc: Global,
-    facts: &mut Vec<Fact>,
+    along: &mut Along,
     registers: u32,
     lines: &[Line<u32>],
 ) -> Result<(), AllocError> {
@@ -46,10 +69,7 @@ fn pass_lines(
         if let Line::Tick { .. } = line {
             continue;
         }
-        match changed(facts.as_slice(), registers, line) {
-            Some(changed) => pass(alloc, facts, &changed)?,
-            None => pass(alloc, facts, line)?,
-        }
+        pass_line(alloc, along, registers, line)?;
     }
     Ok(())
 }
@@ -324,15 +344,15 @@ fn spread(
     alloc: Global,
     writing: &Writing,
     claims: &mut [Claim],
-    facts: &mut Vec<Fact>,
+    along: &mut Along,
     registers: u32,
     number: usize,
     block: &Block<u32>,
 ) -> Result<usize, AllocError> {
     let next = number.saturating_add(1);
-    if begin(claims, number, facts)? {
-        pass_lines(alloc, facts, registers, block.lines.as_slice())?;
-        let first = lead(alloc, writing, claims, &block.jump, facts.as_slice())?;
+    if begin(claims, number, &mut along.facts)? {
+        pass_lines(alloc, along, registers, block.lines.as_slice())?;
+        let first = lead(alloc, writing, claims, &block.jump, along.facts.as_slice())?;
         Ok(first.min(next))
     } else {
         Ok(next)
@@ -344,7 +364,7 @@ fn spread_all(
     alloc: Global,
     writing: &Writing,
     claims: &mut [Claim],
-    facts: &mut Vec<Fact>,
+    along: &mut Along,
     registers: u32,
     blocks: &[Block<u32>],
 ) -> Result<(), AllocError> {
@@ -352,7 +372,7 @@ fn spread_all(
     for _ in 0..blocks.len().saturating_mul(STEPS_A_BLOCK) {
         match blocks.get(number) {
             Some(block) => {
-                number = spread(alloc, writing, claims, facts, registers, number, block)?;
+                number = spread(alloc, writing, claims, along, registers, number, block)?;
             }
             None => return Ok(()),
         }
@@ -452,7 +472,34 @@ fn listed(alloc: Global, claims: Vec<Claim>) -> Result<Vec<Seq<Fact>>, AllocErro
     Ok(lists)
 }
 
-/// The facts claimed where each block begins.
+/// The same of functions of several blocks.
+fn claims_of(
+    alloc: Global,
+    registers: u32,
+    blocks: &[Block<u32>],
+) -> Result<Option<Vec<Seq<Fact>>>, AllocError> {
+    let mut claims = first_claims(alloc, blocks.len())?;
+    let writing = writing_of(alloc, registers, blocks)?;
+    let mut along = Along {
+        facts: Vec::with_capacity(alloc, ROOM)?,
+        has_changed: false,
+    };
+    spread_all(
+        alloc,
+        &writing,
+        claims.as_mut_slice(),
+        &mut along,
+        registers,
+        blocks,
+    )?;
+    if along.has_changed {
+        Ok(Some(listed(alloc, claims)?))
+    } else {
+        Ok(None)
+    }
+}
+
+/// The facts claimed where each block begins; none where no line becomes another by them. Of a single block nothing is claimed.
 ///
 /// # Errors
 ///
@@ -461,17 +508,10 @@ pub(crate) fn claims(
     alloc: Global,
     registers: u32,
     blocks: &[Block<u32>],
-) -> Result<Vec<Seq<Fact>>, AllocError> {
-    let mut claims = first_claims(alloc, blocks.len())?;
-    let writing = writing_of(alloc, registers, blocks)?;
-    let mut facts = Vec::with_capacity(alloc, ROOM)?;
-    spread_all(
-        alloc,
-        &writing,
-        claims.as_mut_slice(),
-        &mut facts,
-        registers,
-        blocks,
-    )?;
-    listed(alloc, claims)
+) -> Result<Option<Vec<Seq<Fact>>>, AllocError> {
+    if blocks.len() > 1 {
+        claims_of(alloc, registers, blocks)
+    } else {
+        Ok(Some(Vec::new(alloc)))
+    }
 }

@@ -22,6 +22,7 @@ mod known;
 mod lines;
 mod narrow;
 mod offsets;
+mod open;
 mod regroup;
 mod repeats;
 pub mod reuse;

@@ -106,14 +106,27 @@ fn apply(alloc: Global, function: &VFunc, claims: &[Seq<Fact>]) -> Result<Option
     }
 }
 
-/// The function by the claims that are found, or else by none; none where neither are right.
+/// The function by these claims, or else by none; none where neither are right.
+fn by_these_or_none(
+    alloc: Global,
+    function: &VFunc,
+    claims: &[Seq<Fact>],
+) -> Result<Option<VFunc>, AllocError>
+    ensures { IfOk result (λ o. IfSome o (λ w. Keeps (virtual_code function.now) (virtual_code w))) }
+{
+    match apply(alloc, function, claims)? {
+        Some(made) => Ok(Some(made)),
+        None => apply(alloc, function, &[]),
+    }
+}
+
+/// The function by the claims that are found; none where no line becomes another by them.
 fn by_any_claims(alloc: Global, function: &VFunc) -> Result<Option<VFunc>, AllocError>
     ensures { IfOk result (λ o. IfSome o (λ w. Keeps (virtual_code function.now) (virtual_code w))) }
 {
-    let claims = claims(alloc, function.registers, function.code.blocks.as_slice())?;
-    match apply(alloc, function, claims.as_slice())? {
-        Some(made) => Ok(Some(made)),
-        None => apply(alloc, function, &[]),
+    match claims(alloc, function.registers, function.code.blocks.as_slice())? {
+        Some(claims) => by_these_or_none(alloc, function, claims.as_slice()),
+        None => Ok(None),
     }
 }
 

@@ -5,7 +5,8 @@ use il_ast::list::Seq;
 use std::alloc::{AllocError, Global};
 use vcode::code::Block;
 use vcode::function::VFunc;
-use vcode::line::Jump;
+use vcode::line::{Jump, Line};
+use vcode::place::Operand;
 
 /// How often the guess goes over a function at most.
 const ROUNDS: usize = 8;
@@ -97,6 +98,14 @@ fn begin(walk: &mut Walk, guesses: &mut [Guess], block: usize) -> Result<bool, A
     }
 }
 
+/// Whether a jump leads to another block.
+fn leads_on(jump: &Jump<u32>) -> bool {
+    match jump {
+        Jump::Goto(_) | Jump::Branch { .. } => true,
+        Jump::Return(_) | Jump::Halt => false,
+    }
+}
+
 /// Goes over a block, if that begins with less than when it was gone over; returns whether what is claimed of any changed.
 fn go(
     alloc: Global,
@@ -105,7 +114,7 @@ fn go(
     number: usize,
     block: &Block<u32>,
 ) -> Result<bool, AllocError> {
-    if !begin(walk, guesses, number)? {
+    if !leads_on(&block.jump) || !begin(walk, guesses, number)? {
         return Ok(false);
     }
     walk.go(block.lines.as_slice())?;
@@ -149,6 +158,17 @@ fn as_entries(alloc: Global, guesses: Vec<Guess>) -> Result<Vec<Entry>, AllocErr
     Ok(entries)
 }
 
+/// Whether a line of the block sets a register to what may be claimed of it.
+fn sets_registers(block: &Block<u32>) -> bool {
+    block.lines.as_slice().iter().any(|line| match line {
+        Line::Set { value, .. } => match value {
+            Operand::Name(_) => false,
+            _ => true,
+        },
+        _ => false,
+    })
+}
+
 /// What is claimed where each block begins: that registers hold what they do behind every block that leads there. Nothing, where that isn't found in a few rounds.
 ///
 /// # Errors
@@ -156,6 +176,9 @@ fn as_entries(alloc: Global, guesses: Vec<Guess>) -> Result<Vec<Entry>, AllocErr
 /// Only where memory was refused.
 pub(crate) fn entries(alloc: Global, function: &VFunc) -> Result<Vec<Entry>, AllocError> {
     let blocks = function.code.blocks.as_slice();
+    if blocks.len() < 2 || !blocks.iter().any(|block| sets_registers(block)) {
+        return Ok(Vec::new(alloc));
+    }
     let mut walk = Walk::new(alloc, function)?;
     let mut guesses = unknown(alloc, blocks.len())?;
     for _ in 0..ROUNDS {

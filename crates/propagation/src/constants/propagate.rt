@@ -13,6 +13,7 @@ ghost use Rattle.propagation.specs.After.{changes_memory, sum_of, fact_of, after
 use crate::constants::claim::{Claim, Entry, claims_at, leads_well};
 use crate::constants::entries::entries;
 use crate::constants::fact::Fact;
+use crate::constants::look::may_change;
 use crate::constants::replace::{is_add, jump, line as forwarded};
 use crate::constants::strength_reduction::shortened;
 use crate::constants::table::FactTable;
@@ -299,11 +300,19 @@ fn propagated(
     }
 }
 
-/// The function by the claims that are found, or by none where those aren't right.
+/// Whether anything is claimed.
+fn claims_any(entries: &[Entry]) -> bool {
+    entries.iter().any(|entry| entry.claims.len() != 0)
+}
+
+/// The function by the claims that are found, or by none where those aren't right; none where nothing may be put otherwise.
 fn propagated_by_any(alloc: Global, function: &VFunc) -> Result<Option<VFunc>, AllocError>
     ensures { IfOk result (λ o. IfSome o (λ w. Keeps (virtual_code function.now) (virtual_code w))) }
 {
     let entries = entries(alloc, function)?;
+    if !claims_any(entries.as_slice()) && !may_change(function.code.blocks.as_slice()) {
+        return Ok(None);
+    }
     match propagated(alloc, function, Extent::Operands, entries.as_slice())? {
         Some(made) => Ok(Some(made)),
         None => propagated(alloc, function, Extent::Operands, &[]),
@@ -336,6 +345,9 @@ pub fn propagate_constants(alloc: Global, function: VFunc) -> Result<VFunc, Allo
 pub fn fold_branches(alloc: Global, function: VFunc) -> Result<VFunc, AllocError>
     ensures { IfOk result (λ w. Keeps (virtual_code function) (virtual_code w)) }
 {
+    if !may_change(function.code.blocks.as_slice()) {
+        return Ok(function);
+    }
     match propagated(alloc, &function, Extent::Copies, &[])? {
         Some(made) => Ok(made),
         None => Ok(function),
