@@ -19,8 +19,8 @@ use Rattle.il_interp.specs.declared.state.Frame.{Frame}
 use Rattle.il_interp.specs.declared.state.State.{State}
 use Rattle.il_interp.specs.Machine.{On, act_of, env_of, locals_of, react, stepped, turn_in_function, step, go_on, machine}
 use Rattle.il_interp.specs.Pieces.{rest_of}
-use Rattle.il_interp.specs.Rows.{GoesOn}
-use Rattle.il_interp.specs.Hops.{Ends, Enters, GoesAlong, held_in, standing_in}
+use Rattle.il_interp.specs.Rows.{GoesOn, held}
+use Rattle.il_interp.specs.Hops.{Ends, Enters, GoesAlong, held_in, standing_in, standing_with}
 use Rattle.il_interp.proofs.RowLemmas.{one_turn}
 
 -- ---- phis
@@ -70,18 +70,18 @@ ends p f b j label old new hj leads goes st hs =
 
 -- ---- turns
 
-pub along_further : (p : Program) (one two three : Frame) (x y : ℕ) → GoesAlong p one x two → GoesAlong p two y three → GoesAlong p one (x + y) three
-along_further p one two three x y g h st hs n =
+pub along_further : (p : Program) (one two three : Frame) (l m o : Memory) (x y : ℕ) → GoesAlong p one l x two m → GoesAlong p two m y three o → GoesAlong p one l (x + y) three o
+along_further p one two three l m o x y g h st hs hm n =
     let count : x + y + n ≡ x + (y + n) = omega arith in
-    ap (λ k. machine p k st) count ∙ (g st hs (y + n) ∙ h (standing_in st two) refl n)
+    ap (λ k. machine p k st) count ∙ (g st hs hm (y + n) ∙ h (standing_with st two m) refl refl n)
 
-pub along_row : (p : Program) (f : InText Func) (b : Block) (insts : List (Lined Inst)) (old : Frame) (next : ℕ) (temps : List (Option Value))
-    → slice_get p.functions old.function ≡ Some f → slice_get f.item.blocks old.block ≡ Some b → b.insts ≡ insts → GoesOn insts old.temps old.next temps next
-    → GoesAlong p old (next - old.next) (record old { next = next; temps = temps })
-along_row p f b insts old next temps hf hb hi goes st hs n =
-    goes p f b st (ap (λ (fr : Frame). slice_get p.functions fr.function) hs ∙ hf) (ap (λ (fr : Frame). slice_get f.item.blocks fr.block) hs ∙ hb) hi
-    (ap (λ (fr : Frame). fr.temps) hs) (ap (λ (fr : Frame). fr.next) hs) n
-    ∙ ap (λ (fr : Frame). machine p n (standing_in st (record fr { next = next; temps = temps }))) hs
+pub along_row : (p : Program) (f : InText Func) (b : Block) (insts : List (Lined Inst)) (old : Frame) (l m : Memory) (next : ℕ) (temps : List (Option Value))
+    → slice_get p.functions old.function ≡ Some f → slice_get f.item.blocks old.block ≡ Some b → b.insts ≡ insts
+    → GoesOn p f.text insts (held old.temps l) old.next (held temps m) next → GoesAlong p old l (next - old.next) (record old { next = next; temps = temps }) m
+along_row p f b insts old l m next temps hf hb hi goes st hs hm n =
+    goes f b st (ap (λ (fr : Frame). slice_get p.functions fr.function) hs ∙ hf) refl (ap (λ (fr : Frame). slice_get f.item.blocks fr.block) hs ∙ hb) hi
+    (ap₂ held (ap (λ (fr : Frame). fr.temps) hs) hm) (ap (λ (fr : Frame). fr.next) hs) n
+    ∙ ap (λ (fr : Frame). machine p n (standing_with st (record fr { next = next; temps = temps }) m)) hs
 
 hop_is : (p : Program) (f : InText Func) (b : Block) (st : State) (new : Frame) → slice_get p.functions st.frame.function ≡ Some f → slice_get f.item.blocks st.frame.block ≡ Some b
     → slice_get b.insts st.frame.next ≡ None → Ends p f b st.frame new → step p st ≡ On (standing_in st new)
@@ -91,17 +91,18 @@ hop_is p f b st new hf hb hn h =
     ∙ (ap (λ o. react p st (turn_of (env_of p f) (act_of st.frame) st.memory o)) hb
     ∙ (ap (λ o. react p st (turn_in (env_of p f) (act_of st.frame) st.memory b o)) hn ∙ h st refl))
 
-pub along_hop : (p : Program) (f : InText Func) (b : Block) (cur new : Frame) → slice_get p.functions cur.function ≡ Some f → slice_get f.item.blocks cur.block ≡ Some b
-    → slice_get b.insts cur.next ≡ None → Ends p f b cur new → GoesAlong p cur 1 new
+pub along_hop : (p : Program) (f : InText Func) (b : Block) (cur new : Frame) (m : Memory) → slice_get p.functions cur.function ≡ Some f → slice_get f.item.blocks cur.block ≡ Some b
+    → slice_get b.insts cur.next ≡ None → Ends p f b cur new → GoesAlong p cur m 1 new m
 unfolding machine
-along_hop p f b cur new hf hb hn h st hs n =
+along_hop p f b cur new m hf hb hn h st hs hm n =
     let count : 1 + n ≡ suc n = omega arith in
     ap (λ (fr : Frame). machine p (1 + n) (standing_in st fr)) hs
-    ∙ (ap (λ k. machine p k (standing_in st cur)) count ∙ ap (go_on (machine p n)) (hop_is p f b (standing_in st cur) new hf hb hn h))
+    ∙ (ap (λ k. machine p k (standing_in st cur)) count ∙ (ap (go_on (machine p n)) (hop_is p f b (standing_in st cur) new hf hb hn h)
+    ∙ ap (λ x. machine p n (standing_with st new x)) hm))
 
 -- the turn behind them
-pub along_turn : (p : Program) (st last : State) (frame : Frame) (done n : ℕ) (end : Option End) → GoesAlong p st.frame done frame → step p (standing_in st frame) ≡ stepped last end
-    → machine p (done + 1 + n) st ≡ rest_of p last end n
-along_turn p st last frame done n end goes h =
+pub along_turn : (p : Program) (st last : State) (frame : Frame) (m : Memory) (done n : ℕ) (end : Option End) → GoesAlong p st.frame st.memory done frame m
+    → step p (standing_with st frame m) ≡ stepped last end → machine p (done + 1 + n) st ≡ rest_of p last end n
+along_turn p st last frame m done n end goes h =
     let count : done + 1 + n ≡ done + suc n = omega arith in
-    ap (λ k. machine p k st) count ∙ (goes st refl (suc n) ∙ one_turn p n (standing_in st frame) last end h)
+    ap (λ k. machine p k st) count ∙ (goes st refl refl (suc n) ∙ one_turn p n (standing_with st frame m) last end h)

@@ -1,5 +1,5 @@
 -- Instructions on integers, one further.
-use Rattle.std.proofs.Common.{◌≡◌, ℕ, suc, ◌+◌, ◌-◌, ◌%◌, ◌^◌, ◌<◌, ◌≤◌, List, refl, ap, sym, ◌∙◌, arith}
+use Rattle.std.proofs.Common.{◌≡◌, ℕ, suc, ◌+◌, ◌-◌, ◌%◌, ◌^◌, ◌<◌, ◌≤◌, List, refl, ap, sym, subst, ◌∙◌, arith}
 use Rattle.std.specs.Prelude.{slice_get, slice_set, Option, Some, None}
 use Rattle.std.specs.Option.{option_and_then}
 use Rattle.il_ast.specs.declared.operation.Class.{Class}
@@ -17,6 +17,7 @@ use Rattle.il_ast.specs.declared.program.Program.{Program}
 use Rattle.il_ast.specs.declared.value.Value.{Value}
 use Rattle.il_ast.specs.declared.value.Value.TheVariants.{Integer}
 use Rattle.il_ast.specs.declared.value.End.{End}
+use Rattle.il_ast.specs.Start.{globals_of}
 use Rattle.il_ast.specs.Meaning.{Behaviour}
 use Rattle.il_ast.specs.Values.{modulus, in_place}
 use Rattle.il_ast.specs.Memory.{Memory}
@@ -25,7 +26,7 @@ use Rattle.il_ast.specs.Effect.{effect, turn_of, turn_in, inst_effect, after_ins
 use Rattle.il_interp.specs.declared.state.State.{State}
 use Rattle.il_interp.specs.Pieces.{rest_of}
 use Rattle.il_interp.specs.Machine.{On, stepped, act_of, env_of, react, turn_in_function, step, go_on, machine}
-use Rattle.il_interp.specs.Rows.{in_class, Does, further_on, GoesOn}
+use Rattle.il_interp.specs.Rows.{Held, held, in_class, Does, further_on, GoesOn}
 
 -- ---- one operation
 
@@ -52,9 +53,9 @@ operated m op c l r a b made hl hr h =
 pub does_binary : (old new : List (Option Value)) (to : Dest) (op : BinaryOp) (left right : Val) (a b made : ℕ)
     → ((globals : List Value) → value_at globals old left ≡ Some (Integer a)) → ((globals : List Value) → value_at globals old right ≡ Some (Integer b))
     → on_integers op to.class (in_class (left_class op to.class) a) (in_class (right_class op to.class) b) ≡ Some made
-    → new ≡ slice_set old to.temp (Some (Integer made)) → Does old (Binary to op left right) new
+    → new ≡ slice_set old to.temp (Some (Integer made)) → (globals : List Value) (m : Memory) → Does globals (held old m) (Binary to op left right) (held new m)
 unfolding inst_effect
-does_binary old new to op left right a b made hl hr h n globals owned m =
+does_binary old new to op left right a b made hl hr h n globals m owned =
     ap (assigned (record { temps = old; owned = owned }) m to.temp)
     (operated m op to.class (operand globals old (left_class op to.class) left) (operand globals old (right_class op to.class) right)
     (in_class (left_class op to.class) a) (in_class (right_class op to.class) b) made
@@ -63,32 +64,33 @@ does_binary old new to op left right a b made hl hr h n globals owned m =
 
 -- ---- one turn of a row
 
-pub stays : (insts : List (Lined Inst)) (temps : List (Option Value)) (next : ℕ) → GoesOn insts temps next temps next
-stays insts temps next p f b st hf hb hi ht hn n =
+pub stays : (p : Program) (text : ℕ) (insts : List (Lined Inst)) (here : Held) (next : ℕ) → GoesOn p text insts here next here next
+stays p text insts here next f b st hf ht hb hi hh hn n =
     let none : next - next + n ≡ n = omega arith in
-    ap (λ k. machine p k st) none ∙ (ap (λ k. machine p n (further_on st k st.frame.temps)) hn ∙ ap (λ ts. machine p n (further_on st next ts)) ht)
+    ap (λ k. machine p k st) none ∙ (ap (λ k. machine p n (further_on st k (held st.frame.temps st.memory))) hn ∙ ap (λ x. machine p n (further_on st next x)) hh)
 
-turn_is : (insts : List (Lined Inst)) (at : ℕ) (x : Lined Inst) (cur new : List (Option Value)) (p : Program) (f : InText Func) (b : Block) (st : State)
-    → slice_get p.functions st.frame.function ≡ Some f → slice_get f.item.blocks st.frame.block ≡ Some b → b.insts ≡ insts
-    → slice_get insts at ≡ Some x → Does cur x.item new → step p (further_on st at cur) ≡ On (further_on st (at + 1) new)
+turn_is : (p : Program) (text : ℕ) (insts : List (Lined Inst)) (at : ℕ) (x : Lined Inst) (cur new : Held) (f : InText Func) (b : Block) (st : State)
+    → slice_get p.functions st.frame.function ≡ Some f → f.text ≡ text → slice_get f.item.blocks st.frame.block ≡ Some b → b.insts ≡ insts
+    → slice_get insts at ≡ Some x → Does (globals_of p text) cur x.item new → step p (further_on st at cur) ≡ On (further_on st (at + 1) new)
 unfolding step effect
-turn_is insts at x cur new p f b st hf hb hi hx d =
+turn_is p text insts at x cur new f b st hf ht hb hi hx d =
+    let here : Does (globals_of p f.text) cur x.item new = subst (λ t. Does (globals_of p t) cur x.item new) (sym ht) d in
     ap (turn_in_function p (further_on st at cur)) hf
-    ∙ (ap (λ o. react p (further_on st at cur) (turn_of (env_of p f) (act_of (further_on st at cur).frame) st.memory o)) hb
-    ∙ (ap (λ o. react p (further_on st at cur) (turn_in (env_of p f) (act_of (further_on st at cur).frame) st.memory b o)) (ap (λ xs. slice_get xs at) hi ∙ hx)
-    ∙ ap (λ e. react p (further_on st at cur) (after_inst st.frame.block at (record { temps = cur; owned = st.frame.owned }) e)) (d (env_of p f).globals st.frame.owned st.memory)))
+    ∙ (ap (λ o. react p (further_on st at cur) (turn_of (env_of p f) (act_of (further_on st at cur).frame) cur.memory o)) hb
+    ∙ (ap (λ o. react p (further_on st at cur) (turn_in (env_of p f) (act_of (further_on st at cur).frame) cur.memory b o)) (ap (λ xs. slice_get xs at) hi ∙ hx)
+    ∙ ap (λ e. react p (further_on st at cur) (after_inst st.frame.block at (record { temps = cur.temps; owned = st.frame.owned }) e)) (here st.frame.owned)))
 
-pub one_further : (insts : List (Lined Inst)) (old cur new : List (Option Value)) (next at : ℕ) (x : Lined Inst) → next ≤ at → slice_get insts at ≡ Some x
-    → Does cur x.item new → GoesOn insts old next cur at → GoesOn insts old next new (at + 1)
+pub one_further : (p : Program) (text : ℕ) (insts : List (Lined Inst)) (old cur new : Held) (next at : ℕ) (x : Lined Inst) → next ≤ at → slice_get insts at ≡ Some x
+    → Does (globals_of p text) cur x.item new → GoesOn p text insts old next cur at → GoesOn p text insts old next new (at + 1)
 unfolding machine
-one_further insts old cur new next at x le hx d inv p f b st hf hb hi ht hn n =
+one_further p text insts old cur new next at x le hx d inv f b st hf ht hb hi hh hn n =
     let count : at + 1 - next + n ≡ at - next + suc n = omega (arith, le) in
     ap (λ k. machine p k st) count
-    ∙ (inv p f b st hf hb hi ht hn (suc n) ∙ ap (go_on (machine p n)) (turn_is insts at x cur new p f b st hf hb hi hx d))
+    ∙ (inv f b st hf ht hb hi hh hn (suc n) ∙ ap (go_on (machine p n)) (turn_is p text insts at x cur new f b st hf ht hb hi hx d))
 
 -- what changed nothing is left out
-pub the_same : (insts : List (Lined Inst)) (old cur new : List (Option Value)) (next at : ℕ) → new ≡ cur → GoesOn insts old next cur at → GoesOn insts old next new at
-the_same insts old cur new next at e inv p f b st hf hb hi ht hn n = inv p f b st hf hb hi ht hn n ∙ ap (λ ts. machine p n (further_on st at ts)) (sym e)
+pub the_same : (p : Program) (text : ℕ) (insts : List (Lined Inst)) (old cur new : Held) (next at : ℕ) → new ≡ cur → GoesOn p text insts old next cur at → GoesOn p text insts old next new at
+the_same p text insts old cur new next at e inv f b st hf ht hb hi hh hn n = inv f b st hf ht hb hi hh hn n ∙ ap (λ x. machine p n (further_on st at x)) (sym e)
 
 -- ---- one turn
 

@@ -6,6 +6,7 @@ use Rattle.il_ast.specs.declared.program.InText.{InText}
 use Rattle.il_ast.specs.declared.program.Program.{Program}
 use Rattle.il_ast.specs.declared.value.Value.{Value}
 use Rattle.il_ast.specs.Effect.{Locals, enter, end_effect}
+use Rattle.il_ast.specs.Memory.{Memory}
 use Rattle.il_interp.specs.declared.state.Frame.{Frame}
 use Rattle.il_interp.specs.declared.state.State.{State}
 use Rattle.il_interp.specs.Machine.{On, env_of, locals_of, machine, react}
@@ -29,8 +30,12 @@ Ends p f b old new =
     (st : State) → st.frame ≡ old →
     react p st (end_effect (env_of p f) b.label (locals_of old) st.memory b.jump) ≡ On (standing_in st new)
 
--- the same of so many turns
-abbrev pub GoesAlong : Program → (old : Frame) → (turns : ℕ) → (new : Frame) → Type 0
-GoesAlong p old turns new =
-    (st : State) → st.frame ≡ old →
-    (n : ℕ) → machine p (turns + n) st ≡ machine p n (standing_in st new)
+-- the state, in another activation, with another memory
+abbrev pub standing_with : State → Frame → Memory → State
+standing_with st frame m = record st { frame = frame; memory = m }
+
+-- a run in this activation, with this memory, goes on by so many turns, and changes nothing but these
+abbrev pub GoesAlong : Program → (old : Frame) → (before : Memory) → (turns : ℕ) → (new : Frame) → (after : Memory) → Type 0
+GoesAlong p old before turns new after =
+    (st : State) → st.frame ≡ old → st.memory ≡ before →
+    (n : ℕ) → machine p (turns + n) st ≡ machine p n (standing_with st new after)

@@ -1,4 +1,4 @@
--- Instructions on integers that are done one after another.
+-- Instructions that are done one after another.
 use Rattle.std.specs.Prelude.{◌≡◌, ℕ, ◌+◌, ◌-◌, ◌%◌, ◌^◌, List, slice_get, Option, Some}
 use Rattle.il_ast.specs.declared.operation.Class.{Class}
 use Rattle.il_ast.specs.declared.operation.Class.TheVariants.{W, L}
@@ -19,22 +19,33 @@ abbrev pub in_class : Class → ℕ → ℕ
 in_class W n = n % 2 ^ 32
 in_class L n = n
 
--- an instruction makes new values of the old ones of temporaries, and changes nothing else
-abbrev pub Does : List (Option Value) → Inst → List (Option Value) → Type 0
-Does old inst new =
-    (globals : List Value) (owned : List ℕ) (m : Memory) →
-    inst_effect globals (record { temps = old; owned = owned }) m inst
-    ≡ Done 1 (record { temps = new; owned = owned }) m
+-- what an activation's instructions read and write: the values of its temporaries, and the memory
+pub record Held : Type 0 where
+  pub temps : List (Option Value)
+  pub memory : Memory
 
--- the state, at another instruction of its block, with other values
-abbrev pub further_on : State → ℕ → List (Option Value) → State
-further_on st next temps = record st { frame = record st.frame { next = next; temps = temps } }
+abbrev pub held : List (Option Value) → Memory → Held
+held temps memory = record { temps = temps; memory = memory }
 
--- a run that stands in a block of these instructions goes on from one of them to another one
-abbrev pub GoesOn : List (Lined Inst) → (old : List (Option Value)) → (next : ℕ) → (new : List (Option Value)) → (end : ℕ) → Type 0
-GoesOn insts old next new end =
-    (p : Program) (f : InText Func) (b : Block) (st : State) →
-    slice_get p.functions st.frame.function ≡ Some f →
+-- with these values of global names, an instruction makes the new of what was held, and does
+-- nothing else
+abbrev pub Does : (globals : List Value) → (old : Held) → Inst → (new : Held) → Type 0
+Does globals old inst new =
+    (owned : List ℕ) →
+    inst_effect globals (record { temps = old.temps; owned = owned }) old.memory inst
+    ≡ Done 1 (record { temps = new.temps; owned = owned }) new.memory
+
+-- the state, at another instruction of its block, with this held
+abbrev pub further_on : State → ℕ → Held → State
+further_on st next h =
+    record st { frame = record st.frame { next = next; temps = h.temps }; memory = h.memory }
+
+-- in a text of a program, a run that stands in a block of these instructions goes on from one of
+-- them to another one
+abbrev pub GoesOn : Program → (text : ℕ) → List (Lined Inst) → (old : Held) → (next : ℕ) → (new : Held) → (end : ℕ) → Type 0
+GoesOn p text insts old next new end =
+    (f : InText Func) (b : Block) (st : State) →
+    slice_get p.functions st.frame.function ≡ Some f → f.text ≡ text →
     slice_get f.item.blocks st.frame.block ≡ Some b → b.insts ≡ insts →
-    st.frame.temps ≡ old → st.frame.next ≡ next →
+    held st.frame.temps st.memory ≡ old → st.frame.next ≡ next →
     (n : ℕ) → machine p (end - next + n) st ≡ machine p n (further_on st end new)

@@ -1,4 +1,4 @@
-//! Operations and jumps on integers, which are done one after another through blocks.
+//! Instructions, and jumps on integers, which are done one after another through blocks.
 ghost use Rattle.std.specs.Prelude.{◌≡◌, ◌<◌, ◌≤◌, ℕ, List, Some, true, slice_get, IfOk, IfSome, MatchBool};
 ghost use Rattle.il_ast.specs.Memory.{Memory};
 ghost use Rattle.il_ast.specs.Effect.{Env, enter, jump_effect};
@@ -7,11 +7,12 @@ ghost use Rattle.il_interp.specs.Prepared.{program_of};
 ghost use Rattle.il_interp.specs.Hops.{Ends, Enters, GoesAlong, held_in};
 
 use crate::jump::places_to;
-use crate::numbers::{in_class, number_at, operate_in_row};
+use crate::numbers::{in_class, number_at};
 use crate::operand::function_at;
 use crate::phi_numbers::take_numbers;
 use crate::prepare::place_at;
 use crate::prepared::Prepared;
+use crate::rows::operate_in_row;
 use crate::slots::Slots;
 use crate::state::Frame;
 use il_ast::block::Block;
@@ -20,6 +21,7 @@ use il_ast::instruction::Jump;
 use il_ast::label::Label;
 use il_ast::operation::Class;
 use il_ast::program::InText;
+use il_mem::memory::BlockMemory;
 use std::alloc::AllocError;
 
 /// The label that a jump leads to, and whether it is the first that the jump has; none for a return and for
@@ -112,13 +114,14 @@ fn hop(
     }
 }
 
-/// Does the turns of a block that are operations on integers, from where it stands on, and a jump on integers
+/// Does the turns of a block that are instructions of a row, from where it stands on, and a jump on integers
 /// behind them, at most so many. Answers how many, and whether the jump was done.
 fn turns_in_block(
     prepared: &Prepared<'_>,
     function: &InText<&Func>,
     block: &Block,
     frame: &mut Frame,
+    memory: &mut BlockMemory,
     numbers: &mut Vec<u64>,
     most: u64,
 ) -> Result<(u64, bool), AllocError>
@@ -127,11 +130,19 @@ fn turns_in_block(
     ensures same { IfOk result (λ r. frame.new.function ≡ frame.old.function) }
     ensures some { IfOk result (λ r. r.1 ≡ true → 0 < r.0) }
     ensures few { IfOk result (λ r. r.0 ≤ most) }
-    ensures means { IfOk result (λ r. GoesAlong (program_of prepared.now) frame.old r.0 frame.new) }
+    ensures means { IfOk result (λ r. GoesAlong (program_of prepared.now) frame.old memory.old r.0 frame.new memory.new) }
 {
     let from = frame.next;
     let insts = block.insts.as_slice();
-    let next = operate_in_row(insts, &mut frame.temps, from, most);
+    let next = operate_in_row(
+        prepared.linked,
+        function.text,
+        insts,
+        &mut frame.temps,
+        memory,
+        from,
+        most,
+    );
     frame.next = next;
     let done = (next - from) as u64;
     if done == most || next < insts.len() {
@@ -144,16 +155,17 @@ fn turns_in_block(
     }
 }
 
-/// Does turns while these are operations and jumps on integers, at most so many. Answers how many.
+/// Does turns while these are instructions of a row and jumps on integers, at most so many. Answers how many.
 #[inline(never)]
 pub fn hop_along(
     prepared: &Prepared<'_>,
     frame: &mut Frame,
+    memory: &mut BlockMemory,
     numbers: &mut Vec<u64>,
     most: u64,
 ) -> Result<u64, AllocError>
     ensures few { IfOk result (λ done. done ≤ most) }
-    ensures means { IfOk result (λ done. GoesAlong (program_of prepared.now) frame.old done frame.new) }
+    ensures means { IfOk result (λ done. GoesAlong (program_of prepared.now) frame.old memory.old done frame.new memory.new) }
 {
     let function = match function_at(prepared.linked, frame.function) {
         Some(function) => function,
@@ -165,7 +177,9 @@ pub fn hop_along(
             Some(block) => block,
             None => return Ok(most - left),
         };
-        let (done, goes_on) = turns_in_block(prepared, function, block, frame, numbers, left)?;
+        let (done, goes_on) = turns_in_block(
+            prepared, function, block, frame, memory, numbers, left,
+        )?;
         left -= done;
         if !goes_on {
             return Ok(most - left);

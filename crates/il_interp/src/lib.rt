@@ -40,6 +40,7 @@ pub mod pieces;
 mod places;
 mod prepare;
 mod prepared;
+mod rows;
 mod run;
 mod slots;
 mod start;

@@ -1,16 +1,16 @@
-//! Operations on integers, which are done one after another within a block.
-ghost use Rattle.std.specs.Prelude.{◌≡◌, ◌-◌, ◌≤◌, List, Some, IfSome, MatchBool};
+//! Operations on integers.
+ghost use Rattle.std.specs.Prelude.{◌≡◌, List, Some, IfSome, MatchBool};
 ghost use Rattle.il_ast.specs.declared.instruction.Inst.TheVariants.{Binary};
 ghost use Rattle.il_ast.specs.declared.value.Value.{Value as ValueOf};
 ghost use Rattle.il_ast.specs.declared.value.Value.TheVariants.{Integer};
 ghost use Rattle.il_ast.specs.Effect.{value_at};
+ghost use Rattle.il_ast.specs.Memory.{Memory};
 ghost use Rattle.il_ast.specs.Operations.{left_class, right_class, on_integers};
-ghost use Rattle.il_interp.specs.Rows.{in_class, Does, GoesOn};
+ghost use Rattle.il_interp.specs.Rows.{in_class, held, Does};
 
 use crate::integers::{on_longs, on_words};
 use crate::slots::Slots;
 use il_ast::condition::numbers_hold;
-use il_ast::instruction::{Inst, Lined};
 use il_ast::operand::{Dest, Val};
 use il_ast::operation::{BinaryOp, Class};
 
@@ -57,8 +57,8 @@ fn on_numbers(op: BinaryOp, class: Class, a: u64, b: u64) -> Option<u64>
 
 /// `to = op left, right`, where both are integers and the operation is defined. Answers whether it
 /// was done.
-fn binary(temps: &mut Slots, to: &Dest, op: &BinaryOp, left: &Val, right: &Val) -> bool
-    ensures { MatchBool result (Does temps.old (Binary to.now op.now left.now right.now) temps.new) (temps.new ≡ temps.old) }
+pub fn binary(temps: &mut Slots, to: &Dest, op: &BinaryOp, left: &Val, right: &Val) -> bool
+    ensures { MatchBool result ((globals : List ValueOf) (m : Memory) → Does globals (held temps.old m) (Binary to.now op.now left.now right.now) (held temps.new m)) (temps.new ≡ temps.old) }
 {
     match number_at(temps, left) {
         Some(a) => match number_at(temps, right) {
@@ -73,43 +73,4 @@ fn binary(temps: &mut Slots, to: &Dest, op: &BinaryOp, left: &Val, right: &Val) 
         },
         None => false,
     }
-}
-
-/// Does an operation on integers. Answers whether the instruction was one, and was done.
-fn instruction(temps: &mut Slots, inst: &Inst) -> bool
-    ensures { MatchBool result (Does temps.old inst.now temps.new) (temps.new ≡ temps.old) }
-{
-    match inst {
-        Inst::Binary {
-            to,
-            op,
-            left,
-            right,
-        } => binary(temps, to, op, left, right),
-        _ => false,
-    }
-}
-
-/// Does the operations on integers that stand in a block from a place on, at most so many. Answers
-/// the place behind them.
-pub fn operate_in_row(insts: &[Lined<Inst>], temps: &mut Slots, next: usize, most: u64) -> usize
-    ensures more { next ≤ result }
-    ensures few { result - next ≤ most }
-    ensures goes { GoesOn insts.now temps.old next temps.new result }
-{
-    let count = insts.len();
-    if next >= count {
-        return next;
-    }
-    let end = if most < (count - next) as u64 {
-        next + most as usize
-    } else {
-        count
-    };
-    for at in next..end {
-        if !instruction(temps, &insts[at].item) {
-            return at;
-        }
-    }
-    end
 }

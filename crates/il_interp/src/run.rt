@@ -24,7 +24,7 @@ pub fn run(
     Ok((state.output.into_bytes(), end.unwrap_or(End::Turns)))
 }
 
-/// Does at most so many turns, at least one: those on integers that are due, and the one behind them.
+/// Does at most so many turns, at least one: those that are done in a row, and the one behind them.
 /// Answers how many, and the end, where the run is over.
 fn next_turns(
     alloc: Global,
@@ -39,7 +39,7 @@ fn next_turns(
     ensures few { IfOk result (λ r. r.0 ≤ most) }
     ensures means { IfOk result (λ r. (n : ℕ) → machine (program_of prepared.now) (r.0 + n) state.old ≡ rest_of (program_of prepared.now) state.new r.1 n) }
 {
-    let done = hop_along(prepared, &mut state.frame, numbers, most)?;
+    let done = hop_along(prepared, &mut state.frame, &mut state.memory, numbers, most)?;
     if done == most {
         return Ok((done, None));
     }

@@ -1,9 +1,10 @@
 -- What a span of cells is worth, cell by cell.
-use Rattle.std.proofs.Common.{◌≡◌, ℕ, zero, suc, ◌+◌, ◌*◌, ◌^◌, ◌<◌, ◌≤◌, Bool, true, false, List, [], ◌∷◌, ◌++◌, take, drop, append_assoc, refl, ap, sym, subst, ◌∙◌, arith, cond}
+use Rattle.std.proofs.Common.{◌≡◌, ℕ, zero, suc, ◌+◌, ◌*◌, ◌^◌, ◌<◌, ◌≤◌, Bool, true, false, List, [], ◌∷◌, ◌++◌, length, get_or, take, drop, append_assoc, refl, ap, sym, subst, ◌∙◌, arith, cond}
 use Rattle.std.proofs.Math.Nat.{pow-suc, pow-le-pow_right}
 use Rattle.std.proofs.lemmas.List.{append-nil}
 use Rattle.std.specs.Prelude.{slice_get, nat_eq, ◌&&◌, Option, Some, None}
-use Rattle.std.specs.Option.{option_map}
+use Rattle.std.specs.Option.{option_map, option_and_then}
+use Rattle.std.proofs.lemmas.Option.{slice_get-get_or}
 use Rattle.il_ast.specs.declared.value.Value.{Value}
 use Rattle.il_ast.specs.declared.value.Value.TheVariants.{Integer}
 use Rattle.il_ast.specs.declared.value.Cell.{Cell}
@@ -114,13 +115,29 @@ value_of_parts cells from n x v r lt h part e =
     ap (λ b. cond b (Some v) None) e ∙ sym whole
 
 -- any other span has the number of its bytes, or none
-pub value_of_bytes : (cells : List Cell) (from n : ℕ) (x : Cell) → 0 < n → slice_get cells from ≡ Some x → part_value x ≡ None → value_of (take n (drop from cells)) ≡ option_map (λ (n : ℕ). Integer n) (option_map number_of (plain_bytes (take n (drop from cells))))
+value_of_bytes : (cells : List Cell) (from n : ℕ) (x : Cell) → 0 < n → slice_get cells from ≡ Some x → part_value x ≡ None → value_of (take n (drop from cells)) ≡ option_map (λ (n : ℕ). Integer n) (option_map number_of (plain_bytes (take n (drop from cells))))
 value_of_bytes cells from n x lt h other =
     let P = λ (s : List Cell). value_of s ≡ option_map (λ (n : ℕ). Integer n) (option_map number_of (plain_bytes s)) in
     subst P (sym (span_first cells from n x lt h)) (first_other x _ other)
 
-pub value_of_number : (cells : List Cell) (from n : ℕ) (x : Cell) (r : Option ℕ) → 0 < n → slice_get cells from ≡ Some x → part_value x ≡ None → r ≡ option_map number_of (plain_bytes (take n (drop from cells))) → option_map (λ (n : ℕ). Integer n) r ≡ value_of (take n (drop from cells))
-value_of_number cells from n x r lt h other e = ap (option_map (λ (n : ℕ). Integer n)) e ∙ sym (value_of_bytes cells from n x lt h other)
+-- a span of bytes has their number
+pub value_of_number : (s : List Cell) (n : ℕ) → option_map number_of (plain_bytes s) ≡ Some n → value_of s ≡ Some (Integer n)
+value_of_number [] n h = ap (option_map (λ (n : ℕ). Integer n)) h
+value_of_number (Plain b ∷ s) n h = ap (option_map (λ (n : ℕ). Integer n)) h
+value_of_number (Part v i ∷ s) n h = cc
+value_of_number (Blank ∷ s) n h = ap (option_map (λ (n : ℕ). Integer n)) h
+
+-- a span that isn't one of bytes, and begins with no part, has none
+pub value_of_others : (cells : List Cell) (from n : ℕ) (x : Cell) → 0 < n → slice_get cells from ≡ Some x → part_value x ≡ None → option_map number_of (plain_bytes (take n (drop from cells))) ≡ None → value_of (take n (drop from cells)) ≡ None
+value_of_others cells from n x lt h other none = value_of_bytes cells from n x lt h other ∙ ap (option_map (λ (n : ℕ). Integer n)) none
+
+-- ---- one byte
+
+-- the cell at a place, and the byte that it is
+pub byte_there : (cells : List Cell) (at : ℕ) (r : Option ℕ) → at < length cells → r ≡ option_and_then plain_byte (slice_get cells at) → (x : Cell) × (slice_get cells at ≡ Some x) × (plain_byte x ≡ r)
+byte_there cells at r lt h =
+    let there : slice_get cells at ≡ Some (get_or cells at Blank) = slice_get-get_or cells at Blank lt in
+    (get_or cells at Blank, there, ap (option_and_then plain_byte) (sym there) ∙ sym h)
 
 -- ---- all bytes of a span
 

@@ -1,6 +1,10 @@
 //! One block: its cells, in little room.
-ghost use Rattle.std.specs.Prelude.{◌≡◌, ◌+◌, ◌<◌, ◌≤◌, [], ◌∷◌, ◌++◌, length, replicate, slice_get, slice_set, vec_capacity, Some, IfOk, OnOk};
-ghost use Rattle.il_ast.specs.declared.value.Cell.TheVariants.{Blank};
+ghost use Rattle.std.specs.Prelude.{◌≡◌, ◌+◌, ◌<◌, ◌≤◌, [], ◌∷◌, ◌++◌, length, replicate, slice_get, slice_set, vec_capacity, Some, IfOk, IfSome, OnOk};
+ghost use Rattle.std.specs.Option.{option_and_then};
+ghost use Rattle.il_ast.specs.declared.value.Cell.TheVariants.{Blank, Plain};
+ghost use Rattle.il_ast.specs.declared.value.Value.{Value as ValueOf};
+ghost use Rattle.il_mem.specs.Cells.{plain_byte};
+ghost use Rattle.il_mem.specs.Joined.{cell_of};
 ghost use Rattle.il_mem.specs.Shown.{ShowsSame};
 
 use il_ast::value::{Cell, Value};
@@ -104,6 +108,23 @@ impl Block {
         }
     }
 
+    /// The byte at a place, where the cell there is one.
+    pub fn byte(&self, at: usize) -> Option<u8>
+        requires { at < length self.now }
+        ensures byte { result ≡ option_and_then plain_byte (slice_get self.now at) }
+        ensures small { IfSome result (λ byte. byte < 256) }
+    {
+        byte_in(self.marks[at])
+    }
+
+    /// Puts a byte at a place. It takes no memory.
+    pub fn set_byte(&mut self, at: usize, byte: u8)
+        requires { at < length self.old }
+        ensures { self.new ≡ slice_set self.old at (Plain byte) }
+    {
+        self.marks[at] = Mark::Plain(byte);
+    }
+
     /// Puts a cell at a place. It takes no memory.
     pub fn set(&mut self, at: usize, cell: Cell)
         requires { at < length self.old }
@@ -118,6 +139,17 @@ impl Block {
                 self.marks[at] = Mark::Part(index);
             }
         }
+    }
+}
+
+/// The byte that a mark is, where it is one.
+fn byte_in(mark: Mark) -> Option<u8>
+    ensures byte { (value : ValueOf) → result ≡ plain_byte (cell_of mark value) }
+    ensures small { IfSome result (λ byte. byte < 256) }
+{
+    match mark {
+        Mark::Plain(byte) => Some(byte),
+        Mark::Blank | Mark::Part(_) => None,
     }
 }
 

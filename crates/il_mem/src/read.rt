@@ -1,20 +1,33 @@
 //! Reading a value from the cells of a block.
-ghost use Rattle.std.specs.Prelude.{◌≡◌, ◌+◌, ◌<◌, ◌≤◌, length, take, drop, Some, None, IfSome, IfOk, MatchOption};
+ghost use Rattle.std.specs.Prelude.{◌≡◌, ◌+◌, ◌<◌, ◌≤◌, length, take, drop, Some, None, IfOk, MatchOption};
 ghost use Rattle.std.specs.Option.{option_map};
 ghost use Rattle.il_ast.specs.Values.{number_of, same_callee, same_value};
 ghost use Rattle.il_ast.specs.Memory.{plain_bytes, are_parts_from, value_of};
-ghost use Rattle.il_mem.specs.Cells.{plain_byte, part_value, is_part_of};
+ghost use Rattle.il_mem.specs.Cells.{part_value, is_part_of};
 
 use crate::block::Block;
 use il_ast::value::{Callee, Cell, Value};
 use std::alloc::{AllocError, Global};
 
-/// The value of `count` cells from a place on, 1 to 8: of eight parts in order the value, of bytes
-/// their number, lowest first; else none.
+/// The value of `count` cells from a place on, 1 to 8: of bytes their number, lowest first, of eight parts in
+/// order the value; else none.
 pub fn read(block: &Block, from: usize, count: usize) -> Option<Value>
     requires inside { from + count ≤ length block.now }
     requires some { 0 < count }
     requires few { count ≤ 8 }
+    ensures { result ≡ value_of (take count (drop from block.now)) }
+{
+    match read_number(block, from, count) {
+        Some(number) => Some(Value::Integer(number)),
+        None => read_whole(block, from, count),
+    }
+}
+
+/// The value whose eight parts stand from a place on, in order, where these cells aren't all bytes.
+fn read_whole(block: &Block, from: usize, count: usize) -> Option<Value>
+    requires inside { from + count ≤ length block.now }
+    requires some { 0 < count }
+    requires mixed { option_map number_of (plain_bytes (take count (drop from block.now))) ≡ None }
     ensures { result ≡ value_of (take count (drop from block.now)) }
 {
     match whole_of(block.get(from)) {
@@ -25,10 +38,7 @@ pub fn read(block: &Block, from: usize, count: usize) -> Option<Value>
                 None
             }
         }
-        None => match read_number(block, from, count) {
-            Some(number) => Some(Value::Integer(number)),
-            None => None,
-        },
+        None => None,
     }
 }
 
@@ -54,7 +64,7 @@ fn read_number(block: &Block, from: usize, count: usize) -> Option<u64>
     let mut left = count;
     while left > 0 {
         left -= 1;
-        match byte_of(block.get(from + left)) {
+        match block.byte(from + left) {
             Some(byte) => number = number * 256 + u64::from(byte),
             None => return None,
         }
@@ -76,7 +86,7 @@ pub fn read_bytes(
     prove!(count <= length);
     let mut bytes = Vec::new(alloc);
     for k in 0..count {
-        match byte_of(block.get(from + k)) {
+        match block.byte(from + k) {
             Some(byte) => bytes.push(byte)?,
             None => return Ok(None),
         }
@@ -97,17 +107,6 @@ fn are_parts(block: &Block, from: usize, count: usize, value: Value) -> bool
         }
     }
     count == 8
-}
-
-/// The byte of a cell that is one.
-fn byte_of(cell: Cell) -> Option<u8>
-    ensures byte { result ≡ plain_byte cell }
-    ensures small { IfSome result (λ byte. byte < 256) }
-{
-    match cell {
-        Cell::Plain(byte) => Some(byte),
-        Cell::Part { .. } | Cell::Blank => None,
-    }
 }
 
 /// Whether a cell is the part of a value with this number.

@@ -17,7 +17,7 @@ pub fn write_number(block: &mut Block, to: usize, count: usize, number: u64)
     prove!(count <= length);
     let mut rest = number;
     for k in 0..count {
-        block.set(to + k, Cell::Plain((rest % 256) as u8));
+        block.set_byte(to + k, (rest % 256) as u8);
         rest /= 256;
     }
 }

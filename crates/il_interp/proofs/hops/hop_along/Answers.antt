@@ -11,8 +11,8 @@ returns-then-not-goes_on-clause-means c =
     let old = c.args.frame.now in
     let new = c.turns_in_block.new.frame in
     let count : c.args.most - c.loop-left.left + c.in_ok-done.done ≡ c.args.most - (c.loop-left.left - c.in_ok-done.done) = omega (arith, c.in_ok-done.ensures.few, c.loop-left.invariant.0) in
-    subst (λ k. GoesAlong p old k new) count
-    (along_further p old c.loop-left.frame new (c.args.most - c.loop-left.left) c.in_ok-done.done c.loop-left.invariant.2 c.in_ok-done.ensures.means)
+    subst (λ k. GoesAlong p old c.args.memory.now k new c.turns_in_block.new.memory) count
+    (along_further p old c.loop-left.frame new c.args.memory.now c.loop-left.memory c.turns_in_block.new.memory (c.args.most - c.loop-left.left) c.in_ok-done.done c.loop-left.invariant.2 c.in_ok-done.ensures.means)
 
 pub loop-left-preserved : goal.loop-left-preserved
 loop-left-preserved c =
@@ -23,8 +23,8 @@ loop-left-preserved c =
     let count : c.args.most - c.loop-left.left + c.in_ok-done.done ≡ c.args.most - (c.loop-left.left - c.in_ok-done.done) = omega (arith, c.in_ok-done.ensures.few, c.loop-left.invariant.0) in (
       fewer,
       c.in_ok-done.ensures.same ∙ c.loop-left.invariant.1,
-      subst (λ k. GoesAlong p old k new) count
-          (along_further p old c.loop-left.frame new (c.args.most - c.loop-left.left) c.in_ok-done.done c.loop-left.invariant.2 c.in_ok-done.ensures.means),
+      subst (λ k. GoesAlong p old c.args.memory.now k new c.turns_in_block.new.memory) count
+          (along_further p old c.loop-left.frame new c.args.memory.now c.loop-left.memory c.turns_in_block.new.memory (c.args.most - c.loop-left.left) c.in_ok-done.done c.loop-left.invariant.2 c.in_ok-done.ensures.means),
     )
 
 pub turns_in_block-requires-clause-function : goal.turns_in_block-requires-clause-function

@@ -20,9 +20,12 @@ returns-then-branch-clause-means c =
     ap (λ is. slice_get is next) (sym c.as_slice-insts.ensures) ∙ slice_get_past c.as_slice-insts.result.now next (omega (arith, c.if-next-insts.false))
     in
     let hops = subst (λ (done : Bool). MatchBool done (Ends p f b row c.hop.new.frame) (c.hop.new.frame ≡ row)) c.if-branch.true c.in_ok-hop.ensures.ends in
-    along_further p old row c.hop.new.frame (next - old.next) 1
-    (along_row p f b c.as_slice-insts.result.now old next c.operate_in_row-next.new.temps c.requires.function c.requires.block (sym c.as_slice-insts.ensures) c.operate_in_row-next.ensures.goes)
-    (along_hop p f b row c.hop.new.frame c.requires.function c.requires.block none hops)
+    let before = c.args.memory.now in
+    let after = c.operate_in_row-next.new.memory in
+    along_further p old row c.hop.new.frame before after after (next - old.next) 1
+    (along_row p f b c.as_slice-insts.result.now old before after next c.operate_in_row-next.new.temps c.requires.function c.requires.block (sym c.as_slice-insts.ensures)
+    c.operate_in_row-next.ensures.goes)
+    (along_hop p f b row c.hop.new.frame after c.requires.function c.requires.block none hops)
 
 pub returns-else-branch-clause-means : goal.returns-else-branch-clause-means
 returns-else-branch-clause-means c =
@@ -33,8 +36,11 @@ returns-else-branch-clause-means c =
     let next = c.operate_in_row-next.result in
     let row = record old { next = next; temps = c.operate_in_row-next.new.temps } in
     let stays = subst (λ (done : Bool). MatchBool done (Ends p f b row c.hop.new.frame) (c.hop.new.frame ≡ row)) c.if-branch.false c.in_ok-hop.ensures.ends in
-    subst (GoesAlong p old (next - old.next)) (sym stays)
-    (along_row p f b c.as_slice-insts.result.now old next c.operate_in_row-next.new.temps c.requires.function c.requires.block (sym c.as_slice-insts.ensures) c.operate_in_row-next.ensures.goes)
+    let before = c.args.memory.now in
+    let after = c.operate_in_row-next.new.memory in
+    subst (λ fr. GoesAlong p old before (next - old.next) fr after) (sym stays)
+    (along_row p f b c.as_slice-insts.result.now old before after next c.operate_in_row-next.new.temps c.requires.function c.requires.block (sym c.as_slice-insts.ensures)
+    c.operate_in_row-next.ensures.goes)
 
 pub returns-in_err-hop-clause-same : goal.returns-in_err-hop-clause-same
 returns-in_err-hop-clause-same c = grind (arith, common_steps)

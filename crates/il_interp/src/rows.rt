@@ -1,0 +1,169 @@
+//! Instructions that are done one after another within a block: all but calls, and but those that make blocks or copy bytes.
+ghost use Rattle.std.specs.Prelude.{◌≡◌, ◌-◌, ◌≤◌, MatchBool};
+ghost use Rattle.il_ast.specs.declared.instruction.Inst.TheVariants.{Unary, Binary, Store};
+ghost use Rattle.il_ast.specs.Start.{globals_of};
+ghost use Rattle.obj_link.specs.ProgramOf.{program};
+ghost use Rattle.il_interp.specs.Rows.{held, Does, GoesOn};
+
+use crate::numbers;
+use crate::operand::operand;
+use crate::operate::{operate_one, operate_two};
+use crate::slots::Slots;
+use il_ast::instruction::{Inst, Lined};
+use il_ast::operand::{Dest, Val};
+use il_ast::operation::{BinaryOp, Class, Size, UnaryOp};
+use il_mem::memory::BlockMemory;
+use il_types::classes::{left_class, operand_class, right_class, stored_class};
+use obj_link::linking::linked::Linked;
+
+/// `to = op value`. Answers whether it was done: not where it is undefined.
+#[tactic(auto, unfolding(il_ast::specs::Effect::inst_effect))]
+fn unary(
+    linked: &Linked<'_>,
+    text: usize,
+    temps: &mut Slots,
+    memory: &BlockMemory,
+    to: &Dest,
+    op: UnaryOp,
+    value: Val,
+) -> bool
+    ensures { MatchBool result (Does (globals_of (program linked.now) text) (held temps.old memory.now) (Unary to.now op value) (held temps.new memory.now)) (temps.new ≡ temps.old) }
+{
+    match operand(linked, text, temps, operand_class(op, to.class), value) {
+        Some(found) => match operate_one(memory, op, to.class, found) {
+            Some(made) => {
+                temps.set(to.temp.number(), made);
+                true
+            }
+            None => false,
+        },
+        None => false,
+    }
+}
+
+/// `to = op left, right`, of any values. Answers whether it was done: not where it is undefined.
+#[inline(never)]
+#[tactic(auto, unfolding(il_ast::specs::Effect::inst_effect))]
+fn on_values(
+    linked: &Linked<'_>,
+    text: usize,
+    temps: &mut Slots,
+    memory: &BlockMemory,
+    to: &Dest,
+    op: BinaryOp,
+    left: Val,
+    right: Val,
+) -> bool
+    ensures { MatchBool result (Does (globals_of (program linked.now) text) (held temps.old memory.now) (Binary to.now op left right) (held temps.new memory.now)) (temps.new ≡ temps.old) }
+{
+    match operand(linked, text, temps, left_class(op, to.class), left) {
+        Some(first) => match operand(linked, text, temps, right_class(op, to.class), right) {
+            Some(second) => match operate_two(memory, op, to.class, first, second) {
+                Some(made) => {
+                    temps.set(to.temp.number(), made);
+                    true
+                }
+                None => false,
+            },
+            None => false,
+        },
+        None => false,
+    }
+}
+
+/// `to = op left, right`. Answers whether it was done: not where it is undefined.
+fn binary(
+    linked: &Linked<'_>,
+    text: usize,
+    temps: &mut Slots,
+    memory: &BlockMemory,
+    to: &Dest,
+    op: &BinaryOp,
+    left: &Val,
+    right: &Val,
+) -> bool
+    ensures { MatchBool result (Does (globals_of (program linked.now) text) (held temps.old memory.now) (Binary to.now op.now left.now right.now) (held temps.new memory.now)) (temps.new ≡ temps.old) }
+{
+    if numbers::binary(temps, to, op, left, right) {
+        true
+    } else {
+        on_values(linked, text, temps, memory, to, *op, *left, *right)
+    }
+}
+
+/// `store value, at`. Answers whether it was done: not where it is undefined.
+#[tactic(auto, unfolding(il_ast::specs::Effect::inst_effect))]
+fn store(
+    linked: &Linked<'_>,
+    text: usize,
+    temps: &Slots,
+    memory: &mut BlockMemory,
+    size: Size,
+    value: Val,
+    at: Val,
+) -> bool
+    ensures { MatchBool result (Does (globals_of (program linked.now) text) (held temps.now memory.old) (Store size value at) (held temps.now memory.new)) (memory.new ≡ memory.old) }
+{
+    match operand(linked, text, temps, stored_class(size), value) {
+        Some(found) => match operand(linked, text, temps, Class::L, at) {
+            Some(place) => memory.store(place, found, size).is_some(),
+            None => false,
+        },
+        None => false,
+    }
+}
+
+/// Does an instruction of a text, where it is one of these and is defined. Answers whether it was done.
+fn instruction(
+    linked: &Linked<'_>,
+    text: usize,
+    temps: &mut Slots,
+    memory: &mut BlockMemory,
+    inst: &Inst,
+) -> bool
+    ensures { MatchBool result (Does (globals_of (program linked.now) text) (held temps.old memory.old) inst.now (held temps.new memory.new)) (held temps.new memory.new ≡ held temps.old memory.old) }
+{
+    match inst {
+        Inst::Binary {
+            to,
+            op,
+            left,
+            right,
+        } => binary(linked, text, temps, memory, to, op, left, right),
+        Inst::Unary { to, op, value } => unary(linked, text, temps, memory, to, *op, *value),
+        Inst::Store { size, value, at } => store(linked, text, temps, memory, *size, *value, *at),
+        Inst::Alloc { .. } | Inst::Blit { .. } | Inst::Call { .. } => false,
+    }
+}
+
+/// Does the instructions of a text that stand in a block from a place on, while they are some of these and are
+/// defined, at most so many. Answers the place behind them.
+pub fn operate_in_row(
+    linked: &Linked<'_>,
+    text: usize,
+    insts: &[Lined<Inst>],
+    temps: &mut Slots,
+    memory: &mut BlockMemory,
+    next: usize,
+    most: u64,
+) -> usize
+    ensures more { next ≤ result }
+    ensures few { result - next ≤ most }
+    ensures goes { GoesOn (program linked.now) text insts.now (held temps.old memory.old) next (held temps.new memory.new) result }
+{
+    let count = insts.len();
+    if next >= count {
+        return next;
+    }
+    let end = if most < (count - next) as u64 {
+        next + most as usize
+    } else {
+        count
+    };
+    for at in next..end {
+        if !instruction(linked, text, temps, memory, &insts[at].item) {
+            return at;
+        }
+    }
+    end
+}
