@@ -94,3 +94,12 @@ pub(crate) fn place_of(block: &Block<u32>, number: usize, counts: &[u32]) -> Opt
         None
     }
 }
+
+fn is_any_in(block: &Block<u32>, counts: &[u32]) -> bool {
+    (0..block.lines.as_slice().len()).any(|number| place_of(block, number, counts).is_some())
+}
+
+/// Whether any sum of the blocks is put off.
+pub(crate) fn is_any_put_off(blocks: &[Block<u32>], counts: &[u32]) -> bool {
+    blocks.iter().any(|block| is_any_in(block, counts))
+}

@@ -6,7 +6,7 @@ ghost use Rattle.vcode.specs.Coded.{virtual_code};
 ghost use Rattle.code_motion.specs.Later.{line_of, may_wait, lets_wait, AreLater, Makes, IsLater, AllLater};
 
 use crate::choice::reads::count_reads;
-use crate::later::choice::place_of;
+use crate::later::choice::{is_any_put_off, place_of};
 use crate::later::waiting::{Waiting, lets_wait, operation_of};
 use il_ast::list::Seq;
 use std::alloc::{AllocError, Global};
@@ -185,6 +185,9 @@ pub fn put_off_sums(alloc: Global, function: VFunc) -> Result<VFunc, AllocError>
 {
     let blocks = function.code.blocks.as_slice();
     let counts = count_reads(alloc, function.registers, blocks)?;
+    if !is_any_put_off(blocks, counts.as_slice()) {
+        return Ok(function);
+    }
     let made = all_later(alloc, blocks, counts.as_slice())?;
     function.with_blocks(alloc, function.registers, Seq::from_vec(made))
 }
