@@ -1,15 +1,9 @@
 -- What runs of a compiled file answer.
-use Rattle.std.proofs.Common.{◌≡◌, ℕ, Bool, true, List}
-use Rattle.obj_link.specs.Arguments.{are_arguments}
-use Rattle.elf_file.specs.Loaded.{Executable}
-use Rattle.rv_machine.specs.Runs.{RunEnds}
 use Rattle.rv_machine.specs.Start.{start_state}
-use Rattle.rv_machine.specs.declared.stop.Stop.{Stop}
 use Rattle.rv_machine.proofs.Arguments.{arguments_count, arguments_size}
 use Rattle.rv_machine.proofs.StartLaws.{machine_starts}
 use Rattle.headline.proofs.Answering.{runs_answer}
-use Rattle.qbec.specs.Compile.{IsExecutableOf, IsFile, IsCompiled}
-use Rattle.qbec.specs.Laws.{IsRead, AnswersFor, CompiledFilesAnswer}
+use Rattle.qbec.specs.Laws.{CompiledFilesAnswer}
 
 pub compiled_files_answer : CompiledFilesAnswer
 compiled_files_answer texts file x words refuses limit output stop is read fit bytes ends =

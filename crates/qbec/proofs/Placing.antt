@@ -69,7 +69,7 @@ no_candidates p text name candidate here = absurd (let no : ⊥ = cc in no)
 
 -- what stands without candidates stands with any
 pub stands_anyhow : (form : CallForm) (candidates : List (Option VFunc)) (f : Func) (c : Words) → StandWithin form [] f c → StandWithin form candidates f c
-stands_anyhow form candidates f c stands = (λ p text are. stands.0 p text (no_candidates p text), stands.1)
+stands_anyhow form candidates f c stands = (λ p text are. stands.0 p text (no_candidates p text), stands.1, stands.2)
 
 -- the code of a function of the program, with calls of candidates of its text in place
 pub candidate_is : (p : Program) (text number : ℕ) (below : List (Option VFunc)) (f : InText Func) (candidate : VFunc) → slice_get p.functions number ≡ Some f → f.text ≡ text → AreCandidatesAt p text below → IsCandidateCode below f.item candidate

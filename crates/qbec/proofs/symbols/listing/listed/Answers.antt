@@ -4,14 +4,14 @@ use Rattle.obj_link.specs.Placed.{contents_of}
 use Rattle.obj_link.specs.ProgramOf.{program}
 use Rattle.elf_file.specs.Conditions.{Loads}
 use Rattle.elf_file.specs.File.{executable_of}
-use Rattle.qbec.specs.Listing.{IsFileListed, listing_of}
+use Rattle.qbec.specs.Listing.{listing_of}
 use Rattle.qbec.proofs.symbols.listing.listed.Goals as goal
 
 pub returns : goal.returns
 returns g c =
     record {
       codes = c.in_ok-codes.codes.items;
-      words = c.in_ok-codes.ensures;
+      words = c.in_ok-codes.ensures.words;
       is = c.in_ok-file.ensures.file;
       loads =
           subst (λ (ws : List Words). Loads c.in_ok-file.file.items (executable_of (contents_of (program c.args.linked.now) ws))) c.as_slice-words.ensures.value
