@@ -1,5 +1,5 @@
 -- What is found of texts, and the lines that show it.
-use Rattle.std.specs.Prelude.{◌≡◌, ◌≢◌, ◌⊎◌, ℕ, ◌+◌, ◌++◌, false, List, [], ◌∷◌, codes, map, slice_get, unwrap_or}
+use Rattle.std.specs.Prelude.{◌≡◌, ◌≢◌, ◌⊎◌, ℕ, ◌+◌, ◌++◌, false, List, [], ◌∷◌, codes, map, slice_get, unwrap_or, Some}
 use Rattle.std.specs.Fmt.{decimal}
 use Rattle.std.specs.String.{string_bytes}
 use Rattle.il_ast.specs.declared.program.Program.{Program}
@@ -10,7 +10,7 @@ use Rattle.obj_link.specs.Names.{functions_of, objects_of}
 use Rattle.diagnostics.specs.declared.note.Note.{Note}
 use Rattle.qbec.specs.declared.error.CompileError.{CompileError}
 use Rattle.qbec.specs.declared.error.CompileError.TheVariants.{Syntax, Rule, UnknownName, ExportedTwice, NoMain, Limit, Memory}
-use Rattle.qbec.specs.Texts.{AreProgram}
+use Rattle.qbec.specs.Texts.{AreProgram, AreTexts}
 use Rattle.qbec.specs.Refusals.{OfAll, OfText, PassesLimit, Refuses}
 use Rattle.commands.specs.declared.verdict.Finding.{Finding}
 use Rattle.commands.specs.declared.verdict.Verdict.{Verdict}
@@ -55,10 +55,27 @@ abbrev pub AreTrue : (texts : List (List ℕ)) → List Finding → Type 0
 AreTrue texts [] = Unit {0}
 AreTrue texts (f ∷ findings) = IsTrue texts f × AreTrue texts findings
 
--- the texts are a program; or they are refused, for these reasons
+-- a note stands in the text with this number
+abbrev pub IsToldOf : (number : ℕ) → List Finding → Type 0
+IsToldOf number [] = ⊥
+IsToldOf number (f ∷ findings) = (f.note.text ≡ number) ⊎ IsToldOf number findings
+
+-- the text is in the grammar, and keeps the rules and the limits of one text
+abbrev pub IsText : List ℕ → Type 0
+IsText bytes = (c : Checked) × AreTexts (bytes ∷ []) (c ∷ [])
+
+-- each text by itself is one, or a note stands in it
+abbrev pub AreAllTold : (texts : List (List ℕ)) → List Finding → Type 0
+AreAllTold texts findings =
+    (number : ℕ) (bytes : List ℕ) → slice_get texts number ≡ Some bytes →
+    IsText bytes ⊎ IsToldOf number findings
+
+-- the texts are a program; or they are refused, for these reasons, and each that is refused by
+-- itself is told of
 abbrev pub IsVerdict : (texts : List (List ℕ)) → Verdict → Type 0
 IsVerdict texts (Sound warnings) = (p : Program) × AreProgram texts p
-IsVerdict texts (Refused findings) = (findings.items ≢ []) × AreTrue texts findings.items
+IsVerdict texts (Refused findings) =
+    (findings.items ≢ []) × AreTrue texts findings.items × AreAllTold texts findings.items
 
 -- the status that tells it
 abbrev pub verdict_status : Verdict → ℕ

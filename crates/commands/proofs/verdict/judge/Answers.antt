@@ -6,7 +6,7 @@ use Rattle.qbec.specs.Texts.{AreTexts}
 use Rattle.qbec.proofs.TextLemmas.{bytes_of, text_more, all_found}
 use Rattle.commands.specs.declared.verdict.Finding.{Finding}
 use Rattle.commands.specs.Verdicts.{AreTrue}
-use Rattle.commands.proofs.Judging.{refused_more, none_held, not_none}
+use Rattle.commands.proofs.Judging.{all_told, none_held, not_none, refused_more, refused_told, some_held, text_told}
 use Rattle.commands.proofs.verdict.judge.Goals as goal
 use Rattle.commands.proofs.verdict.judge.Goals.{in-Ok+in_ok-push_text-in-Ok, in-Err+in_ok-push_refused_text-in-Err}
 
@@ -21,6 +21,7 @@ loop-k-preserved c =
           let checked = ap (λ (v : Vec Checked Global). v.items) w.checked-is in
           record {
             are = subst (AreTrue (bytes_of texts)) (sym findings) before.are;
+            told = text_told texts k _ c.loop-k.findings.items _ c.loop-k-test.true before.told (w.in-Ok.text, (w.in-Ok.ensures.found, tt)) findings;
             so_far =
                 λ none.
                 text_more texts k _ c.loop-k.checked.items _ _ c.loop-k-test.true (before.so_far (sym findings ∙ none)) w.in-Ok.ensures.found
@@ -31,6 +32,7 @@ loop-k-preserved c =
           let pushed = w.in_ok-push_refused_text-in-Err.ensures in
           record {
             are = refused_more texts k _ c.loop-k.findings.items _ pushed.0 w.in-Err.refusal c.loop-k-test.true before.are w.in-Err.ensures.says pushed.1 (findings ∙ pushed.2);
+            told = refused_told (bytes_of texts) k c.loop-k.findings.items _ pushed.0 before.told pushed.1.text (findings ∙ pushed.2);
             so_far = λ none. absurd (not_none c.loop-k.findings.items _ pushed.0 (findings ∙ pushed.2) none);
           })
     ]
@@ -41,3 +43,10 @@ returns-then-is_empty c =
     let none : c.loop-k.findings.items ≡ [] = nil_from_length c.loop-k.findings.items (none_held c.loop-k.findings.len _ held (sym c.is_empty.ensures ∙ c.if-is_empty.true)) in
     c.linked_verdict.ensures (bytes_of c.args.texts.now)
     (subst (AreTexts (bytes_of c.args.texts.now)) (sym c.as_slice.ensures.value) (all_found c.args.texts.now c.loop-k.k c.loop-k.checked.items c.loop-k-test.false (c.loop-k.invariant.so_far none)))
+
+pub returns : goal.returns
+returns c = (
+  some_held c.loop-k.findings.len c.loop-k.findings.items c.loop-k.findings.ok.0 (sym c.is_empty.ensures ∙ c.if-is_empty.false),
+  c.loop-k.invariant.are,
+  all_told c.args.texts.now c.loop-k.k c.loop-k.findings.items c.loop-k-test.false c.loop-k.invariant.told,
+)
