@@ -14,6 +14,9 @@
 //! A form is chosen by the places that items would have if all of them took their longest form. Real places are never farther apart, so the form
 //! fits, and nothing is tried again: three passes over the items, one for those places, one for the real ones, one for the words.
 //!
+//! Calls of globals have the form that is asked for ([`call::CallForm`]), since their distances aren't known here: `jal`, or `lui` and `jalr` through x1. That
+//! each `jal` reaches is for whoever fills in the addresses.
+//!
 //! `specs/Forms.antt` has the forms, the places and the words as functions of the code, and `layout` answers exactly these words.
 //!
 //! The crate stands on `rv_isa` for code and the machine, and on `bits` for the two halves of a distance.

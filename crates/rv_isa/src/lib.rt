@@ -27,6 +27,7 @@
 //!
 //! - [`labelled::LabelledCode`] is code with labels, whose invariants are `IsLabelled` of `specs/Labels.antt`;
 //! - [`relocation::Relocation`] is an instruction of it that takes a part of a global's address as its immediate;
+//! - [`relocation::Filling`] is what a word that waits for an address becomes: such an instruction, or a call by `jal`;
 //! - [`code::MachineCode`] is the words made of it, with holes for addresses, whose invariants are `IsCode` of `specs/Words.antt`;
 //! - `LaysOut` says that such words stand for such code wherever they are put (`Laid.antt`).
 //!
