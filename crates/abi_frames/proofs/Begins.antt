@@ -7,7 +7,7 @@ use Rattle.flat_code.specs.Flat.{FlatGiven}
 use Rattle.flat_code.specs.Step.{Numbers}
 use Rattle.abi_frames.specs.Calls.{Ready}
 use Rattle.abi_frames.specs.Emission.{prologue}
-use Rattle.abi_frames.specs.BareWays.{bare_layout}
+use Rattle.abi_frames.specs.Parts.{bare_layout, outer_layout}
 use Rattle.operation_code.proofs.Leading.{Leads}
 use Rattle.abi_frames.proofs.Leads.{leads_on, leads_as}
 use Rattle.abi_frames.proofs.Activations.{Setting, IsSetting, site, bottom, value_at, place_is, is_held, held_below, Framed, spots_same, byte_has_access, Fits}
@@ -17,11 +17,11 @@ use Rattle.abi_frames.proofs.Entering.{Entering}
 
 -- where there is no frame: no slot, and no register is saved; instructions are kept for its begin
 abbrev pub unframed : Setting → Setting
-unframed c = record c { layout = bare_layout c.layout; saved = []; slots = 0; reserve = 49 }
+unframed c = record c { layout = outer_layout c.layout; saved = []; slots = 0; reserve = 49 }
 
-pub empty_fits : (c : Setting) (falls : Bool) (reserve : ℕ) → 24 ≤ reserve → IsSetting c
-    → Fits c.world c.global c.addresses (record (bare_layout c.layout) { falls = falls }) [] 0 0 c.sp reserve
-empty_fits c falls reserve enough is =
+pub empty_fits : (c : Setting) (leave : ℕ) (falls : Bool) (reserve : ℕ) → 24 ≤ reserve → IsSetting c
+    → Fits c.world c.global c.addresses (record (bare_layout c.layout) { leave = leave; falls = falls }) [] 0 0 c.sp reserve
+empty_fits c leave falls reserve enough is =
     let above = is.above in
     record {
       world = is.world;
@@ -41,7 +41,7 @@ empty_fits c falls reserve enough is =
 
 pub unframed_is : (c : Setting) → c.area ≡ 0 → IsSetting c → IsSetting (unframed c)
 unframed_is c none is =
-    subst (λ n. Fits c.world c.global c.addresses (bare_layout c.layout) [] 0 n c.sp 49) (sym none) (empty_fits c c.layout.falls 49 (lit≤ tt) is)
+    subst (λ n. Fits c.world c.global c.addresses (outer_layout c.layout) [] 0 n c.sp 49) (sym none) (empty_fits c (c.layout.leave + 1) c.layout.falls 49 (lit≤ tt) is)
 
 -- all registers stay but the stack pointer and scratch registers, and all bytes of the caller
 pub record Kept (sp : ℕ) (s u : State) : Type 0 where

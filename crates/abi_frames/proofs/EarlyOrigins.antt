@@ -16,7 +16,7 @@ abbrev pub bare : Setting → Setting
 bare c = record c { layout = no_frame c.layout; saved = []; slots = 0; area = 0 }
 
 pub bare_setting : (c : Setting) → IsSetting c → IsSetting (bare c)
-bare_setting c is = empty_fits c true c.reserve is.enough is
+bare_setting c is = empty_fits c c.layout.leave true c.reserve is.enough is
 
 -- ---- numbers of parameters
 

@@ -39,8 +39,7 @@ pub mod EarlyOrigins
 pub mod EarlyFacts
 pub mod EarlyWays
 pub mod EarlyPerforms
-pub mod BareStanding
-pub mod BareFacts
-pub mod BarePerforms
-pub mod BareLabelling
+pub mod Bare
+pub mod MarkedLabelling
+pub mod MarkedPerforms
 pub mod Promising

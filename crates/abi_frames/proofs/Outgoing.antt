@@ -35,8 +35,11 @@ few_in_blocks (b ∷ blocks) h =
     let parts = and_parts (list_all passes_few b.lines) (list_all (λ (d : Block Location). list_all passes_few d.lines) blocks) h in
     max_le (most_in_lines b.lines) (most_in_blocks blocks) 56 (few_in_lines b.lines parts.0) (few_in_blocks blocks parts.1)
 
+pub few_passed : (f : Code Location) → list_all (λ (b : Block Location). list_all passes_few b.lines) f.blocks ≡ true → outgoing f ≤ 56
+few_passed f few = few_in_blocks f.blocks few
+
 pub few_outgoing : (f : Code Location) → IsRegular f → outgoing f ≤ 56
-few_outgoing f is = few_in_blocks f.blocks is.few_args
+few_outgoing f is = few_passed f is.few_args
 
 pub slots_near : (f : Code Location) → IsRegular f → slots_offset f < 1024
 slots_near f is = let few = few_outgoing f is in let saved = few_saved_registers f in omega (arith, few, saved)

@@ -1,24 +1,29 @@
 -- The laws of the code of frames.
-use Rattle.std.proofs.Common.{◌≡◌, ℕ, ◌+◌, ◌*◌, ◌^◌, ◌<◌, ◌≤◌, List, refl, arith}
+use Rattle.std.proofs.Common.{◌≡◌, ℕ, ◌+◌, ◌-◌, ◌*◌, ◌^◌, ◌<◌, ◌≤◌, List, refl, subst, arith}
 use Rattle.std.specs.Prelude.{length, slice_get, Option, Some, None}
 use Rattle.il_ast.specs.declared.limits.TheConstants.{FUNCTION_WEIGHT}
+use Rattle.il_ast.specs.declared.value.End.TheVariants.{Exit, Halt, Undefined, Stack, Turns}
+use Rattle.il_ast.specs.Run.{one_call}
+use Rattle.il_ast.specs.Logged.{Logged}
 use Rattle.rv_isa.specs.Labels.{IsLabelled}
 use Rattle.rv_isa.specs.Labelled.{Stand}
-use Rattle.abi_frames.proofs.Shared.{Location, Code, EarlyReturn, Item, leb-true, longest_size}
+use Rattle.abi_frames.proofs.Shared.{Class, Location, Code, EarlyReturn, Item, leb-true, longest_size}
 use Rattle.vcode.specs.declared.function.LFunc.{LFunc}
 use Rattle.vcode.specs.Regular.{area, code_weight}
 use Rattle.vcode.specs.Coded.{classes_in}
+use Rattle.flat_code.specs.Flat.{FlatOutcome, FlatReturned, FlatEnded, flat_after}
 use Rattle.flat_code.specs.Step.{flat_begin, flat_step}
 use Rattle.abi_frames.specs.Calls.{World, IsWorld}
-use Rattle.abi_frames.specs.Performs.{KeepsFrame}
+use Rattle.abi_frames.specs.Performs.{Performs, KeepsFrame}
 use Rattle.abi_frames.specs.Layout.{layout, saved_registers, frame_bound, frame_size}
 use Rattle.abi_frames.specs.EarlyReturns.{early_return, early_items, items_by}
 use Rattle.abi_frames.specs.Frames.{IsFrameOf}
 use Rattle.abi_frames.specs.Functions.{function_items}
-use Rattle.abi_frames.specs.BareWays.{bare_items}
-use Rattle.abi_frames.specs.Laws.{IsCode, FramesAreLabelled, FramesAreSmall, FramesPerform, WaysAreLabelled, WaysPerform}
-use Rattle.abi_frames.proofs.BarePerforms.{performs_bare}
-use Rattle.abi_frames.proofs.BareLabelling.{bare_labelled}
+use Rattle.abi_frames.specs.Parts.{marked_code}
+use Rattle.abi_frames.specs.Laws.{IsCode, FramesAreLabelled, FramesAreSmall, FramesPerform, MarkedAreLabelled, MarkedPerform}
+use Rattle.frame_ways.specs.Keeping.{FlatFine, KeepsBytes}
+use Rattle.abi_frames.proofs.MarkedPerforms.{marked_fits, performs_marked}
+use Rattle.abi_frames.proofs.MarkedLabelling.{marked_labelled}
 use Rattle.abi_frames.proofs.Sizes.{function_small, early_size}
 use Rattle.abi_frames.proofs.Labelling.{function_labelled, early_labelled}
 use Rattle.abi_frames.proofs.Starting.{frame_fits, performs}
@@ -82,14 +87,39 @@ frames_perform f slots is = by_return (early_return f slots) refl
         is_frame f slots (early_items (layout f slots) (saved_registers f) f.params f.blocks e) is
         (λ w at label global addresses world globals near stands. performs_early w at label global addresses f slots e (early_is f slots e h) is world globals near stands)
 
--- ---- with ways that need no frame
+-- ---- code with marks
 
-pub ways_are_labelled : WaysAreLabelled
-ways_are_labelled f slots parts enter is size =
-    let light = leb-true (code_weight f) FUNCTION_WEIGHT is.light in
-    bare_labelled f slots parts enter is (omega (arith, size, light))
+pub marked_are_labelled : MarkedAreLabelled
+marked_are_labelled f slots marks is near = marked_labelled f slots marks is near
 
-pub ways_perform : WaysPerform
-ways_perform f slots parts enter is ways =
-    is_frame f slots (bare_items f slots parts enter) is
-    (λ w at label global addresses world globals near stands. performs_bare w at label global addresses f slots parts enter ways is world globals near stands)
+-- what performs what g runs performs what f does, where g keeps f
+keeps_frame : (w : World) (at need frame area : ℕ) (classes : List Class) (result : Option Class) (f g : Code Location) (addresses : List ℕ) → KeepsBytes f g
+    → KeepsFrame w at need frame area classes result (flat_begin g) (flat_step g addresses)
+    → KeepsFrame w at need frame area classes result (flat_begin f) (flat_step f addresses)
+keeps_frame w at need frame area classes result f g addresses keeps performs sp j stack clear log r n goes all s ready = by_outcome r goes
+  where
+    fine : (o : FlatOutcome) → FlatFine o → Logged (flat_step f addresses (sp - area) j) n (flat_begin f (sp - area) j) log o
+        → Performs w sp result j.memory s (flat_after one_call o)
+    fine o is logged = let same = keeps addresses (sp - area) j log o is n logged in performs sp j stack clear log o same.0 same.1 all s ready
+
+    by_outcome : (o : FlatOutcome) → Logged (flat_step f addresses (sp - area) j) n (flat_begin f (sp - area) j) log o
+        → Performs w sp result j.memory s (flat_after one_call o)
+    by_outcome (FlatReturned t x m) logged = fine (FlatReturned t x m) tt logged
+    by_outcome (FlatEnded t (Exit k)) logged = fine (FlatEnded t (Exit k)) tt logged
+    by_outcome (FlatEnded t Halt) logged = fine (FlatEnded t Halt) tt logged
+    by_outcome (FlatEnded t Undefined) logged = tt
+    by_outcome (FlatEnded t Stack) logged = fine (FlatEnded t Stack) tt logged
+    by_outcome (FlatEnded t Turns) logged = fine (FlatEnded t Turns) tt logged
+
+pub marked_perform : MarkedPerform
+marked_perform f slots g marks is made same =
+    let frame = frame_fits f slots is in
+    let fits = frame.fits in
+    is_frame f slots (marked_code g slots marks) is
+    (λ w at label global addresses world globals near stands.
+    keeps_frame w at (frame_bound f slots) (frame_size f slots) (area f) (classes_in f.params) f.result f g addresses made.keeps
+    (subst (λ n. KeepsFrame w at (frame_bound f slots) n (area f) (classes_in f.params) f.result (flat_begin g) (flat_step g addresses)) same
+    (subst (λ n. KeepsFrame w at (frame_bound f slots) (frame_size g slots) n (classes_in f.params) f.result (flat_begin g) (flat_step g addresses)) made.area
+    (subst (λ ds. KeepsFrame w at (frame_bound f slots) (frame_size g slots) (area g) (classes_in ds) f.result (flat_begin g) (flat_step g addresses)) made.params
+    (subst (λ o. KeepsFrame w at (frame_bound f slots) (frame_size g slots) (area g) (classes_in g.params) o (flat_begin g) (flat_step g addresses)) made.result
+    (performs_marked w at (frame_bound f slots) label global addresses g slots marks (marked_fits g slots marks is.few made.marked) made.marked (omega (arith, same, fits)) world globals near stands))))))

@@ -23,7 +23,7 @@ pub use Rattle.vcode.specs.declared.code.Block.{Block}
 pub use Rattle.vcode.specs.declared.code.Code.{Code}
 pub use Rattle.abi_frames.specs.declared.layout.Layout.{Layout}
 pub use Rattle.abi_frames.specs.declared.early.EarlyReturn.{EarlyReturn}
-pub use Rattle.abi_frames.specs.declared.ways.Part.{Part}
+pub use Rattle.frame_ways.specs.declared.mark.Mark.{Mark}
 pub use Rattle.std.specs.List.{list_all, list_any, sum_by}
 pub use Rattle.std.proofs.lemmas.Bool.{and_parts, and_from, leb-true, lt-ltb, ltb-true, eqb-true, eqb-false, not-true, both_ways, or_parts}
 pub use Rattle.std.proofs.lemmas.Option.{same_Some, none-some, slice_get_within}

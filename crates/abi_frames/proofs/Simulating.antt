@@ -42,7 +42,7 @@ use Rattle.abi_frames.proofs.JumpCode.{Arrives, jumps_goto, meets, jumps_branch,
 use Rattle.abi_frames.proofs.Sizes.{result_size, goto_size, branch_items_size, epilogue_size}
 use Rattle.abi_frames.proofs.Storing.{store_case}
 use Rattle.abi_frames.proofs.CallCase.{call_case}
-use Rattle.abi_frames.proofs.Simulation.{CodeStands, allowed, At, AtJump, Landed, Performed, step_of, nothing_taken, later_fits, Log, Follows, Then, undefined, framed_same, reach, advance, may_write}
+use Rattle.abi_frames.proofs.Simulation.{BlockAt, CodeStands, allowed, At, AtJump, Landed, Performed, step_of, nothing_taken, later_fits, Log, Follows, Then, undefined, framed_same, reach, advance, may_write}
 use Rattle.abi_frames.proofs.Making.{alloc_case}
 use Rattle.abi_frames.proofs.Copying.{blit_case}
 
@@ -299,6 +299,43 @@ not_first blocks i n h e =
     let some = (and_parts (nat_lt 0 i) (nat_lt i blocks) h).0 in
     absurd (let no : ⊥ = grind (arith, nat_tests) in no)
 
+-- at the first line of a block, with what is paid for it
+pub enter_block : (c : Setting) (f : Code Location) (j : FlatGiven) (r : FlatOutcome) (n : ℕ) → Follows c f j r n
+    → (i at credit : ℕ) (b : Block Location) → slice_get f.blocks i ≡ Some b → BlockAt c b i at credit → (fs : FlatState) (k : ℕ) (u : State)
+    → Landed c at (landing f i) fs k u → k + credit + c.reserve ≤ allowed fs → (i ≡ 0 → fs.used ≡ 0) → (log : Log)
+    → Logged (step_of c f j) n (record fs { block = i; next = 0 }) log r → AllPerform c.world c.floor log → Performed c f r
+enter_block c f j r n go i at credit b e there fs k u a price new log goes all =
+    let stands = there.block in
+    let given = there.given in
+    let paced = lands_on f i b e stands.paced in
+    let pace = a.pace in
+    let room = stands.room in
+    go b b.lines (record fs { block = i; next = 0 }) k u
+    (record {
+      block = e;
+      ahead = λ q. ap (λ i. slice_get b.lines i) (zero-add q);
+      rest = stands.rest;
+      used = 0;
+      stands = subst (λ x. StandAt (site c) ((lines_items c.layout 0 b.lines ++ end_items c.layout c.saved i b) ++ (Label (i + 1) ∷ stands.rest)) x) (there.here ∙ sym a.place)
+          stands.stands;
+      fixed = a.fixed;
+      framed = a.framed;
+      comes = a.comes;
+      output = a.output;
+      known = stands.known;
+      jump_known = stands.jump_known;
+      credit = stands.credit;
+      paid = stands.paid;
+      price = omega (arith, price, given);
+      pace = omega (arith, paced, pace);
+      blocks = stands.blocks;
+      inside = stands.inside;
+      room = omega (arith, room);
+      used_is = λ h. none_used i fs.used b.lines new stands.made_first h;
+      passes = stands.passes;
+      stood = stands;
+    }) log goes all
+
 pub enter : (c : Setting) (f : Code Location) → CodeStands c f → (j : FlatGiven) (r : FlatOutcome) (n : ℕ) → Follows c f j r n
     → (i : ℕ) (fs : FlatState) (k : ℕ) (u : State) → c.reached i ≡ true → Landed c (c.label i) (landing f i) fs k u → (i ≡ 0 → fs.used ≡ 0) → (log : Log)
     → Logged (step_of c f j) n (record fs { block = i; next = 0 }) log r → AllPerform c.world c.floor log → Performed c f r
@@ -307,35 +344,8 @@ enter c f is j r n go i fs k u there a new log goes all = by_block (slice_get f.
     by_owner : (b : Block Location) → slice_get f.blocks i ≡ Some b → (t : Bool) → is.own i ≡ t → Performed c f r
     by_owner b e false o = is.handed i b e there o j r n fs k u a new log goes all
     by_owner b e true o =
-        let stands = is.blocks i b e there o in
-        let paced = lands_on f i b e stands.paced in
-        let pace = a.pace in
         let price = a.price in
-        let room = stands.room in
-        go b b.lines (record fs { block = i; next = 0 }) k u
-        (record {
-          block = e;
-          ahead = λ q. ap (λ i. slice_get b.lines i) (zero-add q);
-          rest = stands.rest;
-          used = 0;
-          stands = subst (λ x. StandAt (site c) ((lines_items c.layout 0 b.lines ++ end_items c.layout c.saved i b) ++ (Label (i + 1) ∷ stands.rest)) x) (sym a.place) stands.stands;
-          fixed = a.fixed;
-          framed = a.framed;
-          comes = a.comes;
-          output = a.output;
-          known = stands.known;
-          jump_known = stands.jump_known;
-          credit = 0;
-          paid = stands.paid;
-          price = omega (arith, price);
-          pace = omega (arith, paced, pace);
-          blocks = stands.blocks;
-          inside = stands.inside;
-          room = omega (arith, room);
-          used_is = λ h. none_used i fs.used b.lines new stands.made_first h;
-          passes = stands.passes;
-          stood = stands;
-        }) log goes all
+        enter_block c f j r n go i (c.label i) 0 b e (is.blocks i b e there o) fs k u a (omega (arith, price)) new log goes all
 
     by_block : (o : Option (Block Location)) → slice_get f.blocks i ≡ o → Performed c f r
     by_block None e = undefined_next c f j r n (record fs { block = i; next = 0 }) log (no_block c f j (record fs { block = i; next = 0 }) e) goes

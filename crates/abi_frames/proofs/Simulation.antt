@@ -19,18 +19,21 @@ use Rattle.abi_frames.specs.Emission.{line_items, lines_items, jump_items, epilo
 use Rattle.abi_frames.proofs.Pacing.{landing, standing}
 use Rattle.operation_code.proofs.Leading.{StandAt, Reaches, Leads}
 use Rattle.abi_frames.proofs.Activations.{Setting, IsSetting, site, bottom, slot_at, save_at, value_at, place_is, Framed, held_below, is_among, MayWrite, next_index}
-use Rattle.abi_frames.specs.BareWays.{leads}
+use Rattle.frame_ways.specs.Marks.{leads}
 use Rattle.abi_frames.proofs.LineCode.{Scratched}
 use Rattle.abi_frames.proofs.Sizes.{line_size}
 
 -- ---- what is known of the code
 
+-- the lines of a block stand at this place, and begin with so much paid for
 pub record BlockStands (c : Setting) (b : Block Location) (i : ℕ) : Type 0 where
   pub rest : List Item
-  pub stands : StandAt (site c) ((lines_items c.layout 0 b.lines ++ end_items c.layout c.saved i b) ++ (Label (i + 1) ∷ rest)) (c.label i)
+  pub at : ℕ
+  pub credit : ℕ
+  pub stands : StandAt (site c) ((lines_items c.layout 0 b.lines ++ end_items c.layout c.saved i b) ++ (Label (i + 1) ∷ rest)) at
   pub known : list_all (line_keeps (is_place c.slots)) b.lines ≡ true
   pub jump_known : jump_keeps (is_place c.slots) b.jump ≡ true
-  pub paid : affords 0 b.jump b.lines ≡ true
+  pub paid : affords credit b.jump b.lines ≡ true
   pub paced : sum_by turns_of b.lines ≤ FUNCTION_WEIGHT
   pub blocks : ℕ
   pub inside : leads_inside blocks b.jump ≡ true
@@ -41,6 +44,16 @@ pub record BlockStands (c : Setting) (b : Block Location) (i : ℕ) : Type 0 whe
   pub may : (q : ℕ) (l : Line Location) → slice_get b.lines q ≡ Some l → (to : Location) → is_place c.slots to ≡ true
       → ((n : ℕ) → is_register n to ≡ writes n l) → MayWrite c.saved to
   pub calls : (q : ℕ) (l : Line Location) → slice_get b.lines q ≡ Some l → is_call l ≡ true → (c.floor ≡ bottom c) × (is_among 1 c.saved ≡ true)
+
+-- at a place that is known, and with so much
+pub record BlockAt (c : Setting) (b : Block Location) (i at credit : ℕ) : Type 0 where
+  pub block : BlockStands c b i
+  pub here : block.at ≡ at
+  pub given : block.credit ≡ credit
+
+-- they stand at the block's label, and begin with nothing
+abbrev pub OwnBlock : Setting → Block Location → ℕ → Type 0
+OwnBlock c b i = BlockAt c b i (c.label i) 0
 
 -- the instructions that are paid for, less those of the frame's end
 abbrev pub allowed : FlatState → ℕ
@@ -129,7 +142,7 @@ Handed c f i =
 pub record CodeStands (c : Setting) (f : Code Location) : Type 0 where
   pub setting : IsSetting c
   pub own : ℕ → Bool
-  pub blocks : (i : ℕ) (b : Block Location) → slice_get f.blocks i ≡ Some b → c.reached i ≡ true → own i ≡ true → BlockStands c b i
+  pub blocks : (i : ℕ) (b : Block Location) → slice_get f.blocks i ≡ Some b → c.reached i ≡ true → own i ≡ true → OwnBlock c b i
   pub handed : (i : ℕ) (b : Block Location) → slice_get f.blocks i ≡ Some b → c.reached i ≡ true → own i ≡ false → Handed c f i
   pub result : c.layout.result ≡ f.result
   pub falls : c.layout.falls ≡ falls_through f

@@ -5,8 +5,9 @@ use Rattle.std.specs.Prelude.{not, nat_le, nat_lt, if◌then◌else◌, map, len
 use Rattle.abi_frames.proofs.Shared.{Class, State, Item, Label, Location, Destination, Jump, Block, Code, Layout, list_all, list_any, sum_by, and_parts, not-true, leb-true, longest_size, all_at, same_Some, sum_by-cons, nat_tests, number_at, is_place, line_keeps, jump_keeps}
 use Rattle.rv_isa.specs.Labelled.{Stand}
 use Rattle.vcode.specs.declared.line.Jump.TheVariants.{Goto, Branch, Return, Halt}
+use Rattle.vcode.specs.declared.limits.TheConstants.{PLACES}
 use Rattle.vcode.specs.Named.{block_keeps}
-use Rattle.vcode.specs.Cost.{is_paid}
+use Rattle.vcode.specs.Cost.{affords, is_paid}
 use Rattle.vcode.specs.Regular.{area, turns_of, is_alloc, allocs_first, alloc_bytes, leads_inside}
 use Rattle.flat_code.specs.Spots.{Spots, Clear}
 use Rattle.flat_code.specs.Flat.{FlatGiven}
@@ -15,7 +16,7 @@ use Rattle.abi_frames.specs.Calls.{World, IsWorld, GoodStack, Ready, passed}
 use Rattle.abi_frames.specs.Performs.{KeepsFrame}
 use Rattle.abi_frames.specs.Layout.{layout, outgoing, saved_registers, frame_size, frame_bound}
 use Rattle.abi_frames.proofs.Saving.{can_save_all, held_all, few_saved_registers, AllMayWrite, all_params_may, line_may, call_saves}
-use Rattle.abi_frames.specs.BareWays.{leads}
+use Rattle.frame_ways.specs.Marks.{leads}
 use Rattle.abi_frames.specs.Emission.{body_items, blocks_items, prologue, epilogue}
 use Rattle.abi_frames.specs.Functions.{entry_items, function_items}
 use Rattle.abi_frames.specs.Laws.{IsCode}
@@ -28,7 +29,7 @@ use Rattle.abi_frames.proofs.Begins.{nothing_done, comes_in, begun}
 use Rattle.abi_frames.proofs.Outgoing.{few_outgoing, block_passes}
 use Rattle.abi_frames.proofs.Sizes.{prologue_size, entry_size}
 use Rattle.abi_frames.proofs.Entering.{Entering, argument_in, ArePassed, CanTake, leads_entry}
-use Rattle.abi_frames.proofs.Simulation.{BlockStands, CodeStands}
+use Rattle.abi_frames.proofs.Simulation.{BlockAt, OwnBlock, CodeStands}
 use Rattle.abi_frames.proofs.Simulating.{follows, enter}
 use Rattle.abi_frames.proofs.CallCase.{held_is_passed}
 
@@ -98,34 +99,34 @@ setting w label global addresses f slots sp before s =
 
 -- how large the frame is
 pub record FrameFits (f : Code Location) (slots : ℕ) : Type 0 where
+  pub places : slots < PLACES
   pub few : outgoing f ≤ 56
   pub small : area f ≤ ALLOC_BYTES
   pub fits : frame_size f slots ≤ frame_bound f slots
 
 pub frame_fits : (f : Code Location) (slots : ℕ) → IsCode f slots → FrameFits f slots
 frame_fits f slots is = record {
+  places = is.few;
   few = few_outgoing f is.regular;
   small = leb-true (area f) ALLOC_BYTES is.regular.small;
   fits = let saved = few_saved_registers f in omega (arith, saved);
 }
 
-pub is_setting : (w : World) (label global : ℕ → ℕ) (addresses : List ℕ) (f : Code Location) (slots : ℕ) (sp room : ℕ) (before : Spots) (s : State) → IsCode f slots
-    → IsWorld w → ((n a : ℕ) → slice_get addresses n ≡ Some a → global n ≡ a) → ((n : ℕ) → global n < 2 ^ 30) → GoodStack w sp (frame_bound f slots + room)
+-- where the stack has room for it
+pub fits_setting : (w : World) (label global : ℕ → ℕ) (addresses : List ℕ) (f : Code Location) (slots : ℕ) (sp : ℕ) (before : Spots) (s : State) → FrameFits f slots
+    → IsWorld w → ((n a : ℕ) → slice_get addresses n ≡ Some a → global n ≡ a) → ((n : ℕ) → global n < 2 ^ 30) → w.bottom + frame_size f slots ≤ sp → sp ≤ w.top
     → IsSetting (setting w label global addresses f slots sp before s)
-is_setting w label global addresses f slots sp room before s is world globals near stack =
-    let frame = frame_fits f slots is in
+fits_setting w label global addresses f slots sp before s frame world globals near above below =
     let few = frame.few in
     let small = frame.small in
-    let fits = frame.fits in
-    let above = stack.above in
-    let slots_few = is.few in
+    let slots_few = frame.places in
     let saved = few_saved_registers f in
     record {
       world = world;
       globals = globals;
       near = near;
-      above = omega (arith, above, fits);
-      below = stack.below;
+      above = above;
+      below = below;
       fits = omega arith;
       blocks = omega arith;
       saves_fit = omega arith;
@@ -135,6 +136,15 @@ is_setting w label global addresses f slots sp room before s is world globals ne
       small = omega (arith, few, small, slots_few, saved);
       enough = omega arith;
     }
+
+pub is_setting : (w : World) (label global : ℕ → ℕ) (addresses : List ℕ) (f : Code Location) (slots : ℕ) (sp room : ℕ) (before : Spots) (s : State) → IsCode f slots
+    → IsWorld w → ((n a : ℕ) → slice_get addresses n ≡ Some a → global n ≡ a) → ((n : ℕ) → global n < 2 ^ 30) → GoodStack w sp (frame_bound f slots + room)
+    → IsSetting (setting w label global addresses f slots sp before s)
+is_setting w label global addresses f slots sp room before s is world globals near stack =
+    let frame = frame_fits f slots is in
+    let fits = frame.fits in
+    let above = stack.above in
+    fits_setting w label global addresses f slots sp before s frame world globals near (omega (arith, above, fits)) stack.below
 
 -- the bytes of a block are among all, and only the first block takes some
 abbrev pub block_bytes : Block Location → ℕ
@@ -158,34 +168,57 @@ made_first (d ∷ blocks) zero b h e some = absurd (omega (arith, some))
 made_first (d ∷ blocks) (suc i) b h e some =
     not-true (list_any is_alloc b.lines) (all_at (λ (x : Block Location). not (list_any is_alloc x.lines)) blocks i b h e)
 
-pub block_stands : (c : Setting) (f : Code Location) (slots : ℕ) → c.slots ≡ slots → c.area ≡ area f → c.layout.saves ≡ 8 * outgoing f → c.saved ≡ saved_registers f → c.floor ≡ bottom c → IsCode f slots → (b : Block Location) (i : ℕ)
-    → slice_get f.blocks i ≡ Some b → leads c.reached b.jump ≡ true → BlockCode (site c) c.layout c.saved b i → BlockStands c b i
-block_stands c f slots same same_area same_saves same_saved level is b i e goes code =
-    let known = and_parts (list_all (λ (d : Destination Location). is_place slots d.place) f.params) (list_all (block_keeps (is_place slots)) f.blocks) is.known in
-    let keeps : block_keeps (is_place slots) b ≡ true = all_at (block_keeps (is_place slots)) f.blocks i b known.1 e in
-    let keeps_here : block_keeps (is_place c.slots) b ≡ true = subst (λ n. block_keeps (is_place n) b ≡ true) (sym same) keeps in
+-- what of a setting is the function's
+pub record Matches (c : Setting) (f : Code Location) (count : ℕ) : Type 0 where
+  pub slots : c.slots ≡ count
+  pub area : c.area ≡ area f
+  pub saves : c.layout.saves ≡ 8 * outgoing f
+  pub saved : c.saved ≡ saved_registers f
+  pub floor : c.floor ≡ bottom c
+
+-- a block in the frame, wherever its lines stand
+pub lines_stand : (c : Setting) (f : Code Location) (slots : ℕ) → Matches c f slots → (b : Block Location) (i at credit : ℕ) (rest : List Item)
+    → slice_get f.blocks i ≡ Some b → block_keeps (is_place slots) b ≡ true → leads_inside (length f.blocks) b.jump ≡ true → nat_le (sum_by turns_of b.lines) FUNCTION_WEIGHT ≡ true
+    → (0 < i → list_any is_alloc b.lines ≡ false) → affords credit b.jump b.lines ≡ true → leads c.reached b.jump ≡ true
+    → StandAt (site c) (body_items c.layout c.saved i b ++ (Label (i + 1) ∷ rest)) at → BlockAt c b i at credit
+lines_stand c f slots same b i at credit rest e keeps inside paced first pays goes stands =
+    let keeps_here : block_keeps (is_place c.slots) b ≡ true = subst (λ n. block_keeps (is_place n) b ≡ true) (sym same.slots) keeps in
     let parts = and_parts (list_all (line_keeps (is_place c.slots)) b.lines) (jump_keeps (is_place c.slots) b.jump) keeps_here in
-    let pays = all_at is_paid f.blocks i b is.regular.paid e in
-    let inside = all_at (λ (d : Block Location). leads_inside (length f.blocks) d.jump) f.blocks i b is.regular.inside e in
     let within = block_within f.blocks i b e in
     let passes = block_passes f.blocks i b e in
-    let paced = all_at (λ (d : Block Location). nat_le (sum_by turns_of d.lines) FUNCTION_WEIGHT) f.blocks i b is.regular.paced e in
+    let same_area = same.area in
+    let same_saves = same.saves in
     record {
-      rest = code.rest;
-      stands = code.stands;
-      known = parts.0;
-      jump_known = parts.1;
-      paid = pays;
-      paced = leb-true (sum_by turns_of b.lines) FUNCTION_WEIGHT paced;
-      blocks = length f.blocks;
-      inside = inside;
-      room = omega (arith, within, same_area);
-      made_first = made_first f.blocks i b is.regular.first e;
-      passes = omega (arith, passes, same_saves);
-      goes = goes;
-      may = λ q l there to good it. subst (λ rs. MayWrite rs to) (sym same_saved) (line_may f c.slots i q b l e there to good it);
-      calls = λ q l there call. (level, subst (λ rs. is_among 1 rs ≡ true) (sym same_saved) (call_saves f i q b l e there call));
+      block = record {
+        rest = rest;
+        at = at;
+        credit = credit;
+        stands = stands;
+        known = parts.0;
+        jump_known = parts.1;
+        paid = pays;
+        paced = leb-true (sum_by turns_of b.lines) FUNCTION_WEIGHT paced;
+        blocks = length f.blocks;
+        inside = inside;
+        room = omega (arith, within, same_area);
+        made_first = first;
+        passes = omega (arith, passes, same_saves);
+        goes = goes;
+        may = λ q l there to good it. subst (λ rs. MayWrite rs to) (sym same.saved) (line_may f c.slots i q b l e there to good it);
+        calls = λ q l there call. (same.floor, subst (λ rs. is_among 1 rs ≡ true) (sym same.saved) (call_saves f i q b l e there call));
+      };
+      here = refl;
+      given = refl;
     }
+
+pub block_stands : (c : Setting) (f : Code Location) (slots : ℕ) → Matches c f slots → IsCode f slots → (b : Block Location) (i : ℕ)
+    → slice_get f.blocks i ≡ Some b → leads c.reached b.jump ≡ true → BlockCode (site c) c.layout c.saved b i → OwnBlock c b i
+block_stands c f slots same is b i e goes code =
+    let known = and_parts (list_all (λ (d : Destination Location). is_place slots d.place) f.params) (list_all (block_keeps (is_place slots)) f.blocks) is.known in
+    lines_stand c f slots same b i (c.label i) 0 code.rest e (all_at (block_keeps (is_place slots)) f.blocks i b known.1 e)
+    (all_at (λ (d : Block Location). leads_inside (length f.blocks) d.jump) f.blocks i b is.regular.inside e)
+    (all_at (λ (d : Block Location). nat_le (sum_by turns_of d.lines) FUNCTION_WEIGHT) f.blocks i b is.regular.paced e) (made_first f.blocks i b is.regular.first e)
+    (all_at is_paid f.blocks i b is.regular.paid e) goes code.stands
 
 -- from the call to the first block, where scratch registers alone were written since
 pub begins : (c : Setting) (f : Code Location) (slots at : ℕ) (j : FlatGiven) (u : State) → IsSetting c → c.slots ≡ slots → c.saved ≡ saved_registers f → IsCode f slots
@@ -233,7 +266,7 @@ framed_code w label global addresses f slots sp before s tail at is good pointer
       own = λ i. true;
       handed = λ i b e there other. absurd (never other);
       blocks = λ i b e there own.
-          block_stands c f slots refl refl refl refl refl is b i e (all_lead b.jump)
+          block_stands c f slots (record { slots = refl; area = refl; saves = refl; saved = refl; floor = refl }) is b i e (all_lead b.jump)
           (subst (λ k. BlockCode (site c) y rs b k) (zero-add i) (rows_stand (site c) (λ l. l) (body_items y rs) 0 f.blocks y.leave last at (sym (zero-add (length f.blocks))) stands i b e));
       result = refl;
       falls = refl;

@@ -29,7 +29,7 @@ use Rattle.abi_frames.specs.declared.pace.TheConstants.{EARLY_TURNS}
 use Rattle.abi_frames.specs.Layout.{layout, saved_registers, frame_size}
 use Rattle.abi_frames.specs.Emission.{result_items, branch_items, go_back}
 use Rattle.abi_frames.specs.Functions.{function_items}
-use Rattle.abi_frames.specs.BareWays.{bare_layout}
+use Rattle.abi_frames.specs.Parts.{bare_layout}
 
 -- ---- where numbers stand on entry
 

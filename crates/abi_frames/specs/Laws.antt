@@ -1,5 +1,5 @@
 -- What is proved of the code of frames.
-use Rattle.std.specs.Prelude.{ℕ, ◌+◌, ◌*◌, ◌<◌, ◌≤◌, List, IsTrue, nat_le, length}
+use Rattle.std.specs.Prelude.{◌≡◌, ℕ, ◌+◌, ◌*◌, ◌^◌, ◌<◌, ◌≤◌, List, IsTrue, nat_le, length}
 use Rattle.il_ast.specs.declared.limits.TheConstants.{FUNCTION_WEIGHT}
 use Rattle.vcode.specs.declared.limits.TheConstants.{PLACES}
 use Rattle.rv_isa.specs.Labels.{IsLabelled, longest_size}
@@ -9,9 +9,12 @@ use Rattle.vcode.specs.Places.{located}
 use Rattle.vcode.specs.Named.{keeps_places, is_place, are_near, are_distinct}
 use Rattle.vcode.specs.Regular.{IsRegular, code_weight}
 use Rattle.abi_frames.specs.Frames.{IsFrameOf}
-use Rattle.abi_frames.specs.declared.ways.Part.{Part}
-use Rattle.abi_frames.specs.EarlyReturns.{frame_items, price}
-use Rattle.abi_frames.specs.BareWays.{are_ways, bare_items, bare_labels}
+use Rattle.abi_frames.specs.EarlyReturns.{frame_items}
+use Rattle.abi_frames.specs.Layout.{frame_size}
+use Rattle.abi_frames.specs.Parts.{marked_code}
+use Rattle.frame_ways.specs.declared.mark.Mark.{Mark}
+use Rattle.frame_ways.specs.Marks.{IsMarked}
+use Rattle.frame_ways.specs.Keeping.{IsMarkedOf}
 
 -- the code of a function, with places as location code has them
 pub record IsCode (f : Code Location) (slots : ℕ) : Type 0 where
@@ -39,20 +42,19 @@ FramesPerform =
     (f : Code Location) (slots : ℕ) → IsCode f slots
     → IsFrameOf f slots (frame_items f slots)
 
--- ---- with ways that need no frame, whichever were chosen
+-- ---- code with marks
 
-abbrev pub WaysAreLabelled : Type 0
-WaysAreLabelled =
-    (f : Code Location) (slots : ℕ) (parts : List Part) (enter : ℕ) → IsCode f slots
-    → longest_size (bare_items f slots parts enter) ≤ price f
+abbrev pub MarkedAreLabelled : Type 0
+MarkedAreLabelled =
+    (f : Code Location) (slots : ℕ) (marks : List Mark) → IsMarked f slots marks
+    → longest_size (marked_code f slots marks) < 2 ^ 28
     → IsLabelled
-    (record {
-      items = bare_items f slots parts enter;
-      labels = bare_labels (length f.blocks);
-    })
+    (record { items = marked_code f slots marks; labels = length f.blocks + 3 })
 
-abbrev pub WaysPerform : Type 0
-WaysPerform =
-    (f : Code Location) (slots : ℕ) (parts : List Part) (enter : ℕ) → IsCode f slots
-    → IsTrue (are_ways f parts enter)
-    → IsFrameOf f slots (bare_items f slots parts enter)
+-- what was made of f performs what f runs, in a frame as large
+abbrev pub MarkedPerform : Type 0
+MarkedPerform =
+    (f : Code Location) (slots : ℕ) (g : Code Location) (marks : List Mark) → IsCode f slots
+    → IsMarkedOf f slots g marks
+    → frame_size g slots ≡ frame_size f slots
+    → IsFrameOf f slots (marked_code g slots marks)

@@ -1,45 +1,21 @@
 -- Where things stand in a function's frame. Upward from the stack pointer: arguments of calls past
 -- the eighth, saved registers, slots, and the area for blocks of memory, up to the stack pointer of
 -- the caller.
-use Rattle.std.specs.Prelude.{ℕ, ◌+◌, ◌-◌, ◌*◌, Bool, true, false, ◌||◌, nat_eq, nat_le, if◌then◌else◌, List, [], ◌∷◌, ◌++◌, length, Option, Some, None}
+use Rattle.std.specs.Prelude.{ℕ, ◌+◌, ◌-◌, ◌*◌, Bool, true, false, ◌||◌, nat_le, if◌then◌else◌, List, [], ◌∷◌, ◌++◌, length}
 use Rattle.std.specs.List.{list_any, sum_by}
-use Rattle.rv_isa.specs.declared.abi.TheConstants.{RETURN_ADDRESS, SAVED}
+use Rattle.rv_isa.specs.declared.abi.TheConstants.{RETURN_ADDRESS}
 use Rattle.il_ast.specs.Cost.{round_16}
 use Rattle.vcode.specs.declared.place.Location.{Location}
-use Rattle.vcode.specs.declared.place.Location.TheVariants.{Register, Slot}
 use Rattle.vcode.specs.declared.place.Destination.{Destination}
 use Rattle.vcode.specs.declared.line.Line.{Line}
-use Rattle.vcode.specs.declared.line.Line.TheVariants.{Set, Operate, Load, Alloc, Call}
+use Rattle.vcode.specs.declared.line.Line.TheVariants.{Call}
 use Rattle.vcode.specs.declared.code.Block.{Block}
 use Rattle.vcode.specs.declared.code.Code.{Code}
 pub use Rattle.vcode.specs.Outgoing.{args_on_stack, most_in_lines, most_in_blocks, outgoing, frame_bound}
+pub use Rattle.frame_ways.specs.Written.{is_register, writes, callee_saved}
 use Rattle.vcode.specs.Regular.{area, turns_of}
 use Rattle.abi_frames.specs.declared.layout.Layout.{Layout}
 use Rattle.abi_frames.specs.declared.pace.TheConstants.{TURN_BOUND}
-
--- a place that is the register of this number
-abbrev pub is_register : (number : ℕ) → Location → Bool
-is_register n (Register r) = nat_eq n r
-is_register n (Slot i) = false
-
--- the result of a call goes to this register
-abbrev pub receives : (number : ℕ) → Option (Destination Location) → Bool
-receives n None = false
-receives n (Some d) = is_register n d.place
-
--- a pointer to a block that is made goes to this register
-abbrev pub makes_in : (number : ℕ) → Option Location → Bool
-makes_in n None = false
-makes_in n (Some p) = is_register n p
-
--- a line whose destination is this register
-abbrev pub writes : (number : ℕ) → Line Location → Bool
-writes n (Set to a) = is_register n to
-writes n (Operate to op a b) = is_register n to
-writes n (Load to op at) = is_register n to
-writes n (Alloc to size) = makes_in n to
-writes n (Call to callee args) = receives n to
-writes n l = false
 
 abbrev pub block_writes : (number : ℕ) → Block Location → Bool
 block_writes n b = list_any (writes n) b.lines
@@ -54,10 +30,6 @@ is_written f n =
 abbrev pub written_of : Code Location → List ℕ → List ℕ
 written_of f [] = []
 written_of f (r ∷ rs) = if is_written f r then r ∷ written_of f rs else written_of f rs
-
--- the registers that a function keeps for its caller and may write: x8, x9, x18 to x27
-abbrev pub callee_saved : List ℕ
-callee_saved = SAVED
 
 abbrev pub is_call : Line Location → Bool
 is_call (Call to callee args) = true

@@ -9,5 +9,5 @@ pub mod Laws
 pub mod Examples
 pub mod Frames
 pub mod EarlyReturns
-pub mod BareWays
+pub mod Parts
 pub mod Marked

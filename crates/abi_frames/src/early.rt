@@ -10,9 +10,10 @@ ghost use Rattle.abi_frames.specs.EarlyReturns.{argument_register, origin, opera
 use crate::ends::push_way_back;
 use crate::jump::{push_branch, push_result};
 use crate::layout::Layout;
+use crate::marks::bare_layout;
 use crate::pace::EARLY_TURNS;
 use crate::turns::lines_turns;
-use crate::ways::bare_layout;
+use frame_ways::bare::is_bare;
 use rv_isa::abi;
 use rv_isa::labelled::Item;
 use std::alloc::AllocError;
@@ -183,18 +184,6 @@ fn all_spare(operand: &Operand<Location>, lines: &[Line<Location>]) -> bool
         }
     }
     true
-}
-
-/// Registers that places may be, numbers and names.
-pub(crate) fn is_bare(operand: &Operand<Location>) -> bool
-    ensures { result ≡ is_bare operand.now }
-{
-    match operand {
-        Operand::At(Location::Register(number)) => abi::FIRST_TEMPORARY <= *number
-            && *number <= abi::LAST_SAVED,
-        Operand::At(Location::Slot(_)) => false,
-        Operand::Number(_) | Operand::Name(_) => true,
-    }
 }
 
 fn is_short(operand: &Operand<Location>) -> bool

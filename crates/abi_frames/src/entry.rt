@@ -8,7 +8,7 @@ ghost use Rattle.abi_frames.specs.Emission.{passed_items};
 use crate::call::push_passed;
 use crate::layout::Layout;
 use crate::operand::push_into_slot;
-use crate::saved::is_register;
+use frame_ways::bare::is_register;
 use il_ast::operation::Class;
 use operation_code::constant::push_constant;
 use operation_code::fields::{add, add_immediate, load};

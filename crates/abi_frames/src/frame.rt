@@ -1,36 +1,41 @@
 //! Functions with their frames.
 ghost use Rattle.il_ast.specs.declared.limits.TheConstants.{ALLOC_BYTES};
-ghost use Rattle.std.specs.Prelude.{◌≡◌, ◌+◌, ◌*◌, ◌^◌, ◌<◌, ◌≤◌, IsTrue, [], ◌∷◌, ◌++◌, false, true, length, OnOk, IfOk, IfSome};
+ghost use Rattle.std.specs.Prelude.{◌≡◌, ◌+◌, ◌*◌, ◌^◌, ◌<◌, ◌≤◌, IsTrue, [], ◌∷◌, ◌++◌, None, false, true, length, nat_le, OnOk, IfOk, IfSome};
 ghost use Rattle.rv_isa.specs.Labels.{longest_size};
 ghost use Rattle.std.specs.List.{list_all, sum_by};
-ghost use Rattle.vcode.specs.Regular.{area, alloc_bytes, passes_few, code_weight};
-ghost use Rattle.abi_frames.specs.Layout.{layout, saved_registers, frame_bound};
+ghost use Rattle.vcode.specs.Regular.{area, alloc_bytes, turns_of, passes_few, code_weight};
+ghost use Rattle.abi_frames.specs.Layout.{layout, outgoing, saved_registers, frame_size, frame_bound};
 ghost use Rattle.abi_frames.specs.Emission.{left_behind, lines_items, jump_items, epilogue, block_items, blocks_items};
 ghost use Rattle.abi_frames.specs.Functions.{function_items};
-ghost use Rattle.abi_frames.specs.EarlyReturns.{test_items, quick_items, early_items, items_by};
+ghost use Rattle.abi_frames.specs.EarlyReturns.{test_items, quick_items, early_items, items_by, early_by};
 ghost use Rattle.rv_isa.specs.declared.labelled.Item.TheVariants.{Label};
-ghost use Rattle.abi_frames.specs.BareWays.{are_ways, bare_items, bare_labels};
+ghost use Rattle.vcode.specs.declared.limits.TheConstants.{PLACES};
+ghost use Rattle.abi_frames.specs.declared.pace.TheConstants.{TURN_BOUND};
+ghost use Rattle.abi_frames.specs.Parts.{marked_code};
+ghost use Rattle.frame_ways.specs.Marks.{IsMarked};
+ghost use Rattle.frame_ways.specs.Keeping.{IsMarkedOf};
 ghost use Rattle.abi_frames.specs.Frames.{IsFrameOf};
 
-use crate::choice::{Ways, choose};
 use crate::early::{EarlyReturn, early_return, push_quick, push_test};
 use crate::ends::{push_epilogue, push_prologue};
 use crate::entry::push_entry;
 use crate::jump::push_jump;
 use crate::layout::Layout;
 use crate::line::push_lines;
+use crate::marks::push_marked;
 use crate::price::{is_within, price};
 use crate::room::{area_of, outgoing_of};
 use crate::saved::saved_registers;
 use crate::turns::falls_through;
-use crate::ways::{are_ways, push_ways};
 use flat_code::function::FlatFunc;
+use frame_ways::mark::Marked;
+use frame_ways::ways::ways;
 use rv_isa::labelled::{Item, LabelledCode};
 use std::alloc::{AllocError, Global};
-use vcode::code::Block;
+use vcode::code::{Block, Code};
 use vcode::place::{Destination, Location};
 
-fn push_body(
+pub(crate) fn push_body(
     items: &mut Vec<Item>,
     layout: &Layout,
     saved: &[u8],
@@ -53,7 +58,7 @@ fn push_body(
     )
 }
 
-pub(crate) fn push_block(
+fn push_block(
     items: &mut Vec<Item>,
     layout: &Layout,
     saved: &[u8],
@@ -87,11 +92,7 @@ fn push_blocks(
     Ok(())
 }
 
-pub(crate) fn push_end(
-    items: &mut Vec<Item>,
-    layout: &Layout,
-    saved: &[u8],
-) -> Result<(), AllocError>
+fn push_end(items: &mut Vec<Item>, layout: &Layout, saved: &[u8]) -> Result<(), AllocError>
     requires few { length saved.now ≤ 13 }
     ensures { OnOk result (items.new.items ≡ items.old.items ++ (Label layout.now.leave ∷ epilogue layout.now saved.now)) }
 {
@@ -191,24 +192,27 @@ fn push_frame(
     }
 }
 
-#[tactic(auto, using(crate::proofs::Outgoing::few_outgoing, crate::proofs::Saving::few_saved_registers))]
-fn layout_of(function: &FlatFunc, saved: &[u8]) -> Layout
-    requires { saved.now ≡ saved_registers function.now.located.code }
-    ensures value { result ≡ layout function.now.located.code function.now.located.slots }
+#[tactic(auto, using(crate::proofs::Saving::few_saved_registers))]
+fn layout_of(code: &Code<Location>, slots: u32, saved: &[u8]) -> Layout
+    requires registers { saved.now ≡ saved_registers code.now }
+    requires places { slots < PLACES }
+    requires few { outgoing code.now ≤ 56 }
+    requires small { area code.now ≤ ALLOC_BYTES }
+    requires paced { IsTrue (list_all (λ b. nat_le (sum_by turns_of b.lines) TURN_BOUND) code.now.blocks) }
+    ensures value { result ≡ layout code.now slots }
 {
-    let code = &function.located.code;
     let area = area_of(code);
     let outgoing = outgoing_of(code);
     let below = outgoing + saved.len() as u64;
-    let words = u64::from(function.located.slots) + below;
+    let words = u64::from(slots) + below;
     let size = (area + 8 * words + 15) / 16 * 16;
     Layout {
         saves: (8 * outgoing) as u16,
         slots: (8 * below) as u16,
         area: (size - area) as u32,
         size,
-        result: function.located.code.result,
-        leave: function.located.code.blocks.len(),
+        result: code.result,
+        leave: code.blocks.len(),
         falls: falls_through(code),
     }
 }
@@ -249,110 +253,131 @@ fn frame_items(
 }
 
 /// The code of a function that begins its frame at once, or returns early on one way.
-fn usual_frame(alloc: Global, function: &FlatFunc) -> Result<LabelledCode, AllocError>
-    ensures promise { IfOk result (λ c. IsFrameOf function.now.located.code function.now.located.slots c.items) }
-    ensures size { IfOk result (λ c. longest_size c.items ≤ 32 * code_weight function.now.located.code + 256) }
-{
-    let saved = saved_registers(alloc, &function.located.code)?;
-    let layout = layout_of(function, saved.as_slice());
-    let early = early_return(&function.located.code, layout.size);
-    let blocks = function.located.code.blocks.as_slice();
-    let items = frame_items(alloc, function, saved.as_slice(), &layout, &early)?;
-    Ok(LabelledCode::new(items, blocks.len() + 3))
-}
-
-/// The code with ways that need no frame.
-fn bare_items(
+fn usual_frame(
     alloc: Global,
     function: &FlatFunc,
     saved: &[u8],
     shared: &Layout,
-    ways: &Ways,
-) -> Result<Vec<Item>, AllocError>
+    early: &Option<EarlyReturn>,
+) -> Result<LabelledCode, AllocError>
     requires registers { saved.now ≡ saved_registers function.now.located.code }
     requires plan { shared.now ≡ layout function.now.located.code function.now.located.slots }
-    requires small { length function.now.located.code.blocks + 1 < 2 ^ 62 }
-    ensures { IfOk result (λ v. v.items ≡ bare_items function.now.located.code function.now.located.slots ways.now.parts.items ways.now.enter) }
+    requires early { early.now ≡ early_by function.now.located.code shared.now.size }
+    ensures promise { IfOk result (λ c. IsFrameOf function.now.located.code function.now.located.slots c.items) }
+    ensures size { IfOk result (λ c. longest_size c.items ≤ 32 * code_weight function.now.located.code + 256) }
+{
+    let blocks = function.located.code.blocks.as_slice();
+    let items = frame_items(alloc, function, saved, shared, early)?;
+    Ok(LabelledCode::new(items, blocks.len() + 3))
+}
+
+/// The code of code with marks.
+fn marked_items(
+    alloc: Global,
+    slots: u32,
+    marked: &Marked,
+    saved: &[u8],
+    shared: &Layout,
+) -> Result<Vec<Item>, AllocError>
+    requires is { IsMarked marked.now.code slots marked.now.marks.items }
+    requires registers { saved.now ≡ saved_registers marked.now.code }
+    requires plan { shared.now ≡ layout marked.now.code slots }
+    requires small { length marked.now.code.blocks < 2 ^ 63 }
+    ensures { IfOk result (λ v. v.items ≡ marked_code marked.now.code slots marked.now.marks.items) }
 {
     let mut items = Vec::new(alloc);
-    push_ways(
+    push_marked(
         &mut items,
         shared,
         saved,
-        function.located.code.params.as_slice(),
-        function.located.code.blocks.as_slice(),
-        ways.parts.as_slice(),
-        ways.enter,
+        marked.code.params.as_slice(),
+        marked.marks.as_slice(),
+        marked.code.blocks.as_slice(),
     )?;
     Ok(items)
 }
 
-/// How many labels the code has with ways that need no frame.
-fn bare_labels(blocks: usize) -> usize
-    requires { blocks < 2 ^ 62 }
-    ensures { result ≡ bare_labels blocks }
-{
-    2 * blocks + 2
-}
-
-/// The code with these ways, if it is within the price.
-fn bare_within(
+/// The code of what was made of a function, if it is within the function's price.
+fn marked_within(
     alloc: Global,
     function: &FlatFunc,
+    marked: &Marked,
     saved: &[u8],
     shared: &Layout,
-    ways: &Ways,
 ) -> Result<Option<LabelledCode>, AllocError>
-    requires registers { saved.now ≡ saved_registers function.now.located.code }
-    requires plan { shared.now ≡ layout function.now.located.code function.now.located.slots }
-    requires right { IsTrue (are_ways function.now.located.code ways.now.parts.items ways.now.enter) }
+    requires made { IsMarkedOf function.now.located.code function.now.located.slots marked.now.code marked.now.marks.items }
+    requires registers { saved.now ≡ saved_registers marked.now.code }
+    requires plan { shared.now ≡ layout marked.now.code function.now.located.slots }
+    requires same { frame_size marked.now.code function.now.located.slots ≡ frame_size function.now.located.code function.now.located.slots }
     ensures promise { IfOk result (λ o. IfSome o (λ c. IsFrameOf function.now.located.code function.now.located.slots c.items)) }
     ensures size { IfOk result (λ o. IfSome o (λ c. longest_size c.items ≤ 32 * code_weight function.now.located.code + 256)) }
 {
-    let blocks = function.located.code.blocks.as_slice();
-    let items = bare_items(alloc, function, saved, shared, ways)?;
+    let blocks = marked.code.blocks.as_slice();
+    let items = marked_items(alloc, function.located.slots, marked, saved, shared)?;
     let most = price(&function.located.code);
     if is_within(items.as_slice(), most) {
-        Ok(Some(LabelledCode::new(items, bare_labels(blocks.len()))))
+        Ok(Some(LabelledCode::new(items, blocks.len() + 3)))
     } else {
         Ok(None)
     }
 }
 
-/// The code with the ways that were chosen, if they are right and the code is within the price.
-fn bare_by(
+/// The code of what was made of a function whose frame has this size, if its own is as large and it is within the price.
+fn marked_by(
+    alloc: Global,
+    function: &FlatFunc,
+    size: u64,
+    marked: &Marked,
+) -> Result<Option<LabelledCode>, AllocError>
+    requires made { IsMarkedOf function.now.located.code function.now.located.slots marked.now.code marked.now.marks.items }
+    requires own { size ≡ frame_size function.now.located.code function.now.located.slots }
+    ensures promise { IfOk result (λ o. IfSome o (λ c. IsFrameOf function.now.located.code function.now.located.slots c.items)) }
+    ensures size { IfOk result (λ o. IfSome o (λ c. longest_size c.items ≤ 32 * code_weight function.now.located.code + 256)) }
+{
+    let saved = saved_registers(alloc, &marked.code)?;
+    let shared = layout_of(&marked.code, function.located.slots, saved.as_slice());
+    if shared.size == size {
+        marked_within(alloc, function, marked, saved.as_slice(), &shared)
+    } else {
+        Ok(None)
+    }
+}
+
+/// The code of a function with ways that need no frame, if it has some, and a frame on others.
+fn marked_frame(
+    alloc: Global,
+    function: &FlatFunc,
+    size: u64,
+) -> Result<Option<LabelledCode>, AllocError>
+    requires own { size ≡ frame_size function.now.located.code function.now.located.slots }
+    ensures promise { IfOk result (λ o. IfSome o (λ c. IsFrameOf function.now.located.code function.now.located.slots c.items)) }
+    ensures size { IfOk result (λ o. IfSome o (λ c. longest_size c.items ≤ 32 * code_weight function.now.located.code + 256)) }
+{
+    if size == 0 {
+        return Ok(None);
+    }
+    match ways(alloc, function)? {
+        Some(marked) => marked_by(alloc, function, size, &marked),
+        None => Ok(None),
+    }
+}
+
+/// The code of a function without an early return.
+fn late_frame(
     alloc: Global,
     function: &FlatFunc,
     saved: &[u8],
     shared: &Layout,
-    ways: &Ways,
-) -> Result<Option<LabelledCode>, AllocError>
+) -> Result<LabelledCode, AllocError>
     requires registers { saved.now ≡ saved_registers function.now.located.code }
     requires plan { shared.now ≡ layout function.now.located.code function.now.located.slots }
-    ensures promise { IfOk result (λ o. IfSome o (λ c. IsFrameOf function.now.located.code function.now.located.slots c.items)) }
-    ensures size { IfOk result (λ o. IfSome o (λ c. longest_size c.items ≤ 32 * code_weight function.now.located.code + 256)) }
+    requires late { None ≡ early_by function.now.located.code shared.now.size }
+    ensures promise { IfOk result (λ c. IsFrameOf function.now.located.code function.now.located.slots c.items) }
+    ensures size { IfOk result (λ c. longest_size c.items ≤ 32 * code_weight function.now.located.code + 256) }
 {
-    if are_ways(&function.located.code, ways.parts.as_slice(), ways.enter) {
-        bare_within(alloc, function, saved, shared, ways)
-    } else {
-        Ok(None)
-    }
-}
-
-/// The code of a function with ways that need no frame, if it has some, a frame on others, and no early return.
-fn bare_frame(alloc: Global, function: &FlatFunc) -> Result<Option<LabelledCode>, AllocError>
-    ensures promise { IfOk result (λ o. IfSome o (λ c. IsFrameOf function.now.located.code function.now.located.slots c.items)) }
-    ensures size { IfOk result (λ o. IfSome o (λ c. longest_size c.items ≤ 32 * code_weight function.now.located.code + 256)) }
-{
-    let code = &function.located.code;
-    let saved = saved_registers(alloc, code)?;
-    let shared = layout_of(function, saved.as_slice());
-    if shared.size == 0 || early_return(code, shared.size).is_some() {
-        return Ok(None);
-    }
-    match choose(alloc, code.blocks.as_slice())? {
-        Some(ways) => bare_by(alloc, function, saved.as_slice(), &shared, &ways),
-        None => Ok(None),
+    match marked_frame(alloc, function, shared.size)? {
+        Some(code) => Ok(code),
+        None => usual_frame(alloc, function, saved, shared, &None),
     }
 }
 
@@ -362,12 +387,17 @@ fn bare_frame(alloc: Global, function: &FlatFunc) -> Result<Option<LabelledCode>
 /// # Errors
 ///
 /// Only where memory was refused.
+#[tactic(auto, using(crate::proofs::Outgoing::few_outgoing))]
 pub fn frame(alloc: Global, function: &FlatFunc) -> Result<LabelledCode, AllocError>
     ensures promise { IfOk result (λ c. IsFrameOf function.now.located.code function.now.located.slots c.items) }
     ensures size { IfOk result (λ c. longest_size c.items ≤ 32 * code_weight function.now.located.code + 256) }
 {
-    match bare_frame(alloc, function)? {
-        Some(code) => Ok(code),
-        None => usual_frame(alloc, function),
+    let code = &function.located.code;
+    let saved = saved_registers(alloc, code)?;
+    let shared = layout_of(code, function.located.slots, saved.as_slice());
+    let early = early_return(code, shared.size);
+    match early {
+        Some(_) => usual_frame(alloc, function, saved.as_slice(), &shared, &early),
+        None => late_frame(alloc, function, saved.as_slice(), &shared),
     }
 }

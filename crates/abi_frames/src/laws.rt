@@ -1,6 +1,6 @@
 //! What is proved of the code of frames, each as the contract of a function that does nothing.
 ghost use Rattle.abi_frames.specs.Examples.{Examples};
-ghost use Rattle.abi_frames.specs.Laws.{FramesAreLabelled, FramesAreSmall, FramesPerform, WaysAreLabelled, WaysPerform};
+ghost use Rattle.abi_frames.specs.Laws.{FramesAreLabelled, FramesAreSmall, FramesPerform, MarkedAreLabelled, MarkedPerform};
 
 /// The labelled code of a function has at most 32 words for each unit of its weight, and 256.
 pub fn frames_are_small()
@@ -17,14 +17,14 @@ pub fn frames_are_labelled()
     ensures { FramesAreLabelled }
 {}
 
-/// Labelled code with ways that need no frame performs what the code on bytes runs too.
-pub fn ways_perform()
-    ensures { WaysPerform }
+/// Labelled code with marks performs what the function's code on bytes runs.
+pub fn marked_perform()
+    ensures { MarkedPerform }
 {}
 
-/// Such code keeps the invariants of labelled code, where it is within the price.
-pub fn ways_are_labelled()
-    ensures { WaysAreLabelled }
+/// Such code keeps the invariants of labelled code, where it is short enough.
+pub fn marked_are_labelled()
+    ensures { MarkedAreLabelled }
 {}
 
 /// The premises of these laws hold of small functions.

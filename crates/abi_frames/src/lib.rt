@@ -16,10 +16,9 @@
 //! Where the first block does nothing but test what was passed, and copy, and one of its ways does nothing but return, that way needs no frame (`early`,
 //! `specs/EarlyReturns.antt`): the test stands once more before the frame's begin and reads registers of arguments, and the early return behind the frame's end.
 //!
-//! Where ways through a function need no frame, they have none (`ways`, `specs/BareWays.antt`). Blocks that touch no slot, write no register that a callee keeps, and
-//! make no call and no block of memory (`bare`) are copied in front of the frame's begin, as far as such blocks alone lead to them from the first; where a copy leads
-//! to another block, the frame begins for that. Nothing leads back in front: of blocks that nothing leads to behind the begin only the label is left there. Which
-//! blocks are copied is a guess (`choice`), which is tested, and whether the code is then within its price is found by making it.
+//! Where ways through a function need no frame, its code is made of parts with marks (crate `frame_ways`), and machine code of those (`marks`, `specs/Parts.antt`): bare parts
+//! have no frame and return where they stand, and where one leads to a framed part the frame begins. Whether the code is then within its price is found by
+//! making it.
 //!
 //! What the code owes is `FramePromise` (`specs/Promise.antt`): in every world and wherever it stands, from every state that is ready for the call
 //! (`specs/Calls.antt`, by the integer calling convention of the RISC-V ELF psABI), the machine performs what the code on bytes runs (`specs/Performs.antt`), in
@@ -35,9 +34,7 @@
 //! arguments come to the places of their parameters in the same way (`specs/Functions.antt`).
 #![tactic(auto)]
 
-mod bare;
 mod call;
-mod choice;
 mod copy;
 mod early;
 mod ends;
@@ -47,6 +44,7 @@ mod jump;
 pub mod laws;
 pub mod layout;
 mod line;
+mod marks;
 mod moves;
 mod operand;
 pub mod pace;
@@ -54,4 +52,3 @@ mod price;
 mod room;
 mod saved;
 mod turns;
-mod ways;

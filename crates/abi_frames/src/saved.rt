@@ -1,7 +1,7 @@
 //! Which registers a function saves.
 ghost use Rattle.std.specs.Prelude.{◌≡◌, ◌++◌, ◌<◌, ◌≤◌, ◌||◌, ℕ, false, filter, length, OnOk, IfOk};
 ghost use Rattle.std.specs.List.{list_any};
-ghost use Rattle.abi_frames.specs.Layout.{is_register, receives, makes_in, writes, block_writes, is_written, written_of, callee_saved, is_call, block_calls, return_address, saved_registers};
+ghost use Rattle.abi_frames.specs.Layout.{is_register, writes, block_writes, is_written, written_of, callee_saved, is_call, block_calls, return_address, saved_registers};
 ghost use Rattle.abi_frames.specs.Marked.{is_marked};
 
 use rv_isa::abi;
@@ -9,46 +9,6 @@ use std::alloc::{AllocError, Global};
 use vcode::code::{Block, Code};
 use vcode::line::Line;
 use vcode::place::{Destination, Location};
-
-pub(crate) fn is_register(place: &Location, number: u8) -> bool
-    ensures { result ≡ is_register number place.now }
-{
-    match place {
-        Location::Register(register) => number == *register,
-        Location::Slot(_) => false,
-    }
-}
-
-fn receives(to: &Option<Destination<Location>>, number: u8) -> bool
-    ensures { result ≡ receives number to.now }
-{
-    match to {
-        None => false,
-        Some(wanted) => is_register(&wanted.place, number),
-    }
-}
-
-fn makes_in(to: &Option<Location>, number: u8) -> bool
-    ensures { result ≡ makes_in number to.now }
-{
-    match to {
-        None => false,
-        Some(place) => is_register(place, number),
-    }
-}
-
-pub(crate) fn writes(line: &Line<Location>, number: u8) -> bool
-    ensures { result ≡ writes number line.now }
-{
-    match line {
-        Line::Set { to, .. } | Line::Operate { to, .. } | Line::Load { to, .. } => is_register(
-            to, number,
-        ),
-        Line::Alloc { to, .. } => makes_in(to, number),
-        Line::Call { to, .. } => receives(to, number),
-        Line::Tick { .. } | Line::Store { .. } | Line::Blit { .. } => false,
-    }
-}
 
 fn is_call(line: &Line<Location>) -> bool
     ensures { result ≡ is_call line.now }

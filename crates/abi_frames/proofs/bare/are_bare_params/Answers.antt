@@ -1,6 +1,0 @@
-use Rattle.std.proofs.Common.{arith}
-use Rattle.std.proofs.lemmas.Grind.{common_steps}
-use Rattle.abi_frames.proofs.bare.are_bare_params.Goals as goal
-
-pub loop-parameter-preserved : goal.loop-parameter-preserved
-loop-parameter-preserved c = grind (arith, common_steps)

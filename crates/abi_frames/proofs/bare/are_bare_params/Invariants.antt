@@ -1,7 +1,0 @@
-use Rattle.std.proofs.Common.{◌≡◌, drop}
-use Rattle.std.specs.List.{list_all}
-use Rattle.abi_frames.specs.BareWays.{is_bare_place}
-use Rattle.abi_frames.proofs.bare.are_bare_params.Given as goal
-
-abbrev pub invariant-loop-parameter : goal.invariant-loop-parameter
-invariant-loop-parameter l = list_all (λ d. is_bare_place d.place) (drop l.parameter-index l.params) ≡ list_all (λ d. is_bare_place d.place) l.fn.params

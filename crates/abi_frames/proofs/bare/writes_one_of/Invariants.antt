@@ -1,7 +1,0 @@
-use Rattle.std.proofs.Common.{◌≡◌, drop}
-use Rattle.std.specs.List.{list_any}
-use Rattle.abi_frames.specs.Layout.{writes}
-use Rattle.abi_frames.proofs.bare.writes_one_of.Given as goal
-
-abbrev pub invariant-loop-number : goal.invariant-loop-number
-invariant-loop-number l = list_any (λ r. writes r l.line) (drop l.number-index l.registers) ≡ list_any (λ r. writes r l.fn.line) l.fn.registers

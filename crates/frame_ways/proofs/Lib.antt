@@ -1,0 +1,4 @@
+pub mod Parts
+pub mod Suiting
+pub mod Running
+pub mod Keeping

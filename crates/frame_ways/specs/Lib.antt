@@ -1,0 +1,5 @@
+pub mod Written
+pub mod Bare
+pub mod Marks
+pub mod Plans
+pub mod Keeping
