@@ -1,12 +1,13 @@
 -- Load, store and copy, by the places that their pointers point to.
-use Rattle.std.proofs.Common.{◌≡◌, ◌≢◌, ℕ, zero, suc, refl, ap, ◌∙◌}
-use Rattle.std.specs.Prelude.{Some, None}
+use Rattle.std.proofs.Common.{◌≡◌, ◌≢◌, ℕ, zero, suc, Bool, true, false, List, refl, ap, ◌∙◌}
+use Rattle.std.specs.Prelude.{Some, None, MatchBool}
 use Rattle.std.specs.Option.{option_and_then}
 use Rattle.il_ast.specs.declared.value.Value.{Value}
 use Rattle.il_ast.specs.declared.value.Value.TheVariants.{Integer, Pointer, Function}
-use Rattle.il_ast.specs.Memory.{Memory, load, store, copy, cells_at, write_at, cells_for, value_of}
+use Rattle.il_ast.specs.declared.value.Cell.{Cell}
+use Rattle.il_ast.specs.Memory.{Memory, block_at, span, load, store, copy, cells_at, write_at, cells_for, value_of}
 use Rattle.il_mem.specs.declared.memory.Place.{Place}
-use Rattle.il_mem.specs.Places.{place_in, copied_place}
+use Rattle.il_mem.specs.Places.{place_in, copied_place, Gives}
 
 pub load_at : (m : Memory) (n : ℕ) (at : Value) (p : Place) → place_in at ≡ Some p → load m n at ≡ option_and_then value_of (cells_at m p.block p.offset n)
 unfolding load
@@ -20,6 +21,16 @@ unfolding load
 load_nowhere m n (Pointer b o) h = cc
 load_nowhere m n (Integer k) h = refl
 load_nowhere m n (Function f) h = refl
+
+-- a number where a pointer points to
+pub load_here : (m : Memory) (n b o k : ℕ) (cells : List Cell) → block_at m b ≡ Some cells → option_and_then value_of (span o n cells) ≡ Some (Integer k) → load m n (Pointer b o) ≡ Some (Integer k)
+unfolding load
+load_here m n b o k cells e h = ap (λ c. option_and_then value_of (option_and_then (span o n) c)) e ∙ h
+
+pub store_here : (m new : Memory) (n b o k : ℕ) (r : Bool) → Gives (option_and_then (write_at m b o) (cells_for n (Integer k))) m new r → MatchBool r (store m n (Pointer b o) (Integer k) ≡ Some new) (new ≡ m)
+unfolding store
+store_here m new n b o k true g = g.done refl
+store_here m new n b o k false g = g.stays refl
 
 pub store_at : (m : Memory) (n : ℕ) (at v : Value) (p : Place) → place_in at ≡ Some p → store m n at v ≡ option_and_then (write_at m p.block p.offset) (cells_for n v)
 unfolding store

@@ -1,8 +1,6 @@
 -- Reading and changing blocks by number.
 use Rattle.std.proofs.Common.{◌≡◌, ◌≢◌, ℕ, zero, suc, ◌+◌, ◌<◌, ◌≤◌, Bool, true, false, cond, ◌⊎◌, inl, inr, List, [], ◌∷◌, ◌++◌, length, refl, ap, sym, ◌∙◌, arith}
 use Rattle.std.specs.Prelude.{slice_get, slice_set, nat_eq, nat_le, is_some, not, ◌||◌, Option, Some, None}
-use Rattle.std.specs.Ordering.{nat_cmp}
-use Rattle.std.specs.BTreeMap.{get, BTreeMap}
 use Rattle.std.proofs.lemmas.Bool.{cases_eq}
 use Rattle.std.proofs.lemmas.Bool.Decides.{nat_tests}
 use Rattle.std.specs.Option.{option_map, option_and_then, option_flatten}
@@ -100,24 +98,24 @@ same_everywhere f g b here others q = by_cases (cases_eq q b)
     by_cases (inr ne) = others q ne
 
 -- a change of one block among those made, as the memory sees it
-pub gives : (F : List Cell → Option (List Cell)) (old new : BTreeMap ℕ (List Cell)) (n b : ℕ) (r : Bool) (wanted : Option Memory) → Changes F old new b r → wanted ≡ option_map (λ cells. slice_set (blocks (get nat_cmp old) 0 n) b (Some cells)) (option_and_then F (get nat_cmp old b)) → Gives wanted (blocks (get nat_cmp old) 0 n) (blocks (get nat_cmp new) 0 n) r
-gives F old new n b r wanted h e =
+pub gives : (F : List Cell → Option (List Cell)) (f g : ℕ → Option (List Cell)) (n b : ℕ) (r : Bool) (wanted : Option Memory) → Changes F f g b r → wanted ≡ option_map (λ cells. slice_set (blocks f 0 n) b (Some cells)) (option_and_then F (f b)) → Gives wanted (blocks f 0 n) (blocks g 0 n) r
+gives F f g n b r wanted h e =
     record {
-      done = λ t. e ∙ some_is (get nat_cmp old) (get nat_cmp new) n b (option_and_then F (get nat_cmp old b)) (sym t ∙ h.found) (h.done t) h.others;
-      nothing = λ t. e ∙ none_is (λ cells. slice_set (blocks (get nat_cmp old) 0 n) b (Some cells)) (option_and_then F (get nat_cmp old b)) (sym t ∙ h.found);
-      stays = λ t. blocks-same (get nat_cmp old) (get nat_cmp new) 0 n (λ q low high. same_everywhere (get nat_cmp old) (get nat_cmp new) b (h.stays t) h.others q);
+      done = λ t. e ∙ some_is f g n b (option_and_then F (f b)) (sym t ∙ h.found) (h.done t) h.others;
+      nothing = λ t. e ∙ none_is (λ cells. slice_set (blocks f 0 n) b (Some cells)) (option_and_then F (f b)) (sym t ∙ h.found);
+      stays = λ t. blocks-same f g 0 n (λ q low high. same_everywhere f g b (h.stays t) h.others q);
     }
 
--- cells put into one of the blocks made, and into another one
+-- cells put into one of the blocks made
 pub put_made : (f : ℕ → Option (List Cell)) (n b o : ℕ) (xs : Option (List Cell)) → b < n → option_and_then (write_at (blocks f 0 n) b o) xs ≡ option_map (λ cells. slice_set (blocks f 0 n) b (Some cells)) (option_and_then (cells_put o xs) (f b))
 put_made f n b o xs lt =
     put_as (blocks f 0 n) b o xs
     ∙ ap (λ c. option_map (λ cells. slice_set (blocks f 0 n) b (Some cells)) (option_and_then (cells_put o xs) c)) (block_at-blocks f n b lt)
 
-pub put_past : (f : ℕ → Option (List Cell)) (n b o : ℕ) (xs : Option (List Cell)) → n ≤ b → option_and_then (write_at (blocks f 0 n) b o) xs ≡ None
-put_past f n b o xs le =
-    put_as (blocks f 0 n) b o xs
-    ∙ ap (λ c. option_map (λ cells. slice_set (blocks f 0 n) b (Some cells)) (option_and_then (cells_put o xs) c)) (block_at-past f n b le)
+-- and into none
+pub put_none : (m : Memory) (b o : ℕ) (xs : Option (List Cell)) → block_at m b ≡ None → option_and_then (write_at m b o) xs ≡ None
+put_none m b o xs e =
+    put_as m b o xs ∙ ap (λ c. option_map (λ cells. slice_set m b (Some cells)) (option_and_then (cells_put o xs) c)) e
 
 pub gives_nothing : (wanted : Option Memory) (m : Memory) → wanted ≡ None → Gives wanted m m false
 gives_nothing wanted m e = record { done = λ h. absurd (false_true h); nothing = λ _. e; stays = λ _. refl }
@@ -127,22 +125,19 @@ gives_nothing wanted m e = record { done = λ h. absurd (false_true h); nothing 
 
 -- ---- copies
 
-pub cells_made : (f : ℕ → Option (List Cell)) (n a o k : ℕ) → a < n → cells_at (blocks f 0 n) a o k ≡ option_and_then (span o k) (f a)
+cells_made : (f : ℕ → Option (List Cell)) (n a o k : ℕ) → a < n → cells_at (blocks f 0 n) a o k ≡ option_and_then (span o k) (f a)
 cells_made f n a o k lt = ap (option_and_then (span o k)) (block_at-blocks f n a lt)
-
-pub cells_past : (f : ℕ → Option (List Cell)) (n a o k : ℕ) → n ≤ a → cells_at (blocks f 0 n) a o k ≡ None
-cells_past f n a o k le = ap (option_and_then (span o k)) (block_at-past f n a le)
 
 cond_nothing : (t : Bool) (w : Option Memory) → w ≡ None → cond t w None ≡ None
 cond_nothing true w e = e
 cond_nothing false w e = refl
 
-pub copy_from_past : (f : ℕ → Option (List Cell)) (n a o b q k : ℕ) → n ≤ a → copied_place (blocks f 0 n) k a o b q ≡ None
-copy_from_past f n a o b q k le =
-    cond_nothing (apart_or_same k a o b q) _ (ap (option_and_then (write_at (blocks f 0 n) b q)) (cells_past f n a o k le))
+pub copy_from_none : (m : Memory) (a o b q k : ℕ) → block_at m a ≡ None → copied_place m k a o b q ≡ None
+copy_from_none m a o b q k e =
+    cond_nothing (apart_or_same k a o b q) _ (ap (λ c. option_and_then (write_at m b q) (option_and_then (span o k) c)) e)
 
-pub copy_to_past : (f : ℕ → Option (List Cell)) (n a o b q k : ℕ) → n ≤ b → copied_place (blocks f 0 n) k a o b q ≡ None
-copy_to_past f n a o b q k le = cond_nothing (apart_or_same k a o b q) _ (put_past f n b q (cells_at (blocks f 0 n) a o k) le)
+pub copy_to_none : (m : Memory) (a o b q k : ℕ) → block_at m b ≡ None → copied_place m k a o b q ≡ None
+copy_to_none m a o b q k e = cond_nothing (apart_or_same k a o b q) _ (put_none m b q (cells_at m a o k) e)
 
 -- between two blocks
 pub copy_across_is : (f : ℕ → Option (List Cell)) (n a o b q k : ℕ) → a < n → b < n → a ≢ b → copied_place (blocks f 0 n) k a o b q ≡ option_map (λ cells. slice_set (blocks f 0 n) b (Some cells)) (option_and_then (cells_put q (option_and_then (span o k) (f a))) (f b))
@@ -170,11 +165,6 @@ copy_within_is f n a o b q k lb e =
     ∙ within_is (λ cells. slice_set (blocks f 0 n) b (Some cells)) o q k (nat_eq o q || (nat_le (o + k) q || nat_le (q + k) o)) (f b)))
 
 -- ---- blocks made and dead
-
-pub free_past : (f : ℕ → Option (List Cell)) (b n k : ℕ) (w : Option (List Cell)) → n ≤ k → slice_set (blocks f b n) k w ≡ blocks f b n
-free_past f b zero k w le = refl
-free_past f b (suc n) zero w le = absurd (omega arith)
-free_past f b (suc n) (suc k) w le = ap (λ xs. f b ∷ xs) (free_past f (b + 1) n k w (omega arith))
 
 pub fresh_made : (f g : ℕ → Option (List Cell)) (n : ℕ) (cells : List Cell) → g n ≡ Some cells → ((q : ℕ) → q ≢ n → g q ≡ f q) → blocks g 0 (n + 1) ≡ blocks f 0 n ++ Some cells ∷ []
 fresh_made f g n cells h others =

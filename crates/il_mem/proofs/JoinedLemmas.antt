@@ -20,12 +20,12 @@ joined-blank zero values = refl
 joined-blank (suc n) [] = ap (λ cells. BlankCell ∷ cells) (joined-blank n [])
 joined-blank (suc n) (v ∷ values) = ap (λ cells. BlankCell ∷ cells) (joined-blank n values)
 
-pub get-joined : (marks : List Mark) (values : List Value) (at : ℕ) (m : Mark) (v : Value) → at < length marks → m ≡ get_or marks at m → v ≡ get_or values at (Integer 0) → slice_get (joined marks values) at ≡ Some (cell_of m v)
-get-joined [] values at m v lt h k = absurd (omega arith)
-get-joined (n ∷ marks) [] zero m v lt h k = ap (λ x. Some (cell_of x (Integer 0))) (sym h) ∙ ap (λ w. Some (cell_of m w)) (sym k)
-get-joined (n ∷ marks) (w ∷ values) zero m v lt h k = ap (λ x. Some (cell_of x w)) (sym h) ∙ ap (λ u. Some (cell_of m u)) (sym k)
-get-joined (n ∷ marks) [] (suc at) m v lt h k = get-joined marks [] at m v (omega arith) h k
-get-joined (n ∷ marks) (w ∷ values) (suc at) m v lt h k = get-joined marks values at m v (omega arith) h k
+pub get-joined : (marks : List Mark) (values : List Value) (at : ℕ) (d m : Mark) (v : Value) → at < length marks → get_or marks at d ≡ m → v ≡ get_or values at (Integer 0) → slice_get (joined marks values) at ≡ Some (cell_of m v)
+get-joined [] values at d m v lt h k = absurd (omega arith)
+get-joined (n ∷ marks) [] zero d m v lt h k = ap (λ x. Some (cell_of x (Integer 0))) h ∙ ap (λ w. Some (cell_of m w)) (sym k)
+get-joined (n ∷ marks) (w ∷ values) zero d m v lt h k = ap (λ x. Some (cell_of x w)) h ∙ ap (λ u. Some (cell_of m u)) (sym k)
+get-joined (n ∷ marks) [] (suc at) d m v lt h k = get-joined marks [] at d m v (omega arith) h k
+get-joined (n ∷ marks) (w ∷ values) (suc at) d m v lt h k = get-joined marks values at d m v (omega arith) h k
 
 -- a mark with no value
 pub joined-set_mark : (marks : List Mark) (values : List Value) (at : ℕ) (m : Mark) (c : Cell) → ((v : Value) → cell_of m v ≡ c) → joined (slice_set marks at m) values ≡ slice_set (joined marks values) at c
@@ -49,18 +49,7 @@ ShowsSame-push values [] = refl
 ShowsSame-push [] (m ∷ marks) = refl
 ShowsSame-push (v ∷ values) (m ∷ marks) = ap (λ cells. cell_of m v ∷ cells) (ShowsSame-push values marks)
 
--- the same of a list that is known to be the cells
-pub shown : (marks : List Mark) (values : List Value) (cells : List Cell) (at : ℕ) (m : Mark) (v : Value) → joined marks values ≡ cells → at < length cells → m ≡ get_or marks at m → v ≡ get_or values at (Integer 0) → slice_get cells at ≡ Some (cell_of m v)
-shown marks values cells at m v e lt h k =
-    let long : length cells ≡ length marks = ap length (sym e) ∙ length-joined marks values in
-    ap (λ xs. slice_get xs at) (sym e) ∙ get-joined marks values at m v (omega arith) h k
-
 -- ---- writing
-
-pub long_enough : (marks : List Mark) (values : List Value) (cells : List Cell) (at : ℕ) → joined marks values ≡ cells → at < length cells → at < length marks
-long_enough marks values cells at e lt =
-    let long : length cells ≡ length marks = ap length (sym e) ∙ length-joined marks values in
-    omega arith
 
 pub shown_mark : (marks : List Mark) (values : List Value) (cells : List Cell) (at : ℕ) (m : Mark) (c d : Cell) → joined marks values ≡ cells → d ≡ c → ((v : Value) → cell_of m v ≡ c) → joined (slice_set marks at m) values ≡ slice_set cells at d
 shown_mark marks values cells at m c d e same h =

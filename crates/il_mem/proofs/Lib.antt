@@ -1,7 +1,9 @@
 pub mod JoinedLemmas
 pub mod Spans
+pub mod OverlaidLemmas
 pub mod Reading
 pub mod Writing
 pub mod Putting
 pub mod BlocksLemmas
+pub mod FoundLemmas
 pub mod Accesses

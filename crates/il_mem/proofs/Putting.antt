@@ -45,6 +45,11 @@ integer_inside o n k (Integer j) cells e h =
 integer_inside o n k (Pointer b p) cells e h = cc
 integer_inside o n k (Function f) cells e h = cc
 
+pub integer_is : (v : Value) (k : ℕ) → integer_in v ≡ Some k → v ≡ Integer k
+integer_is (Integer j) k e = let same : j ≡ k = cc in ap (λ (i : ℕ). Integer i) same
+integer_is (Pointer b p) k e = cc
+integer_is (Function f) k e = cc
+
 eight : (n : ℕ) → n ≡ 8 → nat_eq n 8 ≡ true
 eight n e = ap (λ m. nat_eq m 8) e
 
@@ -80,7 +85,7 @@ value_outside o n (Function f) cells h = parts_outside o n (parts (Function f)) 
 
 -- ---- copies
 
-span_inside : (o n : ℕ) (cells : List Cell) → o + n ≤ length cells → span o n cells ≡ Some (take n (drop o cells))
+pub span_inside : (o n : ℕ) (cells : List Cell) → o + n ≤ length cells → span o n cells ≡ Some (take n (drop o cells))
 span_inside o n cells h = ap (λ b. cond b (Some (take n (drop o cells))) None) (le-leb (o + n) (length cells) h)
 
 span_outside : (o n : ℕ) (cells : List Cell) → length cells < o + n → span o n cells ≡ None

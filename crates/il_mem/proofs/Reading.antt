@@ -2,7 +2,7 @@
 use Rattle.std.proofs.Common.{◌≡◌, ℕ, zero, suc, ◌+◌, ◌*◌, ◌^◌, ◌<◌, ◌≤◌, Bool, true, false, List, [], ◌∷◌, ◌++◌, length, get_or, take, drop, append_assoc, refl, ap, sym, subst, ◌∙◌, arith, cond}
 use Rattle.std.proofs.Math.Nat.{pow-suc, pow-le-pow_right}
 use Rattle.std.proofs.lemmas.List.{append-nil}
-use Rattle.std.specs.Prelude.{slice_get, nat_eq, ◌&&◌, Option, Some, None}
+use Rattle.std.specs.Prelude.{slice_get, nat_eq, ◌&&◌, Option, Some, None, IfSome}
 use Rattle.std.specs.Option.{option_map, option_and_then}
 use Rattle.std.proofs.lemmas.Option.{slice_get-get_or}
 use Rattle.il_ast.specs.declared.value.Value.{Value}
@@ -10,9 +10,10 @@ use Rattle.il_ast.specs.declared.value.Value.TheVariants.{Integer}
 use Rattle.il_ast.specs.declared.value.Cell.{Cell}
 use Rattle.il_ast.specs.declared.value.Cell.TheVariants.{Plain, Part, Blank}
 use Rattle.il_ast.specs.Values.{number_of, same_value}
-use Rattle.il_ast.specs.Memory.{plain_bytes, are_parts_from, value_of}
+use Rattle.il_ast.specs.Memory.{plain_bytes, are_parts_from, value_of, span}
 use Rattle.il_mem.specs.Cells.{plain_byte, part_value, is_part_of}
 use Rattle.il_mem.proofs.Spans.{span_at, get_span}
+use Rattle.il_mem.proofs.Putting.{span_inside}
 
 -- ---- parts
 
@@ -126,6 +127,15 @@ value_of_number [] n h = ap (option_map (λ (n : ℕ). Integer n)) h
 value_of_number (Plain b ∷ s) n h = ap (option_map (λ (n : ℕ). Integer n)) h
 value_of_number (Part v i ∷ s) n h = cc
 value_of_number (Blank ∷ s) n h = ap (option_map (λ (n : ℕ). Integer n)) h
+
+-- a span that lies inside, where its number is known
+pub spanned : (from count n : ℕ) (cells : List Cell) → from + count ≤ length cells → option_map number_of (plain_bytes (take count (drop from cells))) ≡ Some n → option_and_then value_of (span from count cells) ≡ Some (Integer n)
+spanned from count n cells le h =
+    ap (option_and_then value_of) (span_inside from count cells le) ∙ value_of_number (take count (drop from cells)) n h
+
+pub spanned_if : (from count : ℕ) (r : Option ℕ) (cells : List Cell) → from + count ≤ length cells → r ≡ option_map number_of (plain_bytes (take count (drop from cells))) → IfSome r (λ n. option_and_then value_of (span from count cells) ≡ Some (Integer n))
+spanned_if from count None cells le h = tt
+spanned_if from count (Some n) cells le h = spanned from count n cells le (sym h)
 
 -- a span that isn't one of bytes, and begins with no part, has none
 pub value_of_others : (cells : List Cell) (from n : ℕ) (x : Cell) → 0 < n → slice_get cells from ≡ Some x → part_value x ≡ None → option_map number_of (plain_bytes (take n (drop from cells))) ≡ None → value_of (take n (drop from cells)) ≡ None

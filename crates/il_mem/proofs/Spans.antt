@@ -1,7 +1,6 @@
 -- The cells of a span, one after another.
 use Rattle.std.proofs.Common.{◌≡◌, ℕ, zero, suc, ◌+◌, ◌-◌, ◌<◌, ◌≤◌, List, [], ◌∷◌, ◌++◌, length, take, drop, refl, ap, ◌∙◌, arith}
 use Rattle.std.specs.Prelude.{slice_get, slice_set, Some}
-use Rattle.il_ast.specs.declared.value.Cell.{Cell}
 use Rattle.il_mem.specs.Written.{written}
 use Rattle.il_ast.proofs.Listed.{length_take, drop_at}
 use Rattle.std.proofs.lemmas.List.{length-drop}
@@ -40,19 +39,19 @@ drop_all (y ∷ s) (suc n) h = drop_all s n (omega arith)
 -- ---- writing
 
 -- the cells before a place stay
-written_later : (to : ℕ) (xs : List Cell) (c : Cell) (cells : List Cell) → written (suc to) xs (c ∷ cells) ≡ c ∷ written to xs cells
+written_later : {A : Type 0} (to : ℕ) (xs : List A) (c : A) (cells : List A) → written (suc to) xs (c ∷ cells) ≡ c ∷ written to xs cells
 written_later to [] c cells = refl
 written_later to (x ∷ xs) c cells =
     let e : suc to + 1 ≡ suc (to + 1) = omega arith in rw e (written_later (to + 1) xs c (slice_set cells to x))
 
-written_first : (xs cells : List Cell) → length xs ≤ length cells → written 0 xs cells ≡ xs ++ drop (length xs) cells
+written_first : {A : Type 0} (xs cells : List A) → length xs ≤ length cells → written 0 xs cells ≡ xs ++ drop (length xs) cells
 written_first [] cells h = refl
 written_first (x ∷ xs) [] h = absurd (omega arith)
 written_first (x ∷ xs) (c ∷ cells) h =
     let e : 0 + 1 ≡ suc zero = omega arith in
     rw e (written_later 0 xs x cells ∙ ap (λ ys. x ∷ ys) (written_first xs cells (omega arith)))
 
-pub written_is : (to : ℕ) (xs cells : List Cell) → to + length xs ≤ length cells → written to xs cells ≡ take to cells ++ (xs ++ drop (to + length xs) cells)
+pub written_is : {A : Type 0} (to : ℕ) (xs cells : List A) → to + length xs ≤ length cells → written to xs cells ≡ take to cells ++ (xs ++ drop (to + length xs) cells)
 written_is zero xs cells h =
     let e : 0 + length xs ≡ length xs = omega arith in rw e (written_first xs cells (omega arith))
 written_is (suc to) xs [] h = absurd (omega arith)

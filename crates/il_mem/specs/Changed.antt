@@ -1,7 +1,5 @@
 -- What a change of one block does.
 use Rattle.std.specs.Prelude.{◌≡◌, ◌≢◌, ℕ, ◌+◌, Bool, true, false, nat_eq, nat_le, ◌||◌, if◌then◌else◌, List, Option, Some, None, is_some}
-use Rattle.std.specs.Ordering.{nat_cmp}
-use Rattle.std.specs.BTreeMap.{get, BTreeMap}
 use Rattle.std.specs.Option.{option_and_then}
 use Rattle.il_ast.specs.declared.value.Value.{Value}
 use Rattle.il_ast.specs.declared.value.Value.TheVariants.{Integer, Pointer, Function}
@@ -37,9 +35,9 @@ pub record ChangesBlock (f : List Cell → Option (List Cell)) (old new : List C
 
 -- the block with this number becomes what f gives for it, and the others stay; without such a
 -- block, or where f gives nothing, the answer is false and all stay
-pub record Changes (f : List Cell → Option (List Cell)) (old new : BTreeMap ℕ (List Cell)) (key : ℕ)
-    (changed : Bool) : Type 0 where
-  pub done : changed ≡ true → get nat_cmp new key ≡ option_and_then f (get nat_cmp old key)
-  pub found : changed ≡ is_some (option_and_then f (get nat_cmp old key))
-  pub stays : changed ≡ false → get nat_cmp new key ≡ get nat_cmp old key
-  pub others : (q : ℕ) → q ≢ key → get nat_cmp new q ≡ get nat_cmp old q
+pub record Changes (f : List Cell → Option (List Cell)) (old new : ℕ → Option (List Cell))
+    (key : ℕ) (changed : Bool) : Type 0 where
+  pub done : changed ≡ true → new key ≡ option_and_then f (old key)
+  pub found : changed ≡ is_some (option_and_then f (old key))
+  pub stays : changed ≡ false → new key ≡ old key
+  pub others : (q : ℕ) → q ≢ key → new q ≡ old q

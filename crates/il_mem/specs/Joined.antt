@@ -1,5 +1,5 @@
 -- The cells that marks stand for, with the values beside them.
-use Rattle.std.specs.Prelude.{List, [], ◌∷◌}
+use Rattle.std.specs.Prelude.{ℕ, List, [], ◌∷◌}
 use Rattle.il_ast.specs.declared.value.Value.{Value}
 use Rattle.il_ast.specs.declared.value.Value.TheVariants.{Integer}
 use Rattle.il_ast.specs.declared.value.Cell.{Cell}
@@ -18,3 +18,9 @@ abbrev pub joined : List Mark → List Value → List Cell
 joined [] values = []
 joined (m ∷ marks) [] = cell_of m (Integer 0) ∷ joined marks []
 joined (m ∷ marks) (v ∷ values) = cell_of m v ∷ joined marks values
+
+-- cells of which the first ones are these bytes
+abbrev pub overlaid : List ℕ → List Cell → List Cell
+overlaid [] cells = cells
+overlaid (b ∷ bytes) [] = []
+overlaid (b ∷ bytes) (c ∷ cells) = PlainCell b ∷ overlaid bytes cells

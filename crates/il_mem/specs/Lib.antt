@@ -4,4 +4,5 @@ pub mod Written
 pub mod Cells
 pub mod Changed
 pub mod Blocks
+pub mod Found
 pub mod Places

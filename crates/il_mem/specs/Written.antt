@@ -1,7 +1,6 @@
--- Cells with others written over them, one after another.
+-- A list with others written over it, one after another.
 use Rattle.std.specs.Prelude.{ℕ, ◌+◌, List, [], ◌∷◌, slice_set}
-use Rattle.il_ast.specs.declared.value.Cell.{Cell}
 
-abbrev pub written : ℕ → List Cell → List Cell → List Cell
-written to [] cells = cells
-written to (x ∷ xs) cells = written (to + 1) xs (slice_set cells to x)
+abbrev pub written : {A : Type 0} → ℕ → List A → List A → List A
+written to [] items = items
+written to (x ∷ xs) items = written (to + 1) xs (slice_set items to x)

@@ -1,42 +1,63 @@
-//! Changes of one block among many, found by its number.
-ghost use Rattle.std.specs.Prelude.{◌≡◌, ◌+◌, ◌||◌, length, nat_le};
-ghost use Rattle.il_mem.specs.Changed.{integer_in, value_put, cells_put, within_put, Changes, ChangesBlock};
+//! Changes of one block.
+ghost use Rattle.std.specs.Prelude.{◌≡◌, ◌+◌, ◌||◌, nat_le, None};
+ghost use Rattle.il_ast.specs.declared.value.Value.TheVariants.{Integer};
+ghost use Rattle.il_ast.specs.Values.{byte_count};
+ghost use Rattle.il_mem.specs.Changed.{integer_in, value_put, cells_put, within_put, ChangesBlock};
 ghost use Rattle.il_ast.specs.Memory.{span};
 
 use crate::block::Block;
+use crate::ranges::has_span;
+use crate::words::bytes_in;
 use crate::write::{copy_across, copy_within, write_number, write_parts};
+use il_ast::operation::Size;
 use il_ast::value::Value;
-use std::collections::BTreeMap;
 
-/// Whether `count` cells from a place on lie wholly inside.
-pub fn has_span(block: &Block, from: usize, count: usize) -> bool
-    ensures { result ≡ nat_le (from + count) (length block.now) }
+/// Stores a value of a size, if its cells lie wholly inside.
+pub fn store_block(block: &mut Block, at: u64, size: Size, value: Value) -> bool
+    ensures { ChangesBlock (value_put at (byte_count size) value) block.old block.new result }
 {
-    let length = block.len();
-    count <= length && from <= length - count
+    match integer_of(value) {
+        Some(number) => store_number(block, at as usize, size, number),
+        None => store_parts(block, at as usize, bytes_in(size), value),
+    }
 }
 
-/// Stores `count` cells for a value, if they lie wholly inside.
-fn store_block(block: &mut Block, at: u64, count: usize, value: Value) -> bool
-    ensures { ChangesBlock (value_put at count value) block.old block.new result }
+/// Stores the low bytes of a number, if they lie wholly inside.
+fn store_number(block: &mut Block, to: usize, size: Size, number: u64) -> bool
+    ensures { ChangesBlock (value_put to (byte_count size) (Integer number)) block.old block.new result }
 {
-    let to = at as usize;
+    if block.set_number(to, size, number) {
+        return true;
+    }
+    store_bytes(block, to, bytes_in(size), number)
+}
+
+/// The same, cell by cell.
+#[inline(never)]
+fn store_bytes(block: &mut Block, to: usize, count: usize, number: u64) -> bool
+    ensures { ChangesBlock (value_put to count (Integer number)) block.old block.new result }
+{
+    if has_span(block, to, count) {
+        write_number(block, to, count, number);
+        true
+    } else {
+        false
+    }
+}
+
+/// Stores the parts of a value that is no integer, if there are eight, and they lie wholly inside.
+fn store_parts(block: &mut Block, to: usize, count: usize, value: Value) -> bool
+    requires { integer_in value ≡ None }
+    ensures { ChangesBlock (value_put to count value) block.old block.new result }
+{
     if !has_span(block, to, count) {
         return false;
     }
-    match integer_of(value) {
-        Some(number) => {
-            write_number(block, to, count, number);
-            true
-        }
-        None => {
-            if count == 8 {
-                write_parts(block, to, value);
-                true
-            } else {
-                false
-            }
-        }
+    if count == 8 {
+        write_parts(block, to, value);
+        true
+    } else {
+        false
     }
 }
 
@@ -50,24 +71,8 @@ fn integer_of(value: Value) -> Option<u64>
     }
 }
 
-/// Stores a value in the block of this number, if there is one.
-pub fn store_at(
-    live: &mut BTreeMap<u128, Block>,
-    key: u128,
-    at: u64,
-    count: usize,
-    value: Value,
-) -> bool
-    ensures { Changes (value_put at count value) live.old live.new key result }
-{
-    match live.get_mut(&key) {
-        Some(block) => store_block(block, at, count, value),
-        None => false,
-    }
-}
-
 /// Copies cells of another block, if both spans lie wholly inside.
-fn paste_block(block: &mut Block, at: u64, source: &Block, from: u64, count: usize) -> bool
+pub fn paste_block(block: &mut Block, at: u64, source: &Block, from: u64, count: usize) -> bool
     ensures { ChangesBlock (cells_put at (span from count source.now)) block.old block.new result }
 {
     let start = from as usize;
@@ -82,23 +87,6 @@ fn paste_block(block: &mut Block, at: u64, source: &Block, from: u64, count: usi
     true
 }
 
-/// Copies cells of another block into the block of this number, if there is one.
-pub fn paste_at(
-    live: &mut BTreeMap<u128, Block>,
-    key: u128,
-    at: u64,
-    source: &Block,
-    from: u64,
-    count: usize,
-) -> bool
-    ensures { Changes (cells_put at (span from count source.now)) live.old live.new key result }
-{
-    match live.get_mut(&key) {
-        Some(block) => paste_block(block, at, source, from, count),
-        None => false,
-    }
-}
-
 /// Whether two spans of one block have no cell in common.
 fn is_apart(from: usize, to: usize, count: usize) -> bool
     ensures { result ≡ nat_le (from + count) to || nat_le (to + count) from }
@@ -111,7 +99,7 @@ fn is_apart(from: usize, to: usize, count: usize) -> bool
 }
 
 /// Copies cells within a block, if both spans lie wholly inside and are the same or apart.
-fn shift_block(block: &mut Block, at: u64, from: u64, count: usize) -> bool
+pub fn shift_block(block: &mut Block, at: u64, from: u64, count: usize) -> bool
     ensures { ChangesBlock (within_put at from count) block.old block.new result }
 {
     let start = from as usize;
@@ -130,21 +118,5 @@ fn shift_block(block: &mut Block, at: u64, from: u64, count: usize) -> bool
         true
     } else {
         false
-    }
-}
-
-/// Copies cells within the block of this number, if there is one.
-pub fn shift_at(
-    live: &mut BTreeMap<u128, Block>,
-    key: u128,
-    at: u64,
-    from: u64,
-    count: usize,
-) -> bool
-    ensures { Changes (within_put at from count) live.old live.new key result }
-{
-    match live.get_mut(&key) {
-        Some(block) => shift_block(block, at, from, count),
-        None => false,
     }
 }

@@ -6,13 +6,16 @@
 //!
 //! A cell takes two bytes: what it is, and its byte or the number of its part. The values whose parts
 //! stand in a block lie in a list beside its cells, for which room is reserved when the block is made.
-//! Finding a block takes a logarithm of the number of live ones.
+//! The live blocks stand in the order of their numbers, as they were made. Finding one takes a logarithm of
+//! how many there are, and a step or two where none before it is dead, or none behind it.
 #![tactic(auto)]
 
 pub mod block;
 mod change;
 pub mod memory;
-mod numbered;
+mod numbers;
+mod ranges;
 mod read;
 mod transfer;
+mod words;
 mod write;

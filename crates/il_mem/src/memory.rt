@@ -1,18 +1,20 @@
 //! The memory: its blocks by number.
-ghost use Rattle.std.specs.Prelude.{◌≡◌, ◌+◌, ◌^◌, ◌<◌, ◌≤◌, [], ◌∷◌, ◌++◌, length, Some, None, IfOk, OnOk, OnErr, OnSome, IfNone, MatchOption};
+ghost use Rattle.std.specs.Prelude.{◌≡◌, ◌+◌, ◌^◌, ◌<◌, ◌≤◌, [], ◌∷◌, ◌++◌, length, Some, None, IfOk, OnOk, OnErr, IfSome, OnSome, IfNone, MatchBool, MatchOption};
 ghost use Rattle.il_ast.specs.Values.{byte_count};
 ghost use Rattle.std.specs.Option.{option_and_then};
-ghost use Rattle.il_ast.specs.Memory.{size_at, load, store, copy, fresh, free, cells_at, write_at, cells_for, value_of, plain_bytes};
+ghost use Rattle.il_ast.specs.declared.value.Value.TheVariants.{Integer, Pointer};
+ghost use Rattle.il_ast.specs.Memory.{block_at, size_at, load, store, copy, fresh, free, cells_at, write_at, cells_for, value_of, plain_bytes};
 ghost use Rattle.il_mem.specs.Places.{place_in, copied_place, Gives};
 
 use crate::block::Block;
-use crate::change::{shift_at, store_at};
-use crate::numbered::{add_block, bytes_from, drop_block, load_from, size_of};
+use crate::change::{shift_block, store_block};
+use crate::numbers::place_of;
+use crate::ranges::{block_bytes, load_block, number_in};
 use crate::transfer::transfer;
+use crate::words::bytes_in;
 use il_ast::operation::Size;
 use il_ast::value::Value;
 use std::alloc::{AllocError, Global};
-use std::collections::BTreeMap;
 use std::marker::Model;
 
 /// The number of a block, which is never used again.
@@ -21,22 +23,26 @@ pub type BlockId = u128;
 /// The blocks made so far; dead ones take no room.
 #[derive(Drop)]
 pub struct BlockMemory {
-    live: BTreeMap<u128, Block>,
+    /// the numbers of the live blocks, which rise
+    numbers: Vec<u128>,
+    /// the live blocks, in the order of their numbers
+    live: Vec<Block>,
     made: u128,
     alloc: Global,
 }
 
 impl Model for BlockMemory {
     ghost use Rattle.std.specs.Prelude.{List, Option};
-    ghost use Rattle.std.specs.Ordering.{nat_cmp};
-    ghost use Rattle.std.specs.BTreeMap.{get};
     ghost use Rattle.il_ast.specs.declared.value.Cell.{Cell};
 
     ghost Value = { List (Option (List Cell)) };
 
     ghost use Rattle.il_mem.specs.Blocks.{blocks};
+    ghost use Rattle.il_mem.specs.Found.{found, Numbered};
 
-    ghost view = { λ m. blocks (get nat_cmp m.live) 0 m.made };
+    ghost view = { λ m. blocks (found m.numbers.items m.live.items) 0 m.made };
+
+    ghost invariant = { λ m. Numbered m.numbers.items m.live.items m.made };
 }
 
 impl BlockMemory {
@@ -45,7 +51,8 @@ impl BlockMemory {
         ensures { result ≡ [] }
     {
         BlockMemory {
-            live: BTreeMap::new(alloc),
+            numbers: Vec::new(alloc),
+            live: Vec::new(alloc),
             made: 0,
             alloc,
         }
@@ -77,18 +84,22 @@ impl BlockMemory {
         ensures err { OnErr result (self.new ≡ self.old) }
     {
         let id = self.made;
-        add_block(&mut self.live, id, block)?;
+        self.numbers.reserve(1)?;
+        self.live.push(block)?;
+        let _ = self.numbers.push(id);
         self.made = id + 1;
         Ok(id)
     }
 
-    /// Makes a block dead; nothing changes where it is dead already.
+    /// Makes a block dead; nothing changes where it is dead already. It takes a step for each live
+    /// block that was made after this one.
     pub fn free(&mut self, block: BlockId)
         ensures freed { self.new ≡ free self.old block }
         ensures made { length self.new ≡ length self.old }
     {
-        if block < self.made {
-            drop_block(&mut self.live, block);
+        if let Some(at) = place_of(self.numbers.as_slice(), block) {
+            let _ = self.numbers.remove(at);
+            let _ = self.live.remove(at);
         }
     }
 
@@ -96,10 +107,19 @@ impl BlockMemory {
     pub fn size(&self, block: BlockId) -> Option<usize>
         ensures { result ≡ size_at self.now block }
     {
-        if block < self.made {
-            size_of(&self.live, block)
-        } else {
-            None
+        match self.block(block) {
+            Some(found) => Some(found.len()),
+            None => None,
+        }
+    }
+
+    /// The live block of a number.
+    fn block(&self, number: u128) -> Option<&Block>
+        ensures { MatchOption result (block_at self.now number ≡ None) (λ found. block_at self.now number ≡ Some found.now) }
+    {
+        match place_of(self.numbers.as_slice(), number) {
+            Some(at) => Some(&self.live[at]),
+            None => None,
         }
     }
 
@@ -108,7 +128,7 @@ impl BlockMemory {
     pub fn load(&self, at: Value, size: Size) -> Option<Value>
         ensures { result ≡ load self.now (byte_count size) at }
     {
-        match place_of(at) {
+        match pointed(at) {
             Some(place) => self.load_place(place, bytes_in(size)),
             None => None,
         }
@@ -124,10 +144,9 @@ impl BlockMemory {
     ) -> Result<Option<Vec<u8>>, AllocError>
         ensures { IfOk result (λ found. MatchOption found (option_and_then plain_bytes (cells_at self.now block offset count) ≡ None) (λ bytes. option_and_then plain_bytes (cells_at self.now block offset count) ≡ Some bytes.items)) }
     {
-        if block < self.made {
-            bytes_from(self.alloc, &self.live, block, offset, count)
-        } else {
-            Ok(None)
+        match self.block(block) {
+            Some(found) => block_bytes(self.alloc, found, offset as usize, count as usize),
+            None => Ok(None),
         }
     }
 
@@ -136,10 +155,19 @@ impl BlockMemory {
         requires few { count ≤ 8 }
         ensures { result ≡ option_and_then value_of (cells_at self.now place.block place.offset count) }
     {
-        if place.block < self.made {
-            load_from(&self.live, place.block, place.offset, count)
-        } else {
-            None
+        match self.block(place.block) {
+            Some(found) => load_block(found, place.offset, count),
+            None => None,
+        }
+    }
+
+    /// The number of so many bytes from an offset of a block. None says nothing of what stands there: `load` tells.
+    pub fn load_number(&self, block: BlockId, offset: u64, size: Size) -> Option<u64>
+        ensures { IfSome result (λ number. load self.now (byte_count size) (Pointer block offset) ≡ Some (Integer number)) }
+    {
+        match self.block(block) {
+            Some(found) => number_in(found, offset, size),
+            None => None,
         }
     }
 
@@ -152,9 +180,9 @@ impl BlockMemory {
         ensures unchanged { IfNone result (self.new ≡ self.old) }
         ensures made { length self.new ≡ length self.old }
     {
-        match place_of(at) {
+        match pointed(at) {
             Some(place) => {
-                if self.store_place(place, bytes_in(size), value) {
+                if self.store_place(place, size, value) {
                     Some(())
                 } else {
                     None
@@ -164,15 +192,23 @@ impl BlockMemory {
         }
     }
 
-    fn store_place(&mut self, place: Place, count: usize, value: Value) -> bool
-        ensures gives { Gives (option_and_then (write_at self.old place.block place.offset) (cells_for count value)) self.old self.new result }
+    fn store_place(&mut self, place: Place, size: Size, value: Value) -> bool
+        ensures gives { Gives (option_and_then (write_at self.old place.block place.offset) (cells_for (byte_count size) value)) self.old self.new result }
         ensures made { length self.new ≡ length self.old }
     {
-        if place.block < self.made {
-            store_at(&mut self.live, place.block, place.offset, count, value)
-        } else {
-            false
+        match place_of(self.numbers.as_slice(), place.block) {
+            Some(at) => store_block(&mut self.live[at], place.offset, size, value),
+            None => false,
         }
+    }
+
+    /// Stores the low bytes of an integer at an offset of a block, as `store` does. Answers whether the
+    /// span lies wholly inside a live block; else nothing changes.
+    pub fn store_number(&mut self, block: BlockId, offset: u64, size: Size, number: u64) -> bool
+        ensures { MatchBool result (store self.old (byte_count size) (Pointer block offset) (Integer number) ≡ Some self.new) (self.new ≡ self.old) }
+    {
+        let place = Place { block, offset };
+        self.store_place(place, size, Value::Integer(number))
     }
 
     /// Copies so many cells as they are: bytes, parts and blank ones. None, and nothing changes, where
@@ -187,8 +223,8 @@ impl BlockMemory {
         if count == 0 {
             return Some(());
         }
-        match place_of(from) {
-            Some(source) => match place_of(to) {
+        match pointed(from) {
+            Some(source) => match pointed(to) {
                 Some(target) => {
                     if self.copy_place(source, target, count as usize) {
                         Some(())
@@ -206,27 +242,23 @@ impl BlockMemory {
         ensures gives { Gives (copied_place self.old count source.block source.offset target.block target.offset) self.old self.new result }
         ensures made { length self.new ≡ length self.old }
     {
-        if target.block >= self.made {
-            return false;
-        }
-        if source.block >= self.made {
-            return false;
-        }
-        if source.block == target.block {
-            return shift_at(
-                &mut self.live,
-                target.block,
-                target.offset,
-                source.offset,
-                count,
-            );
+        let from = match place_of(self.numbers.as_slice(), source.block) {
+            Some(from) => from,
+            None => return false,
+        };
+        let to = match place_of(self.numbers.as_slice(), target.block) {
+            Some(to) => to,
+            None => return false,
+        };
+        if from == to {
+            return shift_block(&mut self.live[to], target.offset, source.offset, count);
         }
         transfer(
             &mut self.live,
             self.alloc,
-            source.block,
+            from,
             source.offset,
-            target.block,
+            to,
             target.offset,
             count,
         )
@@ -241,23 +273,11 @@ struct Place {
 }
 
 /// Where a pointer points to.
-fn place_of(at: Value) -> Option<Place>
+fn pointed(at: Value) -> Option<Place>
     ensures { result ≡ place_in at }
 {
     match at {
         Value::Pointer { block, offset } => Some(Place { block, offset }),
         Value::Integer(_) | Value::Function(_) => None,
-    }
-}
-
-/// How many bytes a size is.
-fn bytes_in(size: Size) -> usize
-    ensures { result ≡ byte_count size }
-{
-    match size {
-        Size::Byte => 1,
-        Size::Half => 2,
-        Size::Word => 4,
-        Size::Long => 8,
     }
 }

@@ -53,7 +53,7 @@ fn whole_of(cell: Cell) -> Option<Value>
 }
 
 /// The number of `count` bytes from a place on, lowest first.
-fn read_number(block: &Block, from: usize, count: usize) -> Option<u64>
+pub fn read_number(block: &Block, from: usize, count: usize) -> Option<u64>
     requires inside { from + count ≤ length block.now }
     requires few { count ≤ 8 }
     ensures { result ≡ option_map number_of (plain_bytes (take count (drop from block.now))) }

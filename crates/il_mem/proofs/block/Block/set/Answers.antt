@@ -1,36 +1,31 @@
-use Rattle.std.proofs.Common.{refl, ◌<◌, length, arith}
-use Rattle.il_ast.specs.declared.value.Cell.TheVariants.{Plain as PlainCell, Blank as BlankCell}
-use Rattle.il_mem.specs.declared.block.Mark.TheVariants.{Plain, Blank}
-use Rattle.il_mem.proofs.JoinedLemmas.{long_enough, shown_mark, shown_part}
+use Rattle.std.proofs.Common.{◌≡◌, ◌≤◌, length, arith}
+use Rattle.std.specs.Prelude.{vec_capacity}
+use Rattle.il_mem.proofs.OverlaidLemmas.{as_many, set_marked}
 use Rattle.il_mem.proofs.block.Block.set.Goals as goal
 
-pub index_mut-requires : goal.index_mut-requires
-index_mut-requires c =
-    let lt : c.args.at < length c.self.inside.marks.items = long_enough _ _ _ _ c.self.view_is c.requires in omega arith
+pub set_cell-requires : goal.set_cell-requires
+set_cell-requires c =
+    let same : length c.args.self.now ≡ length c.self.inside.marks.items = as_many _ _ _ _ c.self.view_is in
+    let kept : length c.cut.new.marks.items ≡ length c.self.inside.marks.items = c.cut.ensures.marks in
+    let room : length c.self.inside.marks.items ≤ vec_capacity c.self.inside.values = c.self.invariant.2 in
+    record { inside = omega arith; room = omega arith }
 
-pub index_mut-requires-in-Plain : goal.index_mut-requires-in-Plain
-index_mut-requires-in-Plain c =
-    let lt : c.args.at < length c.self.inside.marks.items = long_enough _ _ _ _ c.self.view_is c.requires in omega arith
+pub invariant_of-self : goal.invariant_of-self
+invariant_of-self c =
+    let same : length c.args.self.now ≡ length c.self.inside.marks.items = as_many _ _ _ _ c.self.view_is in
+    let kept : length c.cut.new.marks.items ≡ length c.self.inside.marks.items = c.cut.ensures.marks in
+    let few : length c.cut.new.bytes.items ≤ c.args.at = c.cut.ensures.bytes in
+    let as_before : vec_capacity c.cut.new.bytes ≡ vec_capacity c.self.inside.bytes = c.cut.ensures.capacity in
+    let many : length c.set_cell.new.marks.items ≡ length c.cut.new.marks.items = c.set_cell.ensures.length in
+    let more : vec_capacity c.self.inside.values ≤ vec_capacity c.set_cell.new.values = c.set_cell.ensures.capacity in
+    let room : length c.self.inside.marks.items ≤ vec_capacity c.self.inside.bytes = c.self.invariant.1 in
+    let place : length c.self.inside.marks.items ≤ vec_capacity c.self.inside.values = c.self.invariant.2 in (
+      omega arith,
+      omega arith,
+      omega arith,
+    )
 
-pub grow-requires : goal.grow-requires
-grow-requires c =
-    let lt : c.args.at < length c.self.inside.marks.items = long_enough _ _ _ _ c.self.view_is c.requires in omega arith
-
-pub index_mut-requires-in-Part-2 : goal.index_mut-requires-in-Part-2
-index_mut-requires-in-Part-2 c =
-    let lt : c.args.at < length c.self.inside.marks.items = long_enough _ _ _ _ c.self.view_is c.requires in omega arith
-
-pub returns-in-Blank : goal.returns-in-Blank
-returns-in-Blank c =
-    shown_mark c.self.inside.marks.items c.self.inside.values.items c.args.self.now c.args.at Blank BlankCell c.args.cell c.self.view_is c.in-Blank.is
-    (λ v. refl)
-
-pub returns-in-Plain : goal.returns-in-Plain
-returns-in-Plain c =
-    shown_mark c.self.inside.marks.items c.self.inside.values.items c.args.self.now c.args.at (Plain c.in-Plain.byte) (PlainCell c.in-Plain.byte)
-    c.args.cell c.self.view_is c.in-Plain.is (λ v. refl)
-
-pub returns-in-Part : goal.returns-in-Part
-returns-in-Part c =
-    shown_part c.self.inside.marks.items c.self.inside.values.items c.grow.new.values.items c.args.self.now c.args.at c.in-Part.index
-    c.in-Part.value c.args.cell c.self.view_is c.in-Part.is c.grow.ensures.same c.grow.ensures.long
+pub returns-after-self : goal.returns-after-self
+returns-after-self c =
+    set_marked c.self.inside.bytes.items c.cut.new.bytes.items c.self.inside.marks.items c.cut.new.marks.items c.set_cell.new.marks.items
+    c.self.inside.values.items c.set_cell.new.values.items c.args.self.now c.args.at c.args.cell c.self.view_is c.cut.ensures.cells c.cut.ensures.bytes c.set_cell.ensures.cells

@@ -1,52 +1,62 @@
-use Rattle.std.proofs.Common.{subst, arith, false}
-use Rattle.std.specs.Option.{option_and_then}
-use Rattle.std.specs.Ordering.{nat_cmp}
-use Rattle.std.specs.BTreeMap.{get}
-use Rattle.il_ast.specs.Memory.{Memory, span}
+use Rattle.std.proofs.Common.{subst, length-set}
+use Rattle.std.specs.Prelude.{slice_set}
+use Rattle.il_ast.specs.Memory.{Memory}
 use Rattle.il_mem.specs.Blocks.{blocks}
-use Rattle.il_mem.specs.Changed.{cells_put, within_put}
+use Rattle.il_mem.specs.Changed.{within_put}
+use Rattle.il_mem.specs.Found.{found}
 use Rattle.il_mem.specs.Places.{copied_place, Gives}
-use Rattle.il_mem.proofs.BlocksLemmas.{same_count, gives, gives_nothing, copy_from_past, copy_to_past, copy_across_is, copy_within_is}
+use Rattle.il_mem.proofs.BlocksLemmas.{same_count, gives_nothing, copy_from_none, copy_to_none, copy_within_is}
+use Rattle.il_mem.proofs.FoundLemmas.{numbered_set, gives_set, gives_across, was_made, same_block, block_missing}
 use Rattle.il_mem.proofs.memory.BlockMemory.copy_place.Goals as goal
 
-pub returns-then-target-self-clause-gives : goal.returns-then-target-self-clause-gives
-returns-then-target-self-clause-gives c =
-    let P = λ (m : Memory).
-    Gives (copied_place m c.args.count c.args.source.block c.args.source.offset c.args.target.block c.args.target.offset) m m false in
-    subst P c.self.view_is
-    (gives_nothing _ _ (copy_to_past (get nat_cmp c.self.inside.live) c.self.inside.made c.args.source.block c.args.source.offset c.args.target.block c.args.target.offset c.args.count (omega arith)))
+pub invariant_of-self : goal.invariant_of-self
+invariant_of-self c =
+    numbered_set c.self.inside.numbers.items c.self.inside.live.items (slice_set c.self.inside.live.items c.in-Some-place_of.to c.shift_block.new.block) c.self.inside.made
+    (length-set c.self.inside.live.items c.in-Some-place_of.to c.shift_block.new.block) c.self.invariant
 
-pub returns-then-source-self-clause-gives : goal.returns-then-source-self-clause-gives
-returns-then-source-self-clause-gives c =
-    let P = λ (m : Memory).
-    Gives (copied_place m c.args.count c.args.source.block c.args.source.offset c.args.target.block c.args.target.offset) m m false in
-    subst P c.self.view_is
-    (gives_nothing _ _ (copy_from_past (get nat_cmp c.self.inside.live) c.self.inside.made c.args.source.block c.args.source.offset c.args.target.block c.args.target.offset c.args.count (omega arith)))
+pub invariant_of-self-2 : goal.invariant_of-self-2
+invariant_of-self-2 c =
+    numbered_set c.self.inside.numbers.items c.self.inside.live.items c.transfer.new.live.items c.self.inside.made c.transfer.ensures.many c.self.invariant
 
-pub returns-then-source-target-clause-gives : goal.returns-then-source-target-clause-gives
-returns-then-source-target-clause-gives c =
+pub returns-in-None-clause-gives : goal.returns-in-None-clause-gives
+returns-in-None-clause-gives c =
+    gives_nothing _ _
+    (copy_from_none c.args.self.now c.args.source.block c.args.source.offset c.args.target.block c.args.target.offset c.args.count
+    (block_missing c.as_slice.result.now c.self.inside.numbers.items c.self.inside.live.items c.self.inside.made c.args.source.block c.args.self.now
+    c.as_slice.ensures.value c.self.invariant c.in-None.ensures c.self.view_is))
+
+pub returns-in-None-place_of-clause-gives : goal.returns-in-None-place_of-clause-gives
+returns-in-None-place_of-clause-gives c =
+    gives_nothing _ _
+    (copy_to_none c.args.self.now c.args.source.block c.args.source.offset c.args.target.block c.args.target.offset c.args.count
+    (block_missing c.as_slice-2.result.now c.self.inside.numbers.items c.self.inside.live.items c.self.inside.made c.args.target.block c.args.self.now
+    c.as_slice-2.ensures.value c.self.invariant c.in-None-place_of.ensures c.self.view_is))
+
+pub returns-then-from-to-clause-gives : goal.returns-then-from-to-clause-gives
+returns-then-from-to-clause-gives c =
     let P = λ (m : Memory).
     Gives (copied_place m c.args.count c.args.source.block c.args.source.offset c.args.target.block c.args.target.offset) m
-    (blocks (get nat_cmp c.shift_at.new.live) 0 c.self.inside.made) c.shift_at.result in
+    (blocks (found c.self.inside.numbers.items (slice_set c.self.inside.live.items c.in-Some-place_of.to c.shift_block.new.block)) 0 c.self.inside.made) c.shift_block.result in
     subst P c.self.view_is
-    (gives (within_put c.args.target.offset c.args.source.offset c.args.count) c.self.inside.live c.shift_at.new.live c.self.inside.made c.args.target.block
-    c.shift_at.result _ c.shift_at.ensures
-    (copy_within_is (get nat_cmp c.self.inside.live) c.self.inside.made c.args.source.block c.args.source.offset c.args.target.block c.args.target.offset c.args.count (omega arith) (omega arith)))
+    (gives_set (within_put c.args.target.offset c.args.source.offset c.args.count) c.as_slice-2.result.now c.self.inside.numbers.items c.self.inside.live.items c.self.inside.made
+    c.args.target.block c.in-Some-place_of.to c.index_mut.result.now c.shift_block.new.block c.shift_block.result _
+    c.as_slice-2.ensures.value c.self.invariant c.in-Some-place_of.ensures c.index_mut.ensures.value c.shift_block.ensures
+    (copy_within_is (found c.self.inside.numbers.items c.self.inside.live.items) c.self.inside.made c.args.source.block c.args.source.offset c.args.target.block c.args.target.offset c.args.count
+    (was_made c.as_slice-2.result.now c.self.inside.numbers.items c.self.inside.live.items c.self.inside.made c.args.target.block c.in-Some-place_of.to c.as_slice-2.ensures.value c.self.invariant c.in-Some-place_of.ensures)
+    (same_block c.as_slice.result.now c.as_slice-2.result.now c.self.inside.numbers.items c.in-Some.from c.in-Some-place_of.to c.args.source.block c.args.target.block
+    c.as_slice.ensures.value c.as_slice-2.ensures.value c.if-from-to.true c.in-Some.ensures c.in-Some-place_of.ensures)))
+
+pub returns-then-from-to-clause-made : goal.returns-then-from-to-clause-made
+returns-then-from-to-clause-made c =
+    same_count (found c.self.inside.numbers.items c.self.inside.live.items)
+    (found c.self.inside.numbers.items (slice_set c.self.inside.live.items c.in-Some-place_of.to c.shift_block.new.block)) c.self.inside.made c.args.self.now c.self.view_is
 
 pub returns-clause-gives : goal.returns-clause-gives
 returns-clause-gives c =
-    let P = λ (m : Memory).
-    Gives (copied_place m c.args.count c.args.source.block c.args.source.offset c.args.target.block c.args.target.offset) m
-    (blocks (get nat_cmp c.transfer.new.live) 0 c.self.inside.made) c.transfer.result in
-    subst P c.self.view_is
-    (gives (cells_put c.args.target.offset (option_and_then (span c.args.source.offset c.args.count) (get nat_cmp c.self.inside.live c.args.source.block)))
-    c.self.inside.live c.transfer.new.live c.self.inside.made c.args.target.block c.transfer.result _ c.transfer.ensures
-    (copy_across_is (get nat_cmp c.self.inside.live) c.self.inside.made c.args.source.block c.args.source.offset c.args.target.block c.args.target.offset c.args.count (omega arith) (omega arith) (λ e. omega arith)))
-
-pub returns-then-source-target-clause-made : goal.returns-then-source-target-clause-made
-returns-then-source-target-clause-made c =
-    same_count (get nat_cmp c.self.inside.live) (get nat_cmp c.shift_at.new.live) c.self.inside.made c.args.self.now c.self.view_is
+    gives_across c.as_slice.result.now c.as_slice-2.result.now c.self.inside.numbers.items c.self.inside.live.items c.transfer.new.live.items c.self.inside.made
+    c.args.source.block c.args.source.offset c.in-Some.from c.args.target.block c.args.target.offset c.in-Some-place_of.to c.args.count c.transfer.result c.args.self.now
+    c.as_slice.ensures.value c.as_slice-2.ensures.value c.self.invariant c.in-Some.ensures c.in-Some-place_of.ensures c.if-from-to.false c.transfer.ensures.many c.transfer.ensures.changes c.self.view_is
 
 pub returns-clause-made : goal.returns-clause-made
 returns-clause-made c =
-    same_count (get nat_cmp c.self.inside.live) (get nat_cmp c.transfer.new.live) c.self.inside.made c.args.self.now c.self.view_is
+    same_count (found c.self.inside.numbers.items c.self.inside.live.items) (found c.self.inside.numbers.items c.transfer.new.live.items) c.self.inside.made c.args.self.now c.self.view_is

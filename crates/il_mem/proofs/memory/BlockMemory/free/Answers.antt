@@ -1,24 +1,24 @@
-use Rattle.std.proofs.Common.{◌∙◌, sym, ap, arith}
-use Rattle.std.specs.Prelude.{slice_set, None}
-use Rattle.std.specs.Ordering.{nat_cmp}
-use Rattle.std.specs.BTreeMap.{get}
-use Rattle.il_ast.specs.Memory.{Memory, free}
-use Rattle.il_mem.specs.Blocks.{blocks}
-use Rattle.il_mem.proofs.BlocksLemmas.{same_count, blocks-set, free_past}
+use Rattle.il_mem.specs.Found.{found}
+use Rattle.il_mem.proofs.BlocksLemmas.{same_count}
+use Rattle.il_mem.proofs.FoundLemmas.{numbered_less, freed, block_missing, dead_already}
 use Rattle.il_mem.proofs.memory.BlockMemory.free.Goals as goal
 
-pub returns-then-block-self-clause-freed : goal.returns-then-block-self-clause-freed
-returns-then-block-self-clause-freed c =
-    blocks-set (get nat_cmp c.self.inside.live) (get nat_cmp c.drop_block.new.live) c.self.inside.made c.args.block c.drop_block.ensures.others
-    ∙ (ap (λ x. slice_set (blocks (get nat_cmp c.self.inside.live) 0 c.self.inside.made) c.args.block x) c.drop_block.ensures.here
-    ∙ ap (λ (m : Memory). free m c.args.block) c.self.view_is)
+pub invariant_of-self : goal.invariant_of-self
+invariant_of-self c =
+    numbered_less c.as_slice.result.now c.self.inside.numbers.items c.remove.new.self.items c.self.inside.live.items c.remove-in-Some.new.self.items c.self.inside.made c.args.block
+    c.in-Some.at c.as_slice.ensures.value c.in-Some.ensures c.remove.ensures.items c.remove-in-Some.ensures.items c.self.invariant
 
-pub returns-else-block-self-clause-freed : goal.returns-else-block-self-clause-freed
-returns-else-block-self-clause-freed c =
-    sym c.self.view_is
-    ∙ (sym (free_past (get nat_cmp c.self.inside.live) 0 c.self.inside.made c.args.block None (omega arith))
-    ∙ ap (λ (m : Memory). free m c.args.block) c.self.view_is)
+pub returns-in-Some-clause-freed : goal.returns-in-Some-clause-freed
+returns-in-Some-clause-freed c =
+    freed c.as_slice.result.now c.self.inside.numbers.items c.remove.new.self.items c.self.inside.live.items c.remove-in-Some.new.self.items c.self.inside.made c.args.block
+    c.in-Some.at c.args.self.now c.as_slice.ensures.value c.in-Some.ensures c.remove.ensures.items c.remove-in-Some.ensures.items c.self.invariant c.self.view_is
 
-pub returns-then-block-self-clause-made : goal.returns-then-block-self-clause-made
-returns-then-block-self-clause-made c =
-    same_count (get nat_cmp c.self.inside.live) (get nat_cmp c.drop_block.new.live) c.self.inside.made c.args.self.now c.self.view_is
+pub returns-in-Some-clause-made : goal.returns-in-Some-clause-made
+returns-in-Some-clause-made c =
+    same_count (found c.self.inside.numbers.items c.self.inside.live.items) (found c.remove.new.self.items c.remove-in-Some.new.self.items) c.self.inside.made c.args.self.now c.self.view_is
+
+pub returns-in_default-clause-freed : goal.returns-in_default-clause-freed
+returns-in_default-clause-freed c =
+    dead_already c.args.self.now c.args.block
+    (block_missing c.as_slice.result.now c.self.inside.numbers.items c.self.inside.live.items c.self.inside.made c.args.block c.args.self.now
+    c.as_slice.ensures.value c.self.invariant c.in_default.ensures c.self.view_is)

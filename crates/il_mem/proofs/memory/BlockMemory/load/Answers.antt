@@ -8,7 +8,7 @@ pub returns-in-Some : goal.returns-in-Some
 returns-in-Some c =
     c.load_place.ensures
     ∙ (ap (λ n. option_and_then value_of (cells_at c.args.self.now c.in-Some.place.block c.in-Some.place.offset n)) c.bytes_in.ensures
-    ∙ sym (load_at c.args.self.now _ c.args.at c.in-Some.place (sym c.place_of.ensures ∙ c.in-Some.is)))
+    ∙ sym (load_at c.args.self.now _ c.args.at c.in-Some.place (sym c.pointed.ensures ∙ c.in-Some.is)))
 
 pub returns-in-None : goal.returns-in-None
-returns-in-None c = sym (load_nowhere c.args.self.now _ c.args.at (sym c.place_of.ensures ∙ c.in-None.is))
+returns-in-None c = sym (load_nowhere c.args.self.now _ c.args.at (sym c.pointed.ensures ∙ c.in-None.is))

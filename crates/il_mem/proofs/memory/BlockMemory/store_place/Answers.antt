@@ -1,32 +1,41 @@
-use Rattle.std.proofs.Common.{subst, arith, false}
+use Rattle.std.proofs.Common.{subst, length-set}
+use Rattle.std.specs.Prelude.{slice_set}
 use Rattle.std.specs.Option.{option_and_then}
-use Rattle.std.specs.Ordering.{nat_cmp}
-use Rattle.std.specs.BTreeMap.{get}
+use Rattle.il_ast.specs.Values.{byte_count}
 use Rattle.il_ast.specs.Memory.{Memory, write_at, cells_for}
 use Rattle.il_mem.specs.Blocks.{blocks}
 use Rattle.il_mem.specs.Changed.{value_put}
+use Rattle.il_mem.specs.Found.{found}
 use Rattle.il_mem.specs.Places.{Gives}
-use Rattle.il_mem.proofs.BlocksLemmas.{same_count, gives, gives_nothing, put_made, put_past}
+use Rattle.il_mem.proofs.BlocksLemmas.{same_count, gives_nothing, put_made, put_none}
+use Rattle.il_mem.proofs.FoundLemmas.{numbered_set, gives_set, was_made, block_missing}
 use Rattle.il_mem.proofs.memory.BlockMemory.store_place.Goals as goal
 
-pub returns-then-place-self-clause-gives : goal.returns-then-place-self-clause-gives
-returns-then-place-self-clause-gives c =
-    let P = λ (m : Memory).
-    Gives (option_and_then (write_at m c.args.place.block c.args.place.offset) (cells_for c.args.count c.args.value)) m
-    (blocks (get nat_cmp c.store_at.new.live) 0 c.self.inside.made) c.store_at.result in
-    subst P c.self.view_is
-    (gives (value_put c.args.place.offset c.args.count c.args.value) c.self.inside.live c.store_at.new.live c.self.inside.made c.args.place.block
-    c.store_at.result _ c.store_at.ensures
-    (put_made (get nat_cmp c.self.inside.live) c.self.inside.made c.args.place.block c.args.place.offset (cells_for c.args.count c.args.value) c.if-place-self.true))
+pub invariant_of-self : goal.invariant_of-self
+invariant_of-self c =
+    numbered_set c.self.inside.numbers.items c.self.inside.live.items (slice_set c.self.inside.live.items c.in-Some.at c.store_block.new.block) c.self.inside.made
+    (length-set c.self.inside.live.items c.in-Some.at c.store_block.new.block) c.self.invariant
 
-pub returns-else-place-self-clause-gives : goal.returns-else-place-self-clause-gives
-returns-else-place-self-clause-gives c =
+pub returns-in-Some-clause-gives : goal.returns-in-Some-clause-gives
+returns-in-Some-clause-gives c =
     let P = λ (m : Memory).
-    Gives (option_and_then (write_at m c.args.place.block c.args.place.offset) (cells_for c.args.count c.args.value)) m m false in
+    Gives (option_and_then (write_at m c.args.place.block c.args.place.offset) (cells_for (byte_count c.args.size) c.args.value)) m
+    (blocks (found c.self.inside.numbers.items (slice_set c.self.inside.live.items c.in-Some.at c.store_block.new.block)) 0 c.self.inside.made) c.store_block.result in
     subst P c.self.view_is
-    (gives_nothing _ _
-    (put_past (get nat_cmp c.self.inside.live) c.self.inside.made c.args.place.block c.args.place.offset (cells_for c.args.count c.args.value) (omega arith)))
+    (gives_set (value_put c.args.place.offset (byte_count c.args.size) c.args.value) c.as_slice.result.now c.self.inside.numbers.items c.self.inside.live.items c.self.inside.made
+    c.args.place.block c.in-Some.at c.index_mut.result.now c.store_block.new.block c.store_block.result _
+    c.as_slice.ensures.value c.self.invariant c.in-Some.ensures c.index_mut.ensures.value c.store_block.ensures
+    (put_made (found c.self.inside.numbers.items c.self.inside.live.items) c.self.inside.made c.args.place.block c.args.place.offset (cells_for (byte_count c.args.size) c.args.value)
+    (was_made c.as_slice.result.now c.self.inside.numbers.items c.self.inside.live.items c.self.inside.made c.args.place.block c.in-Some.at c.as_slice.ensures.value c.self.invariant c.in-Some.ensures)))
 
-pub returns-then-place-self-clause-made : goal.returns-then-place-self-clause-made
-returns-then-place-self-clause-made c =
-    same_count (get nat_cmp c.self.inside.live) (get nat_cmp c.store_at.new.live) c.self.inside.made c.args.self.now c.self.view_is
+pub returns-in-None-clause-gives : goal.returns-in-None-clause-gives
+returns-in-None-clause-gives c =
+    gives_nothing _ _
+    (put_none c.args.self.now c.args.place.block c.args.place.offset (cells_for (byte_count c.args.size) c.args.value)
+    (block_missing c.as_slice.result.now c.self.inside.numbers.items c.self.inside.live.items c.self.inside.made c.args.place.block c.args.self.now
+    c.as_slice.ensures.value c.self.invariant c.in-None.ensures c.self.view_is))
+
+pub returns-in-Some-clause-made : goal.returns-in-Some-clause-made
+returns-in-Some-clause-made c =
+    same_count (found c.self.inside.numbers.items c.self.inside.live.items)
+    (found c.self.inside.numbers.items (slice_set c.self.inside.live.items c.in-Some.at c.store_block.new.block)) c.self.inside.made c.args.self.now c.self.view_is
