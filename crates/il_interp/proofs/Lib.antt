@@ -12,3 +12,5 @@ pub mod LabelLemmas
 pub mod SlotLemmas
 pub mod RowLemmas
 pub mod HopLemmas
+pub mod AccessLemmas
+pub mod FreeLemmas

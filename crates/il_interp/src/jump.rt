@@ -156,12 +156,14 @@ fn enter(
     }
 }
 
-/// Makes blocks of memory dead.
+/// Makes blocks of memory dead, the one that was made last first.
 fn free_all(memory: &mut BlockMemory, blocks: &[u128])
     ensures { memory.new ≡ free_all memory.old blocks.now }
 {
-    for block in blocks {
-        memory.free(*block);
+    let mut left = blocks.len();
+    while left > 0 {
+        left -= 1;
+        memory.free(blocks[left]);
     }
 }
 

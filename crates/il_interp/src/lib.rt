@@ -22,6 +22,7 @@
 //! `smallvec` for the arguments of a call, and on `thiserror` for the texts of refusals.
 #![tactic(auto)]
 
+mod accesses;
 mod call;
 mod edges;
 pub mod error;

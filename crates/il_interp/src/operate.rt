@@ -3,7 +3,7 @@ ghost use Rattle.std.specs.Prelude.{◌≡◌, ◌<◌, ◌^◌};
 ghost use Rattle.std.specs.Option.{option_and_then};
 ghost use Rattle.il_ast.specs.declared.operation.Class.TheVariants.{W};
 ghost use Rattle.il_ast.specs.Values.{byte_count, in_place};
-ghost use Rattle.il_ast.specs.Operations.{operand_class, left_class, right_class, on_integers, extension_bytes, widened, operate_one, operate_two};
+ghost use Rattle.il_ast.specs.Operations.{operand_class, left_class, right_class, on_integers, extension_bytes, extended, widened, operate_one, operate_two};
 ghost use Rattle.il_interp.specs.Negated.{negated};
 ghost use Rattle.il_interp.specs.Operands.{FitsPlace};
 
@@ -104,15 +104,23 @@ fn widened(extension: Extension, class: Class, value: Value) -> Option<Value>
     ensures { result ≡ widened extension class value }
 {
     match value {
-        Value::Integer(n) => Some(Value::Integer(match class {
-            Class::W => u64::from(to_word(extension, n)),
-            Class::L => to_long(extension, n),
-        })),
+        Value::Integer(n) => Some(Value::Integer(extended(extension, class, n))),
         Value::Pointer { .. } | Value::Function(_) => None,
     }
 }
 
-fn extension_size(extension: Extension) -> Size
+/// The low bits of a number, widened to a class.
+pub(crate) fn extended(extension: Extension, class: Class, number: u64) -> u64
+    ensures { result ≡ extended extension class number }
+{
+    match class {
+        Class::W => u64::from(to_word(extension, number)),
+        Class::L => to_long(extension, number),
+    }
+}
+
+/// The size that an extension widens.
+pub(crate) fn extension_size(extension: Extension) -> Size
     ensures { byte_count result ≡ extension_bytes extension }
 {
     match extension {

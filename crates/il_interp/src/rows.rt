@@ -5,10 +5,10 @@ ghost use Rattle.il_ast.specs.Start.{globals_of};
 ghost use Rattle.obj_link.specs.ProgramOf.{program};
 ghost use Rattle.il_interp.specs.Rows.{held, Does, GoesOn};
 
-use crate::numbers;
 use crate::operand::operand;
 use crate::operate::{operate_one, operate_two};
 use crate::slots::Slots;
+use crate::{accesses, numbers};
 use il_ast::instruction::{Inst, Lined};
 use il_ast::operand::{Dest, Val};
 use il_ast::operation::{BinaryOp, Class, Size, UnaryOp};
@@ -16,9 +16,10 @@ use il_mem::memory::BlockMemory;
 use il_types::classes::{left_class, operand_class, right_class, stored_class};
 use obj_link::linking::linked::Linked;
 
-/// `to = op value`. Answers whether it was done: not where it is undefined.
+/// `to = op value`, of any value. Answers whether it was done: not where it is undefined.
+#[inline(never)]
 #[tactic(auto, unfolding(il_ast::specs::Effect::inst_effect))]
-fn unary(
+fn on_value(
     linked: &Linked<'_>,
     text: usize,
     temps: &mut Slots,
@@ -38,6 +39,25 @@ fn unary(
             None => false,
         },
         None => false,
+    }
+}
+
+/// `to = op value`. Answers whether it was done: not where it is undefined.
+fn unary(
+    linked: &Linked<'_>,
+    text: usize,
+    temps: &mut Slots,
+    memory: &BlockMemory,
+    to: &Dest,
+    op: &UnaryOp,
+    value: &Val,
+) -> bool
+    ensures { MatchBool result (Does (globals_of (program linked.now) text) (held temps.old memory.now) (Unary to.now op.now value.now) (held temps.new memory.now)) (temps.new ≡ temps.old) }
+{
+    if accesses::load(temps, memory, to, op, value) {
+        true
+    } else {
+        on_value(linked, text, temps, memory, to, *op, *value)
     }
 }
 
@@ -84,16 +104,17 @@ fn binary(
 ) -> bool
     ensures { MatchBool result (Does (globals_of (program linked.now) text) (held temps.old memory.now) (Binary to.now op.now left.now right.now) (held temps.new memory.now)) (temps.new ≡ temps.old) }
 {
-    if numbers::binary(temps, to, op, left, right) {
+    if numbers::binary(temps, to, op, left, right) || accesses::add(temps, to, op, left, right) {
         true
     } else {
         on_values(linked, text, temps, memory, to, *op, *left, *right)
     }
 }
 
-/// `store value, at`. Answers whether it was done: not where it is undefined.
+/// `store value, at`, of any value. Answers whether it was done: not where it is undefined.
+#[inline(never)]
 #[tactic(auto, unfolding(il_ast::specs::Effect::inst_effect))]
-fn store(
+fn store_value(
     linked: &Linked<'_>,
     text: usize,
     temps: &Slots,
@@ -110,6 +131,25 @@ fn store(
             None => false,
         },
         None => false,
+    }
+}
+
+/// `store value, at`. Answers whether it was done: not where it is undefined.
+fn store(
+    linked: &Linked<'_>,
+    text: usize,
+    temps: &Slots,
+    memory: &mut BlockMemory,
+    size: &Size,
+    value: &Val,
+    at: &Val,
+) -> bool
+    ensures { MatchBool result (Does (globals_of (program linked.now) text) (held temps.now memory.old) (Store size.now value.now at.now) (held temps.now memory.new)) (memory.new ≡ memory.old) }
+{
+    if accesses::store(temps, memory, size, value, at) {
+        true
+    } else {
+        store_value(linked, text, temps, memory, *size, *value, *at)
     }
 }
 
@@ -130,8 +170,8 @@ fn instruction(
             left,
             right,
         } => binary(linked, text, temps, memory, to, op, left, right),
-        Inst::Unary { to, op, value } => unary(linked, text, temps, memory, to, *op, *value),
-        Inst::Store { size, value, at } => store(linked, text, temps, memory, *size, *value, *at),
+        Inst::Unary { to, op, value } => unary(linked, text, temps, memory, to, op, value),
+        Inst::Store { size, value, at } => store(linked, text, temps, memory, size, value, at),
         Inst::Alloc { .. } | Inst::Blit { .. } | Inst::Call { .. } => false,
     }
 }

@@ -1,8 +1,8 @@
 //! The values of an activation's temporaries.
-ghost use Rattle.std.specs.Prelude.{◌≡◌, ◌+◌, length, replicate, slice_get, slice_set, Some, None, IfOk, IfSome};
+ghost use Rattle.std.specs.Prelude.{◌≡◌, ◌+◌, ◌*◌, ◌^◌, length, replicate, slice_get, slice_set, Some, None, IfOk, IfSome, MatchBool};
 ghost use Rattle.std.specs.Option.{option_flatten};
-ghost use Rattle.il_ast.specs.declared.value.Value.TheVariants.{Integer as IntegerValue};
-ghost use Rattle.il_interp.specs.Slots.{value_in};
+ghost use Rattle.il_ast.specs.declared.value.Value.TheVariants.{Integer as IntegerValue, Pointer as PointerValue};
+ghost use Rattle.il_interp.specs.Slots.{value_in, Moves};
 
 use il_ast::value::{Callee, Value};
 use std::alloc::{AllocError, Global};
@@ -31,6 +31,13 @@ fn slot_of(value: Value) -> Slot
     }
 }
 
+/// The number of a block by its two halves.
+fn joined(high: u64, low: u64) -> u128
+    ensures { result ≡ high * 2 ^ 64 + low }
+{
+    u128::from(high) * 0x1_0000_0000_0000_0000 + u128::from(low)
+}
+
 fn value_in(slot: Slot) -> Option<Value>
     ensures { result ≡ value_in slot }
 {
@@ -38,7 +45,7 @@ fn value_in(slot: Slot) -> Option<Value>
         Slot::Unassigned => None,
         Slot::Integer(number) => Some(Value::Integer(number)),
         Slot::Pointer { high, low, offset } => Some(Value::Pointer {
-            block: u128::from(high) * 0x1_0000_0000_0000_0000 + u128::from(low),
+            block: joined(high, low),
             offset,
         }),
         Slot::Function(callee) => Some(Value::Function(callee)),
@@ -93,6 +100,17 @@ impl Slots {
         }
     }
 
+    /// The block and the offset that a temporary points to, if it holds a pointer.
+    #[tactic(auto, using(crate::proofs::ListLemmas::mapped))]
+    pub fn pointer(&self, at: usize) -> Option<(u128, u64)>
+        ensures { IfSome result (λ place. option_flatten (slice_get self.now at) ≡ Some (PointerValue place.0 place.1)) }
+    {
+        match self.slots.get(at) {
+            Some(Slot::Pointer { high, low, offset }) => Some((joined(*high, *low), *offset)),
+            _ => None,
+        }
+    }
+
     /// Assigns a temporary; nothing changes where there is none of this number.
     pub fn set(&mut self, at: usize, value: Value)
         ensures { self.new ≡ slice_set self.old at (Some value) }
@@ -105,6 +123,21 @@ impl Slots {
         ensures { self.new ≡ slice_set self.old at (Some (IntegerValue number)) }
     {
         self.put(at, Slot::Integer(number));
+    }
+
+    /// Assigns a temporary the pointer of another one, moved on by so many bytes, if that one holds a
+    /// pointer. Answers whether it did.
+    pub fn set_moved(&mut self, to: usize, from: usize, by: u64) -> bool
+        ensures { MatchBool result (Moves self.old from by to self.new) (self.new ≡ self.old) }
+    {
+        match self.slots.get(from).copied() {
+            Some(Slot::Pointer { high, low, offset }) => {
+                let offset = offset.wrapping_add(by);
+                self.put(to, Slot::Pointer { high, low, offset });
+                true
+            }
+            _ => false,
+        }
     }
 
     #[tactic(auto, using(crate::proofs::SlotLemmas::put, crate::proofs::SlotLemmas::behind))]
