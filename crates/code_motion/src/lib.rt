@@ -12,7 +12,7 @@
 //! any more then: both may have one place, and no copy is made (`*p++`). Which sums, and how far, is a guess (`later::choice`); what is put off is tested at each line that
 //! it goes over, which may name nothing that it writes and write nothing that it reads (`specs/Later`). Until it is done, its register alone may hold something else.
 //!
-//! The crate stands on `vcode` for the code, and for the guess on `flow` for loops and on `cfg_live` for what lines write.
+//! The crate stands on `vcode` for the code, and for the guess on `flow` for loops, on `cfg_live` for what lines write, and on `sign_extensions` for registers that hold whole words.
 #![tactic(auto)]
 
 pub mod choice;

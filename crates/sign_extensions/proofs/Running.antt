@@ -82,7 +82,7 @@ called_whole marks memory next values d args (Some (Integer k)) vs o h all may =
 called_whole marks memory next values d args (Some (Pointer b k)) vs o h all may = absurd may
 called_whole marks memory next values d args None vs o h all may = absurd may
 
-line_whole : (marks : List Bool) (globals : List Value) (memory next : Memory) (values : Values ℕ) (l : Line ℕ) (o : Option Value) → keeps_marks marks l ≡ true → AreWhole marks values → MayLeave memory (act globals memory values l) o next
+pub line_whole : (marks : List Bool) (globals : List Value) (memory next : Memory) (values : Values ℕ) (l : Line ℕ) (o : Option Value) → keeps_marks marks l ≡ true → AreWhole marks values → MayLeave memory (act globals memory values l) o next
     → AreWhole marks (written (line_writes l) o values)
 line_whole marks globals memory next values (Tick turn w) o h all may = all
 line_whole marks globals memory next values (Set to a) o h all may =
@@ -267,7 +267,7 @@ module _ (marks : List Bool) (v w : Code ℕ) where
   block_follows (l ∷ lines) j h =
       let s = and_parts (keeps_marks marks l) (list_all (keeps_marks marks) lines) h in Both (line_beside marks l s.0) (block_follows lines j s.1)
 
-bound_whole : (marks : List Bool) (values : Values ℕ) (params : List (Destination ℕ)) (args : List Value) → list_all (takes_whole marks) params ≡ true → AreWhole marks values → AreWhole marks (bound virtual values params args)
+pub bound_whole : (marks : List Bool) (values : Values ℕ) (params : List (Destination ℕ)) (args : List Value) → list_all (takes_whole marks) params ≡ true → AreWhole marks values → AreWhole marks (bound virtual values params args)
 bound_whole marks values [] args h all = all
 bound_whole marks values (d ∷ params) [] h all = all
 bound_whole marks values (d ∷ params) (v ∷ args) h all =

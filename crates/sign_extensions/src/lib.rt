@@ -13,4 +13,4 @@
 
 pub mod copies;
 mod lines;
-mod marks;
+pub mod marks;

@@ -1,11 +1,13 @@
 -- What is linear in a register that grows, and words that grow as longs do: for all values, known or not.
-use Rattle.std.proofs.Common.{◌≡◌, ℕ, ◌+◌, ◌-◌, ◌*◌, ◌%◌, ◌^◌, ◌<◌, ◌≤◌, Bool, true, false, ◌||◌, nat_lt, nat_le, Option, Some, None, refl, sym, ◌∙◌, ap, subst, arith}
-use Rattle.std.specs.Prelude.{int_lt}
+use Rattle.std.proofs.Common.{◌≡◌, ◌≢◌, ℕ, ◌+◌, ◌-◌, ◌*◌, ◌%◌, ◌^◌, ◌<◌, ◌≤◌, Bool, true, false, ◌||◌, nat_eq, nat_lt, nat_le, Option, Some, None, refl, sym, ◌∙◌, ap, subst, arith}
+use Rattle.std.specs.Prelude.{ℤ, int_lt, int_le}
 use Rattle.std.specs.Int.{w32, w64, cast_signed, cast_unsigned}
 use Rattle.std.proofs.lemmas.Bool.{eqb-true, eq-eqb}
 use Rattle.std.proofs.lemmas.Bool.Decides.{nat_tests}
 use Rattle.std.proofs.lemmas.Int.{ints}
 use Rattle.std.proofs.lemmas.Nat.{mul-mod_first, mul-mod_second}
+use Rattle.il_ast.specs.declared.operation.Class.{Class}
+use Rattle.il_ast.specs.declared.operation.Class.TheVariants.{W, L}
 use Rattle.il_ast.specs.declared.value.Value.{Value}
 use Rattle.il_ast.specs.declared.value.Value.TheVariants.{Integer, Pointer, Function}
 use Rattle.il_ast.specs.Memory.{Memory}
@@ -18,6 +20,7 @@ use Rattle.vcode.specs.Operations.{operate}
 use Rattle.vcode.specs.Step.{operated}
 use Rattle.value_numbering.specs.Known.{linear, grows}
 use Rattle.value_numbering.specs.Steps.{stands, further, behind}
+use Rattle.value_numbering.specs.Reused.{before, next, is_least, is_most}
 use Rattle.il_ast.proofs.Wrapping.{further_sum}
 use Rattle.rv_isa.proofs.RangeLemmas.{word_value_fits}
 
@@ -175,39 +178,83 @@ grown_word m o n h = subst IsWord (sym (grown_same m o n h)) (word_given m Addw 
 
 -- ---- words that are less than others
 
--- as words
-abbrev pub Less : Option Value → Option Value → Type 0
-Less (Some (Integer a)) (Some (Integer b)) = int_lt (cast_signed w32 (a % 2 ^ 32)) (cast_signed w32 (b % 2 ^ 32)) ≡ true
-Less a b = ⊥
+-- as signed numbers of the class
+abbrev pub is_less : Class → (a b : ℕ) → Bool
+is_less W a b = int_lt (cast_signed w32 (a % 2 ^ 32)) (cast_signed w32 (b % 2 ^ 32))
+is_less L a b = int_lt (cast_signed w64 a) (cast_signed w64 b)
 
--- as longs, if they are numbers
-abbrev pub LessLong : Option Value → Option Value → Type 0
-LessLong (Some (Integer a)) (Some (Integer b)) = int_lt (cast_signed w64 a) (cast_signed w64 b) ≡ true
-LessLong (Some (Integer a)) None = ⊥
-LessLong a b = Unit {0}
+-- both are numbers, and the first is less
+pub record Less (k : Class) (u v : Option Value) : Type 0 where
+  pub left : ℕ
+  pub right : ℕ
+  pub first : u ≡ Some (Integer left)
+  pub second : v ≡ Some (Integer right)
+  pub less : is_less k left right ≡ true
+
+-- of longs, the other has to be a word too
+abbrev pub Limit : Class → Option Value → Type 0
+Limit W o = Unit {0}
+Limit L o = IsWord o
 
 one_more : (n k : ℕ) → cast_unsigned w64 (cast_signed w32 (n % 2 ^ 32)) ≡ n → k < 2 ^ 32 → int_lt (cast_signed w32 (n % 2 ^ 32)) (cast_signed w32 k) ≡ true
     → cast_unsigned w64 (cast_signed w32 ((n % 2 ^ 32 + 1) % 2 ^ 32)) ≡ (n + 1) % 2 ^ 64
 one_more n k word small less = grind (arith, ints)
 
-pub less_grows : (o p : Option Value) → IsWord o → Less o p → grows 1 o ≡ true
-less_grows (Some (Integer n)) (Some (Integer k)) word less = eq-eqb (regw_value Addw n 1) (reg_value Add n 1) (one_more n (k % 2 ^ 32) word (omega arith) less)
-less_grows (Some (Integer n)) (Some (Pointer b o)) word less = absurd less
-less_grows (Some (Integer n)) (Some (Function f)) word less = absurd less
-less_grows (Some (Integer n)) None word less = absurd less
-less_grows (Some (Pointer b o)) p word less = absurd word
-less_grows (Some (Function f)) p word less = absurd word
-less_grows None p word less = absurd less
-
 one_more_long : (n k : ℕ) → cast_unsigned w64 (cast_signed w32 (n % 2 ^ 32)) ≡ n → cast_unsigned w64 (cast_signed w32 (k % 2 ^ 32)) ≡ k → int_lt (cast_signed w64 n) (cast_signed w64 k) ≡ true
     → cast_unsigned w64 (cast_signed w32 ((n % 2 ^ 32 + 1) % 2 ^ 32)) ≡ (n + 1) % 2 ^ 64
 one_more_long n k word other less = grind (arith, ints)
 
-pub less_long_grows : (o p : Option Value) → IsWord o → IsWord p → LessLong o p → grows 1 o ≡ true
-less_long_grows (Some (Integer n)) (Some (Integer k)) word other less = eq-eqb (regw_value Addw n 1) (reg_value Add n 1) (one_more_long n k word other less)
-less_long_grows (Some (Integer n)) (Some (Pointer b o)) word other less = absurd other
-less_long_grows (Some (Integer n)) (Some (Function f)) word other less = absurd other
-less_long_grows (Some (Integer n)) None word other less = absurd less
-less_long_grows (Some (Pointer b o)) p word other less = absurd word
-less_long_grows (Some (Function f)) p word other less = absurd word
-less_long_grows None p word other less = refl
+one_less : (k n : ℕ) → cast_unsigned w64 (cast_signed w32 (n % 2 ^ 32)) ≡ n → k < 2 ^ 32 → int_lt (cast_signed w32 k) (cast_signed w32 (n % 2 ^ 32)) ≡ true
+    → cast_unsigned w64 (cast_signed w32 ((n % 2 ^ 32 + (2 ^ 64 - 1) % 2 ^ 32) % 2 ^ 32)) ≡ (n + (2 ^ 64 - 1)) % 2 ^ 64
+one_less k n word small less = grind (arith, ints)
+
+one_less_long : (k n : ℕ) → cast_unsigned w64 (cast_signed w32 (n % 2 ^ 32)) ≡ n → cast_unsigned w64 (cast_signed w32 (k % 2 ^ 32)) ≡ k → int_lt (cast_signed w64 k) (cast_signed w64 n) ≡ true
+    → cast_unsigned w64 (cast_signed w32 ((n % 2 ^ 32 + (2 ^ 64 - 1) % 2 ^ 32) % 2 ^ 32)) ≡ (n + (2 ^ 64 - 1)) % 2 ^ 64
+one_less_long k n word other less = grind (arith, ints)
+
+-- one more is the same as a word and as a long
+pub less_grows : (k : Class) (u v : Option Value) → IsWord u → Limit k v → Less k u v → grows 1 u ≡ true
+less_grows W u v word limit is =
+    subst (λ (o : Option Value). grows 1 o ≡ true) (sym is.first)
+    (eq-eqb (regw_value Addw is.left 1) (reg_value Add is.left 1) (one_more is.left (is.right % 2 ^ 32) (subst IsWord is.first word) (omega arith) is.less))
+less_grows L u v word limit is =
+    subst (λ (o : Option Value). grows 1 o ≡ true) (sym is.first)
+    (eq-eqb (regw_value Addw is.left 1) (reg_value Add is.left 1) (one_more_long is.left is.right (subst IsWord is.first word) (subst IsWord is.second limit) is.less))
+
+-- so is one less than what is more
+pub more_shrinks : (k : Class) (u v : Option Value) → IsWord v → Limit k u → Less k u v → grows (2 ^ 64 - 1) v ≡ true
+more_shrinks W u v word limit is =
+    subst (λ (o : Option Value). grows (2 ^ 64 - 1) o ≡ true) (sym is.second)
+    (eq-eqb (regw_value Addw is.right (2 ^ 64 - 1)) (reg_value Add is.right (2 ^ 64 - 1)) (one_less (is.left % 2 ^ 32) is.right (subst IsWord is.second word) (omega arith) is.less))
+more_shrinks L u v word limit is =
+    subst (λ (o : Option Value). grows (2 ^ 64 - 1) o ≡ true) (sym is.second)
+    (eq-eqb (regw_value Addw is.right (2 ^ 64 - 1)) (reg_value Add is.right (2 ^ 64 - 1)) (one_less_long is.left is.right (subst IsWord is.second word) (subst IsWord is.first limit) is.less))
+
+-- ---- numbers beside others
+
+before_word : (a n : ℕ) → nat_eq (n % 2 ^ 32) (2 ^ 31) ≡ false → int_le (cast_signed w32 (n % 2 ^ 64 % 2 ^ 32)) (cast_signed w32 (a % 2 ^ 32)) ≡ true
+    → int_lt (cast_signed w32 ((n + (2 ^ 64 - 1)) % 2 ^ 64 % 2 ^ 64 % 2 ^ 32)) (cast_signed w32 (a % 2 ^ 32)) ≡ true
+before_word a n more le = let no : n % 2 ^ 32 ≢ 2 ^ 31 = grind (arith, nat_tests) in grind (arith, ints)
+
+before_long : (a n : ℕ) → nat_eq (n % 2 ^ 64) (2 ^ 63) ≡ false → int_le (cast_signed w64 (n % 2 ^ 64)) (cast_signed w64 a) ≡ true → int_lt (cast_signed w64 ((n + (2 ^ 64 - 1)) % 2 ^ 64 % 2 ^ 64)) (cast_signed w64 a) ≡ true
+before_long a n more le = let no : n % 2 ^ 64 ≢ 2 ^ 63 = grind (arith, nat_tests) in grind (arith, ints)
+
+next_word : (a n : ℕ) → nat_eq (n % 2 ^ 32) (2 ^ 31 - 1) ≡ false → int_le (cast_signed w32 (a % 2 ^ 32)) (cast_signed w32 (n % 2 ^ 64 % 2 ^ 32)) ≡ true
+    → int_lt (cast_signed w32 (a % 2 ^ 32)) (cast_signed w32 ((n + 1) % 2 ^ 64 % 2 ^ 64 % 2 ^ 32)) ≡ true
+next_word a n less le = let no : n % 2 ^ 32 ≢ 2 ^ 31 - 1 = grind (arith, nat_tests) in grind (arith, ints)
+
+next_long : (a n : ℕ) → nat_eq (n % 2 ^ 64) (2 ^ 63 - 1) ≡ false → int_le (cast_signed w64 a) (cast_signed w64 (n % 2 ^ 64)) ≡ true → int_lt (cast_signed w64 a) (cast_signed w64 ((n + 1) % 2 ^ 64 % 2 ^ 64)) ≡ true
+next_long a n less le = let no : n % 2 ^ 64 ≢ 2 ^ 63 - 1 = grind (arith, nat_tests) in grind (arith, ints)
+
+no_less : (x y : ℤ) → int_lt x y ≡ false → int_le y x ≡ true
+no_less x y h = grind (arith, ints)
+
+-- what isn't less than a number that isn't the least is more than the one before
+pub more_than_before : (k : Class) (a n : ℕ) → is_least k n ≡ false → is_less k a (n % 2 ^ 64) ≡ false → is_less k (before n % 2 ^ 64) a ≡ true
+more_than_before W a n more least = before_word a n more (no_less (cast_signed w32 (a % 2 ^ 32)) (cast_signed w32 (n % 2 ^ 64 % 2 ^ 32)) least)
+more_than_before L a n more least = before_long a n more (no_less (cast_signed w64 a) (cast_signed w64 (n % 2 ^ 64)) least)
+
+-- what isn't more than one that isn't the most is less than the next
+pub less_than_next : (k : Class) (a n : ℕ) → is_most k n ≡ false → is_less k (n % 2 ^ 64) a ≡ false → is_less k a (next n % 2 ^ 64) ≡ true
+less_than_next W a n less most = next_word a n less (no_less (cast_signed w32 (n % 2 ^ 64 % 2 ^ 32)) (cast_signed w32 (a % 2 ^ 32)) most)
+less_than_next L a n less most = next_long a n less (no_less (cast_signed w64 (n % 2 ^ 64)) (cast_signed w64 a) most)

@@ -22,6 +22,7 @@ use Rattle.vcode.specs.Becomes.{with_these}
 use Rattle.vcode.proofs.Results.{Serves, Owed, owed_each}
 use Rattle.value_numbering.specs.declared.fact.Expression.TheVariants.{Same, Loaded}
 use Rattle.value_numbering.specs.declared.fact.Fact.{Fact}
+use Rattle.sign_extensions.specs.Whole.{are_closed}
 use Rattle.value_numbering.specs.Known.{computed, source}
 use Rattle.value_numbering.specs.Steps.{after}
 use Rattle.il_ast.specs.declared.operation.Size.{Size}
@@ -140,12 +141,12 @@ cost_less n facts l m (Again {k = k} first second) =
     let x = cost_less n facts k m second in let y = cost_less n facts l k first in at_most (line_cost m) (line_cost k) (line_cost l) x y
 cost_less n facts l m (Copy {f = f} is dear low known) = let x = dear_of l f is dear in omega (arith, x)
 
-lines_measured : (n : ℕ) (claims : List (List Fact)) (facts : List Fact) (lines new : List (Line ℕ)) (j : Jump ℕ) → AreReused n claims facts lines new j → Measured false lines new
-lines_measured n claims facts [] [] j h = Empty
-lines_measured n claims facts [] (m ∷ new) j h = absurd h
-lines_measured n claims facts (l ∷ lines) [] j h = absurd h
-lines_measured n claims facts (l ∷ lines) (m ∷ new) j h =
-    Put (measure_same n facts l m h.0) (λ e. cost_less n facts l m h.0) (lines_measured n claims (after m facts) lines new j h.1)
+lines_measured : (n : ℕ) (marks : List Bool) (claims : List (List Fact)) (facts : List Fact) (lines new : List (Line ℕ)) (j : Jump ℕ) → AreReused n marks claims facts lines new j → Measured false lines new
+lines_measured n marks claims facts [] [] j h = Empty
+lines_measured n marks claims facts [] (m ∷ new) j h = absurd h
+lines_measured n marks claims facts (l ∷ lines) [] j h = absurd h
+lines_measured n marks claims facts (l ∷ lines) (m ∷ new) j h =
+    Put (measure_same n facts l m h.0) (λ e. cost_less n facts l m h.0) (lines_measured n marks claims (after m facts) lines new j h.1)
 
 -- ---- the registers that it names
 
@@ -174,32 +175,32 @@ made_low n facts l m (Reloaded {to = to} {at = at} is) h = and_from (is_below n 
 made_low n facts l m (Again {k = k} first second) h = made_low n facts k m second (made_low n facts l k first h)
 made_low n facts l m (Copy {f = f} {r = r} is dear low known) h = and_from (is_below n f.register) (is_below n r) (writes_low n l f is h) (lt-ltb r n low)
 
-lines_low : (n : ℕ) (claims : List (List Fact)) (facts : List Fact) (lines new : List (Line ℕ)) (j : Jump ℕ) → AreReused n claims facts lines new j → list_all (line_keeps (is_below n)) lines ≡ true → list_all (line_keeps (is_below n)) new ≡ true
-lines_low n claims facts [] [] j h low = refl
-lines_low n claims facts [] (m ∷ new) j h low = absurd h
-lines_low n claims facts (l ∷ lines) [] j h low = absurd h
-lines_low n claims facts (l ∷ lines) (m ∷ new) j h low =
+lines_low : (n : ℕ) (marks : List Bool) (claims : List (List Fact)) (facts : List Fact) (lines new : List (Line ℕ)) (j : Jump ℕ) → AreReused n marks claims facts lines new j → list_all (line_keeps (is_below n)) lines ≡ true → list_all (line_keeps (is_below n)) new ≡ true
+lines_low n marks claims facts [] [] j h low = refl
+lines_low n marks claims facts [] (m ∷ new) j h low = absurd h
+lines_low n marks claims facts (l ∷ lines) [] j h low = absurd h
+lines_low n marks claims facts (l ∷ lines) (m ∷ new) j h low =
     let s = and_parts (line_keeps (is_below n) l) (list_all (line_keeps (is_below n)) lines) low in
-    and_from (line_keeps (is_below n) m) (list_all (line_keeps (is_below n)) new) (made_low n facts l m h.0 s.0) (lines_low n claims (after m facts) lines new j h.1 s.1)
+    and_from (line_keeps (is_below n) m) (list_all (line_keeps (is_below n)) new) (made_low n facts l m h.0 s.0) (lines_low n marks claims (after m facts) lines new j h.1 s.1)
 
 -- ---- the whole
 
-block_serves : (n : ℕ) (claims : List (List Fact)) (k : ℕ) (b d : Block ℕ) → IsReused n claims k b d → Serves n n b d
-block_serves n claims k b d h =
+block_serves : (n : ℕ) (marks : List Bool) (claims : List (List Fact)) (k : ℕ) (b d : Block ℕ) → IsReused n marks claims k b d → Serves n n b d
+block_serves n marks claims k b d h =
     record {
-      within = within b d (lines_measured n claims (claims_at claims k) b.lines d.lines b.jump h.1) (subst (λ (j : Jump ℕ). jump_cost j ≤ jump_cost b.jump) (sym h.0) (itself_least (jump_cost b.jump)));
+      within = within b d (lines_measured n marks claims (claims_at claims k) b.lines d.lines b.jump h.1) (subst (λ (j : Jump ℕ). jump_cost j ≤ jump_cost b.jump) (sym h.0) (itself_least (jump_cost b.jump)));
       inside = λ m e. ap (leads_inside m) h.0 ∙ e;
       names = λ e.
           let s = and_parts (list_all (line_keeps (is_below n)) b.lines) (jump_keeps (is_below n) b.jump) e in
-          and_from (list_all (line_keeps (is_below n)) d.lines) (jump_keeps (is_below n) d.jump) (lines_low n claims (claims_at claims k) b.lines d.lines b.jump h.1 s.0) (ap (jump_keeps (is_below n)) h.0 ∙ s.1);
+          and_from (list_all (line_keeps (is_below n)) d.lines) (jump_keeps (is_below n) d.jump) (lines_low n marks claims (claims_at claims k) b.lines d.lines b.jump h.1 s.0) (ap (jump_keeps (is_below n)) h.0 ∙ s.1);
     }
 
-blocks_serve : (n : ℕ) (claims : List (List Fact)) (k : ℕ) (blocks new : List (Block ℕ)) → AllReused n claims k blocks new → Each (Serves n n) blocks new
-blocks_serve n claims k [] [] h = NoBlocks
-blocks_serve n claims k [] (d ∷ new) h = absurd h
-blocks_serve n claims k (b ∷ blocks) [] h = absurd h
-blocks_serve n claims k (b ∷ blocks) (d ∷ new) h = OneMore (block_serves n claims k b d h.0) (blocks_serve n claims (k + 1) blocks new h.1)
+blocks_serve : (n : ℕ) (marks : List Bool) (claims : List (List Fact)) (k : ℕ) (blocks new : List (Block ℕ)) → AllReused n marks claims k blocks new → Each (Serves n n) blocks new
+blocks_serve n marks claims k [] [] h = NoBlocks
+blocks_serve n marks claims k [] (d ∷ new) h = absurd h
+blocks_serve n marks claims k (b ∷ blocks) [] h = absurd h
+blocks_serve n marks claims k (b ∷ blocks) (d ∷ new) h = OneMore (block_serves n marks claims k b d h.0) (blocks_serve n marks claims (k + 1) blocks new h.1)
 
-pub owed : (v : VFunc) (claims : List (List Fact)) (new : List (Block ℕ)) → claims_at claims 0 ≡ [] → AllReused v.registers claims 0 v.code.blocks new → Owed v v.registers new
-owed v claims new nothing all =
-    owed_each v v.registers new (itself_least v.registers) (blocks_serve v.registers claims 0 v.code.blocks new all) (runs v.registers claims v.code (with_these v.code new) nothing all refl refl)
+pub owed : (v : VFunc) (marks : List Bool) (claims : List (List Fact)) (new : List (Block ℕ)) → are_closed marks v.code ≡ true → claims_at claims 0 ≡ [] → AllReused v.registers marks claims 0 v.code.blocks new → Owed v v.registers new
+owed v marks claims new closed nothing all =
+    owed_each v v.registers new (itself_least v.registers) (blocks_serve v.registers marks claims 0 v.code.blocks new all) (runs v.registers marks claims v.code (with_these v.code new) closed nothing all refl refl)

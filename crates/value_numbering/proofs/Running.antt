@@ -1,5 +1,6 @@
 -- Code that uses values again does what the code did: at each line both are in one state, of which what is known is true.
-use Rattle.std.proofs.Common.{◌≡◌, ℕ, zero, suc, ◌+◌, ◌%◌, ◌^◌, ◌<◌, Bool, true, false, not, ◌&&◌, ◌||◌, nat_eq, nat_lt, if◌then◌else◌, List, [], ◌∷◌, ◌++◌, filter, length, Option, Some, None, slice_get, refl, sym, ◌∙◌, ap, subst, arith}
+use Rattle.std.proofs.Common.{◌≡◌, ℕ, zero, suc, ◌+◌, ◌-◌, ◌%◌, ◌^◌, ◌<◌, Bool, true, false, not, ◌&&◌, ◌||◌, nat_eq, nat_lt, if◌then◌else◌, List, [], ◌∷◌, ◌++◌, filter, length, Option, Some, None, slice_get, refl, sym, ◌∙◌, ap, subst, arith}
+use Rattle.std.specs.List.{list_all}
 use Rattle.std.specs.Option.{option_and_then, option_map}
 use Rattle.std.specs.Prelude.{ℤ, int_lt, int_le}
 use Rattle.std.specs.Int.{w32, w64, cast_signed}
@@ -19,7 +20,8 @@ use Rattle.il_ast.specs.declared.operation.BinaryOp.TheVariants.{Add as SumOf, S
 use Rattle.il_ast.specs.declared.operation.Condition.{Condition}
 use Rattle.il_ast.specs.declared.operation.Condition.TheVariants.{Equal, NotEqual, SignedLessEqual, SignedLess, SignedGreaterEqual, SignedGreater, UnsignedLessEqual, UnsignedLess, UnsignedGreaterEqual, UnsignedGreater}
 use Rattle.il_ast.specs.declared.operation.Class.TheVariants.{W, L}
-use Rattle.il_ast.specs.Operations.{on_places, holds, truth, operate_two}
+use Rattle.il_ast.specs.Operations.{where_different, on_offsets, on_functions, reaches, lies_in, compare_pointers, compare_with_zero, on_places, holds, truth, operate_two}
+use Rattle.il_ast.specs.Values.{same_callee}
 use Rattle.vcode.specs.declared.place.Operand.{Operand}
 use Rattle.vcode.specs.declared.place.Operand.TheVariants.{At, Number, Name}
 use Rattle.vcode.specs.declared.line.Operation.{Operation}
@@ -51,7 +53,10 @@ use Rattle.value_numbering.specs.declared.steps.Increment.{Increment}
 use Rattle.value_numbering.specs.declared.ways.Order.{Order}
 use Rattle.value_numbering.specs.Known.{reached, linear, grows, only_if, gives, IsTrueOf, computed, names, reads, asks_memory, changes_memory, spares, stays, copied_from, source_by, source, copied, shifted_in, first_of, shifted, is_back, extended_by, grows_as, grows_in, widened, joined, canonical, is_plain, kept_fact, known_by}
 use Rattle.value_numbering.specs.Steps.{product_in, product, product_of, beyond, linear_in, linear_note, word_in, is_word, is_word_by, is_own, word_of, makes_word, word_note, noted, other_by, added_to, ahead, growth, increment_of, increment_by, further, behind, with_offset, moved_linear, moved, if_stays, with_front, carried, kept, with_fact, after}
-use Rattle.value_numbering.proofs.Counting.{number, nothing_more, whole_grows, index_grows, shift_is_product, IsWord, word_given, number_stands, word_again, grown_same, grown_word, Less, LessLong, less_grows, less_long_grows}
+use Rattle.sign_extensions.specs.Whole.{is_marked, takes_whole, keeps_marks, are_closed}
+use Rattle.sign_extensions.proofs.Values.{IfWhole, AreWhole, whole_number}
+use Rattle.sign_extensions.proofs.Running.{line_whole, bound_whole}
+use Rattle.value_numbering.proofs.Counting.{number, nothing_more, whole_grows, index_grows, shift_is_product, IsWord, word_given, number_stands, word_again, grown_same, grown_word, is_less, Less, Limit, less_grows, more_shrinks, more_than_before, less_than_next}
 use Rattle.value_numbering.proofs.Narrowing.{narrow_same}
 use Rattle.value_numbering.specs.Extensions.{other_way}
 use Rattle.value_numbering.proofs.Extending.{itself_same, reloaded_same, gives_one}
@@ -61,7 +66,7 @@ use Rattle.value_numbering.specs.Offsets.{IsOffset}
 use Rattle.value_numbering.proofs.Regrouping.{turned as sum_turned, regrouped}
 use Rattle.value_numbering.specs.Shifts.{IsHalfway}
 use Rattle.value_numbering.proofs.Shifting.{less_back}
-use Rattle.value_numbering.specs.Reused.{Holds, Found, Already, Counted, Made, Itself, Copy, Narrow, FirstRegrouped, SecondRegrouped, FirstOffset, SecondOffset, Halfway, Reloaded, Again, claims_at, order_met, order_missed, IsKnown, Listed, OfCopies, Bounded, is_limit, limits, bounds, AllKnown, LeadsWell, AreReused, AllReused}
+use Rattle.value_numbering.specs.Reused.{Holds, Found, Already, Counted, Made, Itself, Copy, Narrow, FirstRegrouped, SecondRegrouped, FirstOffset, SecondOffset, Halfway, Reloaded, Again, claims_at, order_of, before, next, is_least, is_most, at_least, at_most, order_met, order_missed, IsKnown, Listed, OfCopies, Bounded, Above, holds_word, is_limit, limits, bounds, exceeds, AllKnown, LeadsWell, AreReused, AllReused}
 use Rattle.il_ast.proofs.Truth.{equal_turned}
 
 -- ---- all facts are true
@@ -985,8 +990,9 @@ true_after globals m values l o next facts all may =
 
 -- ---- the code follows
 
-abbrev known : List (List Fact) → About
-known claims = record { Known = List Fact; hold = λ facts globals memory values. AreTrue globals memory values facts; at_start = claims_at claims }
+-- besides, marked registers hold whole words
+abbrev known : List Bool → List (List Fact) → About
+known marks claims = record { Known = List Fact; hold = λ facts globals memory values. AreTrue globals memory values facts × AreWhole marks values; at_start = claims_at claims }
 
 writes_same : (n : ℕ) (facts : List Fact) (l k : Line ℕ) → Made n facts l k → line_writes k ≡ line_writes l
 writes_same n facts l k Itself = refl
@@ -1000,39 +1006,92 @@ writes_same n facts l k (Reloaded is) = refl
 writes_same n facts l k (Again {k = j} first second) = writes_same n facts j k second ∙ writes_same n facts l j first
 writes_same n facts l k (Copy {f = f} is dear low known) = sym (computes [] [] (λ r. None) l f is).1
 
-line_follows : (claims : List (List Fact)) (n : ℕ) (facts : List Fact) (l k : Line ℕ) → Made n facts l k → Alike (claimed (known claims)) facts (after k facts) l k
-line_follows claims n facts l k made =
-    fact_line (known claims) facts (after k facts) l k (writes_same n facts l k made)
-    (λ globals memory values all works. (made_same globals memory values n facts l k all made).0)
-    (λ globals memory values all o next may.
-    subst (λ (x : Option ℕ). AreTrue globals next (written x o values) (after k facts)) (made_same globals memory values n facts l k all made).1
-    (true_after globals memory values k o next facts all (subst (λ (a : Act). MayLeave memory a o next) (sym (made_same globals memory values n facts l k all made).0) may)))
+line_follows : (marks : List Bool) (claims : List (List Fact)) (n : ℕ) (facts : List Fact) (l k : Line ℕ) → keeps_marks marks l ≡ true → Made n facts l k → Alike (claimed (known marks claims)) facts (after k facts) l k
+line_follows marks claims n facts l k keeps made =
+    fact_line (known marks claims) facts (after k facts) l k (writes_same n facts l k made)
+    (λ globals memory values all works. (made_same globals memory values n facts l k all.0 made).0)
+    (λ globals memory values all o next may. (
+      subst (λ (x : Option ℕ). AreTrue globals next (written x o values) (after k facts)) (made_same globals memory values n facts l k all.0 made).1
+          (true_after globals memory values k o next facts all.0 (subst (λ (a : Act). MayLeave memory a o next) (sym (made_same globals memory values n facts l k all.0 made).0) may)),
+      line_whole marks globals memory next values l o keeps all.1 may,
+    ))
 
 -- ---- what a jump says
 
--- where words are compared, both operands are numbers
-pub record Numbers (on : Condition) (u v : Option Value) (n : ℕ) : Type 0 where
-  pub left : ℕ
-  pub right : ℕ
-  pub first : u ≡ Some (Integer left)
-  pub second : v ≡ Some (Integer right)
-  pub answer : n ≡ truth (holds on W (left % 2 ^ 32) (right % 2 ^ 32))
+-- no two values that aren't both numbers compare so
+record Signed (on : Condition) : Type 0 where
+  apart : where_different on ≡ None
+  offsets : (o q : ℕ) → on_offsets on o q ≡ None
+  functions : (s : Bool) → on_functions on s ≡ None
 
-numbers_compared : (m : Memory) (on : Condition) (u v : Option Value) (n : ℕ) → operated m (Compare on W) u v ≡ Some (Integer n) → Numbers on u v n
+-- whether two numbers compare so as ones of the class
+abbrev compare_as : Condition → Class → (a b : ℕ) → Bool
+compare_as on W a b = holds on W (a % 2 ^ 32) (b % 2 ^ 32)
+compare_as on L a b = holds on L a b
+
+-- two values that are numbers, and whether they compare so
+record Numbers (on : Condition) (k : Class) (u v : Option Value) (n : ℕ) : Type 0 where
+  left : ℕ
+  right : ℕ
+  first : u ≡ Some (Integer left)
+  second : v ≡ Some (Integer right)
+  answer : n ≡ truth (compare_as on k left right)
+
+words_compared : (m : Memory) (on : Condition) (u v : Option Value) (n : ℕ) → operated m (Compare on W) u v ≡ Some (Integer n) → Numbers on W u v n
 unfolding operate operate_two
-numbers_compared m on (Some (Integer a)) (Some (Integer b)) n h =
+words_compared m on (Some (Integer a)) (Some (Integer b)) n h =
     record { left = a; right = b; first = refl; second = refl; answer = by (truth (holds on W (a % 2 ^ 32) (b % 2 ^ 32))) h }
   where
     by : (k : ℕ) → Some (Integer k) ≡ Some (Integer n) → n ≡ k
     by k e = cc
-numbers_compared m on (Some (Integer a)) (Some (Pointer b o)) n h = absurd (let no : ⊥ = cc in no)
-numbers_compared m on (Some (Integer a)) (Some (Function g)) n h = absurd (let no : ⊥ = cc in no)
-numbers_compared m on (Some (Integer a)) None n h = absurd (let no : ⊥ = cc in no)
-numbers_compared m on (Some (Pointer b o)) None n h = absurd (let no : ⊥ = cc in no)
-numbers_compared m on (Some (Pointer b o)) (Some v) n h = absurd (let no : ⊥ = cc in no)
-numbers_compared m on (Some (Function f)) None n h = absurd (let no : ⊥ = cc in no)
-numbers_compared m on (Some (Function f)) (Some v) n h = absurd (let no : ⊥ = cc in no)
-numbers_compared m on None v n h = absurd (let no : ⊥ = cc in no)
+words_compared m on (Some (Integer a)) (Some (Pointer b o)) n h = absurd (let no : ⊥ = cc in no)
+words_compared m on (Some (Integer a)) (Some (Function g)) n h = absurd (let no : ⊥ = cc in no)
+words_compared m on (Some (Integer a)) None n h = absurd (let no : ⊥ = cc in no)
+words_compared m on (Some (Pointer b o)) None n h = absurd (let no : ⊥ = cc in no)
+words_compared m on (Some (Pointer b o)) (Some v) n h = absurd (let no : ⊥ = cc in no)
+words_compared m on (Some (Function f)) None n h = absurd (let no : ⊥ = cc in no)
+words_compared m on (Some (Function f)) (Some v) n h = absurd (let no : ⊥ = cc in no)
+words_compared m on None v n h = absurd (let no : ⊥ = cc in no)
+
+if_none : (t : Bool) (x y : Option Bool) → x ≡ None → y ≡ None → (if t then x else y) ≡ None
+if_none true x y e f = e
+if_none false x y e f = f
+
+pointers_none : (m : Memory) (on : Condition) → Signed on → (a o b q : ℕ) → compare_pointers m on a o b q ≡ None
+pointers_none m on is a o b q =
+    if_none (nat_eq a b) (if reaches m a o && reaches m b q then on_offsets on o q else None) (if lies_in m a o && lies_in m b q then where_different on else None)
+    (if_none (reaches m a o && reaches m b q) (on_offsets on o q) None (is.offsets o q) refl) (if_none (lies_in m a o && lies_in m b q) (where_different on) None is.apart refl)
+
+zero_none : (m : Memory) (on : Condition) → Signed on → (n b o : ℕ) → compare_with_zero m on n b o ≡ None
+zero_none m on is n b o = if_none (nat_eq n 0 && reaches m b o) (where_different on) None is.apart refl
+
+never : (o : Option Bool) (n : ℕ) → o ≡ None → option_map (λ (t : Bool). Integer (truth t)) o ≡ Some (Integer n) → ⊥
+never None n e h = let no : ⊥ = cc in no
+never (Some t) n e h = let no : ⊥ = cc in no
+
+longs_compared : (m : Memory) (on : Condition) → Signed on → (u v : Option Value) (n : ℕ) → operated m (Compare on L) u v ≡ Some (Integer n) → Numbers on L u v n
+unfolding operate operate_two
+longs_compared m on is (Some (Integer a)) (Some (Integer b)) n h =
+    record { left = a; right = b; first = refl; second = refl; answer = by (truth (holds on L a b)) h }
+  where
+    by : (k : ℕ) → Some (Integer k) ≡ Some (Integer n) → n ≡ k
+    by k e = cc
+longs_compared m on is (Some (Integer a)) (Some (Pointer b o)) n h = absurd (never (compare_with_zero m on a b o) n (zero_none m on is a b o) h)
+longs_compared m on is (Some (Integer a)) (Some (Function g)) n h = absurd (let no : ⊥ = cc in no)
+longs_compared m on is (Some (Pointer b o)) (Some (Integer a)) n h = absurd (never (compare_with_zero m on a b o) n (zero_none m on is a b o) h)
+longs_compared m on is (Some (Pointer a o)) (Some (Pointer b q)) n h = absurd (never (compare_pointers m on a o b q) n (pointers_none m on is a o b q) h)
+longs_compared m on is (Some (Pointer b o)) (Some (Function g)) n h = absurd (let no : ⊥ = cc in no)
+longs_compared m on is (Some (Function f)) (Some (Integer a)) n h = absurd (let no : ⊥ = cc in no)
+longs_compared m on is (Some (Function f)) (Some (Pointer b o)) n h = absurd (let no : ⊥ = cc in no)
+longs_compared m on is (Some (Function f)) (Some (Function g)) n h = absurd (never (on_functions on (same_callee f g)) n (is.functions (same_callee f g)) h)
+longs_compared m on is (Some (Integer a)) None n h = absurd (let no : ⊥ = cc in no)
+longs_compared m on is (Some (Pointer b o)) None n h = absurd (let no : ⊥ = cc in no)
+longs_compared m on is (Some (Function f)) None n h = absurd (let no : ⊥ = cc in no)
+longs_compared m on is None v n h = absurd (let no : ⊥ = cc in no)
+
+compared : (m : Memory) (on : Condition) → Signed on → (k : Class) (u v : Option Value) (n : ℕ) → operated m (Compare on k) u v ≡ Some (Integer n) → Numbers on k u v n
+compared m on is W u v n h = words_compared m on u v n h
+compared m on is L u v n h = longs_compared m on is u v n h
 
 it_holds : (t : Bool) (n : ℕ) → n ≡ truth t → nat_eq n 0 ≡ false → t ≡ true
 it_holds true n is some = refl
@@ -1045,207 +1104,237 @@ it_fails true n is none = absurd (let no : nat_eq 1 0 ≡ true = ap (λ (k : ℕ
 not_at_most : (x y : ℤ) → int_le y x ≡ false → int_lt x y ≡ true
 not_at_most x y h = grind (arith, ints)
 
-less_of : (u v : Option Value) (a b : ℕ) → u ≡ Some (Integer a) → v ≡ Some (Integer b) → int_lt (cast_signed w32 (a % 2 ^ 32)) (cast_signed w32 (b % 2 ^ 32)) ≡ true → Less u v
-less_of u v a b e f h = subst (λ (x : Option Value). Less x v) (sym e) (subst (λ (y : Option Value). Less (Some (Integer a)) y) (sym f) h)
+no_more : (x y : ℤ) → int_le y x ≡ true → int_lt x y ≡ false
+no_more x y h = grind (arith, ints)
 
-abbrev LessOf : Class → Option Value → Option Value → Type 0
-LessOf W u v = Less u v
-LessOf L u v = LessLong u v
+-- what an order that is not strict says of the strict one
+fails_strictly : (k : Class) (a b : ℕ) → compare_as SignedLessEqual k b a ≡ false → is_less k a b ≡ true
+fails_strictly W a b h = not_at_most (cast_signed w32 (a % 2 ^ 32)) (cast_signed w32 (b % 2 ^ 32)) h
+fails_strictly L a b h = not_at_most (cast_signed w64 a) (cast_signed w64 b) h
+
+holds_weakly : (k : Class) (a b : ℕ) → compare_as SignedLessEqual k b a ≡ true → is_less k a b ≡ false
+holds_weakly W a b h = no_more (cast_signed w32 (a % 2 ^ 32)) (cast_signed w32 (b % 2 ^ 32)) h
+holds_weakly L a b h = no_more (cast_signed w64 a) (cast_signed w64 b) h
+
+as_less : (k : Class) (a b : ℕ) → compare_as SignedLess k a b ≡ is_less k a b
+as_less W a b = refl
+as_less L a b = refl
+
+as_more : (k : Class) (a b : ℕ) → compare_as SignedGreater k a b ≡ is_less k b a
+as_more W a b = refl
+as_more L a b = refl
+
+as_most : (k : Class) (a b : ℕ) → compare_as SignedGreaterEqual k a b ≡ compare_as SignedLessEqual k b a
+as_most W a b = refl
+as_most L a b = refl
 
 abbrev Ordered : List Value → Values ℕ → Option Order → Type 0
 Ordered globals values None = Unit {0}
-Ordered globals values (Some o) = LessOf o.class (value_of globals values o.less) (value_of globals values o.more)
+Ordered globals values (Some o) = Less o.class (value_of globals values o.less) (value_of globals values o.more)
 
--- longs that are compared are numbers, or it says nothing
-abbrev LongAnswer : Condition → Option Value → Option Value → ℕ → Type 0
-LongAnswer on (Some (Integer a)) (Some (Integer b)) n = n ≡ truth (holds on L a b)
-LongAnswer on (Some u) None n = ⊥
-LongAnswer on None v n = ⊥
-LongAnswer on u v n = Unit {0}
-
-long_answer : (m : Memory) (on : Condition) (u v : Option Value) (n : ℕ) → operated m (Compare on L) u v ≡ Some (Integer n) → LongAnswer on u v n
-unfolding operate operate_two
-long_answer m on (Some (Integer a)) (Some (Integer b)) n h = by (truth (holds on L a b)) h
+-- what isn't less than a number, or not more
+least_ordered : (globals : List Value) (values : Values ℕ) (k : Class) (a b : Operand ℕ) (x y : ℕ) → value_of globals values a ≡ Some (Integer x) → value_of globals values b ≡ Some (Integer y) → is_less k x y ≡ false → Ordered globals values (at_least k a b)
+least_ordered globals values k a (Number n) x y e f h = by (is_least k n) refl
   where
-    by : (k : ℕ) → Some (Integer k) ≡ Some (Integer n) → n ≡ k
-    by k e = cc
-long_answer m on (Some (Integer a)) (Some (Pointer b o)) n h = tt
-long_answer m on (Some (Integer a)) (Some (Function g)) n h = tt
-long_answer m on (Some (Pointer b o)) (Some v) n h = tt
-long_answer m on (Some (Function f)) (Some v) n h = tt
-long_answer m on (Some (Integer a)) None n h = absurd (let no : ⊥ = cc in no)
-long_answer m on (Some (Pointer b o)) None n h = absurd (let no : ⊥ = cc in no)
-long_answer m on (Some (Function f)) None n h = absurd (let no : ⊥ = cc in no)
-long_answer m on None v n h = absurd (let no : ⊥ = cc in no)
+    by : (t : Bool) → is_least k n ≡ t → Ordered globals values (if t then None else order_of k (Number (before n)) a)
+    by true t = tt
+    by false t =
+        let same : y ≡ n % 2 ^ 64 = cc in
+        record { left = before n % 2 ^ 64; right = x; first = refl; second = e; less = more_than_before k x n t (subst (λ (z : ℕ). is_less k x z ≡ false) same h) }
+least_ordered globals values k a (At r) x y e f h = tt
+least_ordered globals values k a (Name g) x y e f h = tt
 
--- the numbers of the one and of the other, where both are
-long_less : (on : Condition) (u v : Option Value) (n : ℕ) → ((a b : ℕ) → n ≡ truth (holds on L a b) → int_lt (cast_signed w64 a) (cast_signed w64 b) ≡ true) → LongAnswer on u v n → LessLong u v
-long_less on (Some (Integer a)) (Some (Integer b)) n less h = less a b h
-long_less on (Some (Integer a)) (Some (Pointer b o)) n less h = tt
-long_less on (Some (Integer a)) (Some (Function g)) n less h = tt
-long_less on (Some (Integer a)) None n less h = absurd h
-long_less on (Some (Pointer b o)) v n less h = tt
-long_less on (Some (Function f)) v n less h = tt
-long_less on None v n less h = tt
-
-long_more : (on : Condition) (u v : Option Value) (n : ℕ) → ((a b : ℕ) → n ≡ truth (holds on L a b) → int_lt (cast_signed w64 b) (cast_signed w64 a) ≡ true) → LongAnswer on u v n → LessLong v u
-long_more on (Some (Integer a)) (Some (Integer b)) n more h = more a b h
-long_more on (Some (Pointer c o)) (Some (Integer b)) n more h = tt
-long_more on (Some (Function g)) (Some (Integer b)) n more h = tt
-long_more on None (Some (Integer b)) n more h = absurd h
-long_more on u (Some (Pointer b o)) n more h = tt
-long_more on u (Some (Function f)) n more h = tt
-long_more on u None n more h = tt
-
-abbrev comparing : List Value → Memory → Values ℕ → Condition → Class → (a b : Operand ℕ) → Option Value
-comparing globals m values on k a b = operated m (Compare on k) (value_of globals values a) (value_of globals values b)
-
-met_true : (globals : List Value) (m : Memory) (values : Values ℕ) (on : Condition) (k : Class) (a b : Operand ℕ) (n : ℕ) → comparing globals m values on k a b ≡ Some (Integer n) → nat_eq n 0 ≡ false → Ordered globals values (order_met on k a b)
-met_true globals m values SignedLess W a b n h some =
-    let is = numbers_compared m SignedLess (value_of globals values a) (value_of globals values b) n h in
-    less_of (value_of globals values a) (value_of globals values b) is.left is.right is.first is.second (it_holds (int_lt (cast_signed w32 (is.left % 2 ^ 32)) (cast_signed w32 (is.right % 2 ^ 32))) n is.answer some)
-met_true globals m values SignedGreater W a b n h some =
-    let is = numbers_compared m SignedGreater (value_of globals values a) (value_of globals values b) n h in
-    less_of (value_of globals values b) (value_of globals values a) is.right is.left is.second is.first (it_holds (int_lt (cast_signed w32 (is.right % 2 ^ 32)) (cast_signed w32 (is.left % 2 ^ 32))) n is.answer some)
-met_true globals m values SignedLess L a b n h some =
-    long_less SignedLess (value_of globals values a) (value_of globals values b) n (λ x y e. it_holds (int_lt (cast_signed w64 x) (cast_signed w64 y)) n e some) (long_answer m SignedLess (value_of globals values a) (value_of globals values b) n h)
-met_true globals m values SignedGreater L a b n h some =
-    long_more SignedGreater (value_of globals values a) (value_of globals values b) n (λ x y e. it_holds (int_lt (cast_signed w64 y) (cast_signed w64 x)) n e some) (long_answer m SignedGreater (value_of globals values a) (value_of globals values b) n h)
-met_true globals m values Equal k a b n h some = tt
-met_true globals m values NotEqual k a b n h some = tt
-met_true globals m values SignedLessEqual k a b n h some = tt
-met_true globals m values SignedGreaterEqual k a b n h some = tt
-met_true globals m values UnsignedLessEqual k a b n h some = tt
-met_true globals m values UnsignedLess k a b n h some = tt
-met_true globals m values UnsignedGreaterEqual k a b n h some = tt
-met_true globals m values UnsignedGreater k a b n h some = tt
-
-missed_true : (globals : List Value) (m : Memory) (values : Values ℕ) (on : Condition) (k : Class) (a b : Operand ℕ) (n : ℕ) → comparing globals m values on k a b ≡ Some (Integer n) → nat_eq n 0 ≡ true → Ordered globals values (order_missed on k a b)
-missed_true globals m values SignedGreaterEqual W a b n h none =
-    let is = numbers_compared m SignedGreaterEqual (value_of globals values a) (value_of globals values b) n h in
-    let x = cast_signed w32 (is.left % 2 ^ 32) in
-    let y = cast_signed w32 (is.right % 2 ^ 32) in
-    less_of (value_of globals values a) (value_of globals values b) is.left is.right is.first is.second (not_at_most x y (it_fails (int_le y x) n is.answer none))
-missed_true globals m values SignedLessEqual W a b n h none =
-    let is = numbers_compared m SignedLessEqual (value_of globals values a) (value_of globals values b) n h in
-    let x = cast_signed w32 (is.left % 2 ^ 32) in
-    let y = cast_signed w32 (is.right % 2 ^ 32) in
-    less_of (value_of globals values b) (value_of globals values a) is.right is.left is.second is.first (not_at_most y x (it_fails (int_le x y) n is.answer none))
-missed_true globals m values SignedGreaterEqual L a b n h none =
-    long_less SignedGreaterEqual (value_of globals values a) (value_of globals values b) n (λ x y e. not_at_most (cast_signed w64 x) (cast_signed w64 y) (it_fails (int_le (cast_signed w64 y) (cast_signed w64 x)) n e none))
-    (long_answer m SignedGreaterEqual (value_of globals values a) (value_of globals values b) n h)
-missed_true globals m values SignedLessEqual L a b n h none =
-    long_more SignedLessEqual (value_of globals values a) (value_of globals values b) n (λ x y e. not_at_most (cast_signed w64 y) (cast_signed w64 x) (it_fails (int_le (cast_signed w64 x) (cast_signed w64 y)) n e none))
-    (long_answer m SignedLessEqual (value_of globals values a) (value_of globals values b) n h)
-missed_true globals m values Equal k a b n h none = tt
-missed_true globals m values NotEqual k a b n h none = tt
-missed_true globals m values SignedLess k a b n h none = tt
-missed_true globals m values SignedGreater k a b n h none = tt
-missed_true globals m values UnsignedLessEqual k a b n h none = tt
-missed_true globals m values UnsignedLess k a b n h none = tt
-missed_true globals m values UnsignedGreaterEqual k a b n h none = tt
-missed_true globals m values UnsignedGreater k a b n h none = tt
-
-limit_true : (globals : List Value) (m : Memory) (values : Values ℕ) (facts : List Fact) → AreTrue globals m values facts → (a : Operand ℕ) → is_limit facts a ≡ true → IsWord (value_of globals values a)
-limit_true globals m values facts all (At r) h = word_true globals m values facts all r h
-limit_true globals m values facts all (Number n) h = number_stands n h
-limit_true globals m values facts all (Name g) h = absurd (let no : ⊥ = cc in no)
-
-bounds_true : (globals : List Value) (m : Memory) (values : Values ℕ) (facts : List Fact) → AreTrue globals m values facts → (order : Option Order) (r : ℕ) → Ordered globals values order → bounds facts order r ≡ true → IsWord (values r) → grows 1 (values r) ≡ true
-bounds_true globals m values facts all None r order h word = absurd (let no : ⊥ = cc in no)
-bounds_true globals m values facts all (Some o) r order h word =
-    let s = and_parts (names r o.less) (limits facts o.class o.more) h in
-    by o.class (subst (λ (v : Option Value). LessOf o.class v (value_of globals values o.more)) (same o.less s.0) order) s.1
+most_ordered : (globals : List Value) (values : Values ℕ) (k : Class) (a b : Operand ℕ) (x y : ℕ) → value_of globals values a ≡ Some (Integer x) → value_of globals values b ≡ Some (Integer y) → is_less k y x ≡ false → Ordered globals values (at_most k a b)
+most_ordered globals values k a (Number n) x y e f h = by (is_most k n) refl
   where
-    same : (a : Operand ℕ) → names r a ≡ true → value_of globals values a ≡ values r
-    same (At q) h = ap values (eqb-true q r h)
-    same (Number n) h = absurd (let no : ⊥ = cc in no)
-    same (Name g) h = absurd (let no : ⊥ = cc in no)
+    by : (t : Bool) → is_most k n ≡ t → Ordered globals values (if t then None else order_of k a (Number (next n)))
+    by true t = tt
+    by false t =
+        let same : y ≡ n % 2 ^ 64 = cc in
+        record { left = x; right = next n % 2 ^ 64; first = e; second = refl; less = less_than_next k x n t (subst (λ (z : ℕ). is_less k z x ≡ false) same h) }
+most_ordered globals values k a (At r) x y e f h = tt
+most_ordered globals values k a (Name g) x y e f h = tt
 
-    by : (k : Class) → LessOf k (values r) (value_of globals values o.more) → limits facts k o.more ≡ true → grows 1 (values r) ≡ true
-    by W less h = less_grows (values r) (value_of globals values o.more) word less
-    by L less h = less_long_grows (values r) (value_of globals values o.more) word (limit_true globals m values facts all o.more h) less
+module _ (globals : List Value) (m : Memory) (values : Values ℕ) (k : Class) (a b : Operand ℕ) where
+  abbrev comparing : Condition → Option Value
+  comparing on = operated m (Compare on k) (value_of globals values a) (value_of globals values b)
 
-is_true : (globals : List Value) (m : Memory) (values : Values ℕ) (facts : List Fact) (order : Option Order) (f : Fact) → AreTrue globals m values facts → Ordered globals values order → IsKnown facts order f → IsTrueOf globals m values f
-is_true globals m values facts order f all holds (Listed is) = true_at globals m values facts is.0 f all is.1
-is_true globals m values facts order f all holds (OfCopies {r = r} {e = e} is) =
-    sym (canonical_same globals m values facts all e) ∙ true_at globals m values facts is.0 (record { register = r; value = canonical facts e }) all is.1
-is_true globals m values facts order f all holds (Bounded {r = r} less word) =
-    ap (λ (b : Bool). only_if b (values r)) (bounds_true globals m values facts all order r holds less (word_true globals m values facts all r word))
+  numbers : (on : Condition) → Signed on → (n : ℕ) → comparing on ≡ Some (Integer n) → Numbers on k (value_of globals values a) (value_of globals values b) n
+  numbers on is n h = compared m on is k (value_of globals values a) (value_of globals values b) n h
 
-all_true : (globals : List Value) (m : Memory) (values : Values ℕ) (facts : List Fact) (order : Option Order) (wanted : List Fact) → AreTrue globals m values facts → Ordered globals values order → AllKnown facts order wanted → AreTrue globals m values wanted
-all_true globals m values facts order [] all holds known = tt
-all_true globals m values facts order (f ∷ wanted) all holds known =
-    (is_true globals m values facts order f all holds known.0, all_true globals m values facts order wanted all holds known.1)
+  met_true : (on : Condition) (n : ℕ) → comparing on ≡ Some (Integer n) → nat_eq n 0 ≡ false → Ordered globals values (order_met on k a b)
+  met_true SignedLess n h some =
+      let is = numbers SignedLess (record { apart = refl; offsets = λ o q. refl; functions = λ s. refl }) n h in
+      record { left = is.left; right = is.right; first = is.first; second = is.second; less = sym (as_less k is.left is.right) ∙ it_holds (compare_as SignedLess k is.left is.right) n is.answer some }
+  met_true SignedGreater n h some =
+      let is = numbers SignedGreater (record { apart = refl; offsets = λ o q. refl; functions = λ s. refl }) n h in
+      record { left = is.right; right = is.left; first = is.second; second = is.first; less = sym (as_more k is.left is.right) ∙ it_holds (compare_as SignedGreater k is.left is.right) n is.answer some }
+  met_true SignedGreaterEqual n h some =
+      let is = numbers SignedGreaterEqual (record { apart = refl; offsets = λ o q. refl; functions = λ s. refl }) n h in
+      least_ordered globals values k a b is.left is.right is.first is.second
+      (holds_weakly k is.left is.right (sym (as_most k is.left is.right) ∙ it_holds (compare_as SignedGreaterEqual k is.left is.right) n is.answer some))
+  met_true SignedLessEqual n h some =
+      let is = numbers SignedLessEqual (record { apart = refl; offsets = λ o q. refl; functions = λ s. refl }) n h in
+      most_ordered globals values k a b is.left is.right is.first is.second (holds_weakly k is.right is.left (it_holds (compare_as SignedLessEqual k is.left is.right) n is.answer some))
+  met_true Equal n h some = tt
+  met_true NotEqual n h some = tt
+  met_true UnsignedLessEqual n h some = tt
+  met_true UnsignedLess n h some = tt
+  met_true UnsignedGreaterEqual n h some = tt
+  met_true UnsignedGreater n h some = tt
 
-leads_known : (claims : List (List Fact)) (facts : List Fact) (j : Jump ℕ) → LeadsWell claims facts j → (globals : List Value) (result : Option Class) (memory : Memory) (values : Values ℕ) → AreTrue globals memory values facts
-    → Claimed (known claims) globals memory values (way globals result memory values j)
-leads_known claims facts (Goto k) leads globals result memory values all = all_true globals memory values facts None (claims_at claims k) all tt leads
-leads_known claims facts (Branch on met otherwise) leads globals result memory values all =
-    branch (comparing globals memory values on.condition on.class on.left on.right) refl
+  missed_true : (on : Condition) (n : ℕ) → comparing on ≡ Some (Integer n) → nat_eq n 0 ≡ true → Ordered globals values (order_missed on k a b)
+  missed_true SignedGreaterEqual n h none =
+      let is = numbers SignedGreaterEqual (record { apart = refl; offsets = λ o q. refl; functions = λ s. refl }) n h in
+      record {
+        left = is.left;
+        right = is.right;
+        first = is.first;
+        second = is.second;
+        less = fails_strictly k is.left is.right (sym (as_most k is.left is.right) ∙ it_fails (compare_as SignedGreaterEqual k is.left is.right) n is.answer none);
+      }
+  missed_true SignedLessEqual n h none =
+      let is = numbers SignedLessEqual (record { apart = refl; offsets = λ o q. refl; functions = λ s. refl }) n h in
+      record { left = is.right; right = is.left; first = is.second; second = is.first; less = fails_strictly k is.right is.left (it_fails (compare_as SignedLessEqual k is.left is.right) n is.answer none) }
+  missed_true SignedLess n h none =
+      let is = numbers SignedLess (record { apart = refl; offsets = λ o q. refl; functions = λ s. refl }) n h in
+      least_ordered globals values k a b is.left is.right is.first is.second (sym (as_less k is.left is.right) ∙ it_fails (compare_as SignedLess k is.left is.right) n is.answer none)
+  missed_true SignedGreater n h none =
+      let is = numbers SignedGreater (record { apart = refl; offsets = λ o q. refl; functions = λ s. refl }) n h in
+      most_ordered globals values k a b is.left is.right is.first is.second (sym (as_more k is.left is.right) ∙ it_fails (compare_as SignedGreater k is.left is.right) n is.answer none)
+  missed_true Equal n h none = tt
+  missed_true NotEqual n h none = tt
+  missed_true UnsignedLessEqual n h none = tt
+  missed_true UnsignedLess n h none = tt
+  missed_true UnsignedGreaterEqual n h none = tt
+  missed_true UnsignedGreater n h none = tt
+
+-- ---- what is known of words behind a jump
+
+named : (globals : List Value) (values : Values ℕ) (r : ℕ) (a : Operand ℕ) → names r a ≡ true → value_of globals values a ≡ values r
+named globals values r (At q) h = ap values (eqb-true q r h)
+named globals values r (Number n) h = absurd (let no : ⊥ = cc in no)
+named globals values r (Name g) h = absurd (let no : ⊥ = cc in no)
+
+module _ (globals : List Value) (m : Memory) (values : Values ℕ) (marks : List Bool) (facts : List Fact) (all : AreTrue globals m values facts) (whole : AreWhole marks values) where
+  -- a number in a register that holds words
+  word_at : (r : ℕ) → holds_word marks facts r ≡ true → (n : ℕ) → values r ≡ Some (Integer n) → IsWord (values r)
+  word_at r h n is = by (is_marked marks r) refl h
+    where
+      by : (t : Bool) → is_marked marks r ≡ t → (t || is_word facts r) ≡ true → IsWord (values r)
+      by true e k = subst IsWord (sym is) (whole_number n (subst IfWhole is (whole r e)))
+      by false e k = word_true globals m values facts all r k
+
+  word_of_limit : (a : Operand ℕ) → is_limit marks facts a ≡ true → (n : ℕ) → value_of globals values a ≡ Some (Integer n) → IsWord (value_of globals values a)
+  word_of_limit (At r) h n is = word_at r h n is
+  word_of_limit (Number k) h n is = number_stands k h
+  word_of_limit (Name g) h n is = absurd (let no : ⊥ = cc in no)
+
+  limit_true : (k : Class) (a : Operand ℕ) → limits marks facts k a ≡ true → (n : ℕ) → value_of globals values a ≡ Some (Integer n) → Limit k (value_of globals values a)
+  limit_true W a h n is = tt
+  limit_true L a h n is = word_of_limit a h n is
+
+  bounds_true : (order : Option Order) (r : ℕ) → Ordered globals values order → bounds marks facts order r ≡ true → holds_word marks facts r ≡ true → grows 1 (values r) ≡ true
+  bounds_true None r order h word = absurd (let no : ⊥ = cc in no)
+  bounds_true (Some o) r order h word =
+      let s = and_parts (names r o.less) (limits marks facts o.class o.more) h in
+      let less : Less o.class (values r) (value_of globals values o.more) = subst (λ (v : Option Value). Less o.class v (value_of globals values o.more)) (named globals values r o.less s.0) order in
+      less_grows o.class (values r) (value_of globals values o.more) (word_at r word less.left less.first) (limit_true o.class o.more s.1 less.right less.second) less
+
+  exceeds_true : (order : Option Order) (r : ℕ) → Ordered globals values order → exceeds marks facts order r ≡ true → holds_word marks facts r ≡ true → grows (2 ^ 64 - 1) (values r) ≡ true
+  exceeds_true None r order h word = absurd (let no : ⊥ = cc in no)
+  exceeds_true (Some o) r order h word =
+      let s = and_parts (names r o.more) (limits marks facts o.class o.less) h in
+      let less : Less o.class (value_of globals values o.less) (values r) = subst (λ (v : Option Value). Less o.class (value_of globals values o.less) v) (named globals values r o.more s.0) order in
+      more_shrinks o.class (value_of globals values o.less) (values r) (word_at r word less.right less.second) (limit_true o.class o.less s.1 less.left less.first) less
+
+  is_true : (order : Option Order) (f : Fact) → Ordered globals values order → IsKnown marks facts order f → IsTrueOf globals m values f
+  is_true order f holds (Listed is) = true_at globals m values facts is.0 f all is.1
+  is_true order f holds (OfCopies {r = r} {e = e} is) =
+      sym (canonical_same globals m values facts all e) ∙ true_at globals m values facts is.0 (record { register = r; value = canonical facts e }) all is.1
+  is_true order f holds (Bounded {r = r} less word) = ap (λ (b : Bool). only_if b (values r)) (bounds_true order r holds less word)
+  is_true order f holds (Above {r = r} more word) = ap (λ (b : Bool). only_if b (values r)) (exceeds_true order r holds more word)
+
+  all_true : (order : Option Order) (wanted : List Fact) → Ordered globals values order → AllKnown marks facts order wanted → AreTrue globals m values wanted
+  all_true order [] holds known = tt
+  all_true order (f ∷ wanted) holds known = (is_true order f holds known.0, all_true order wanted holds known.1)
+
+leads_known : (marks : List Bool) (claims : List (List Fact)) (facts : List Fact) (j : Jump ℕ) → LeadsWell marks claims facts j → (globals : List Value) (result : Option Class) (memory : Memory) (values : Values ℕ) → AreTrue globals memory values facts
+    → AreWhole marks values → Claimed (known marks claims) globals memory values (way globals result memory values j)
+leads_known marks claims facts (Goto k) leads globals result memory values all whole = (all_true globals memory values marks facts all whole None (claims_at claims k) tt leads, whole)
+leads_known marks claims facts (Branch on met otherwise) leads globals result memory values all whole = branch (comparing globals memory values on.class on.left on.right on.condition) refl
   where
-    branch : (o : Option Value) → comparing globals memory values on.condition on.class on.left on.right ≡ o → Claimed (known claims) globals memory values (entering met otherwise o)
+    branch : (o : Option Value) → comparing globals memory values on.class on.left on.right on.condition ≡ o → Claimed (known marks claims) globals memory values (entering met otherwise o)
     branch None e = tt
     branch (Some (Pointer b k)) e = tt
     branch (Some (Function g)) e = tt
-    branch (Some (Integer k)) e = by (nat_eq k 0) refl
+    branch (Some (Integer k)) e = (by (nat_eq k 0) refl, whole)
       where
         by : (b : Bool) → nat_eq k 0 ≡ b → AreTrue globals memory values (claims_at claims (if b then otherwise else met))
         by true t =
-            all_true globals memory values facts (order_missed on.condition on.class on.left on.right) (claims_at claims otherwise) all (missed_true globals memory values on.condition on.class on.left on.right k e t)
-            leads.1
+            all_true globals memory values marks facts all whole (order_missed on.condition on.class on.left on.right) (claims_at claims otherwise)
+            (missed_true globals memory values on.class on.left on.right on.condition k e t) leads.1
         by false t =
-            all_true globals memory values facts (order_met on.condition on.class on.left on.right) (claims_at claims met) all (met_true globals memory values on.condition on.class on.left on.right k e t) leads.0
-leads_known claims facts (Return None) leads globals result memory values all = tt
-leads_known claims facts (Return (Some a)) leads globals None memory values all = tt
-leads_known claims facts (Return (Some a)) leads globals (Some k) memory values all = answers (read_result globals values k a)
+            all_true globals memory values marks facts all whole (order_met on.condition on.class on.left on.right) (claims_at claims met)
+            (met_true globals memory values on.class on.left on.right on.condition k e t) leads.0
+leads_known marks claims facts (Return None) leads globals result memory values all whole = tt
+leads_known marks claims facts (Return (Some a)) leads globals None memory values all whole = tt
+leads_known marks claims facts (Return (Some a)) leads globals (Some k) memory values all whole = answers (read_result globals values k a)
   where
-    answers : (o : Option Value) → Claimed (known claims) globals memory values (answering o)
+    answers : (o : Option Value) → Claimed (known marks claims) globals memory values (answering o)
     answers None = tt
     answers (Some v) = tt
-leads_known claims facts Halt leads globals result memory values all = tt
+leads_known marks claims facts Halt leads globals result memory values all whole = tt
 
-module _ (n : ℕ) (claims : List (List Fact)) (v w : Code ℕ) where
-  lines_follow : (facts : List Fact) (lines new : List (Line ℕ)) (j : Jump ℕ) → AreReused n claims facts lines new j → Follows (claimed (known claims)) v w facts lines j new j
-  lines_follow facts [] [] j h =
-      Jumps (fact_jump (known claims) v.result facts j j (λ globals memory values all. refl) (λ globals memory values all. leads_known claims facts j h globals v.result memory values all))
-  lines_follow facts [] (m ∷ new) j h = absurd h
-  lines_follow facts (l ∷ lines) [] j h = absurd h
-  lines_follow facts (l ∷ lines) (m ∷ new) j h = Both (line_follows claims n facts l m h.0) (lines_follow (after m facts) lines new j h.1)
+module _ (n : ℕ) (marks : List Bool) (claims : List (List Fact)) (v w : Code ℕ) where
+  lines_follow : (facts : List Fact) (lines new : List (Line ℕ)) (j : Jump ℕ) → list_all (keeps_marks marks) lines ≡ true → AreReused n marks claims facts lines new j → Follows (claimed (known marks claims)) v w facts lines j new j
+  lines_follow facts [] [] j keeps h =
+      Jumps (fact_jump (known marks claims) v.result facts j j (λ globals memory values all. refl) (λ globals memory values all. leads_known marks claims facts j h globals v.result memory values all.0 all.1))
+  lines_follow facts [] (m ∷ new) j keeps h = absurd h
+  lines_follow facts (l ∷ lines) [] j keeps h = absurd h
+  lines_follow facts (l ∷ lines) (m ∷ new) j keeps h =
+      let s = and_parts (keeps_marks marks l) (list_all (keeps_marks marks) lines) keeps in
+      Both (line_follows marks claims n facts l m s.0 h.0) (lines_follow (after m facts) lines new j s.1 h.1)
 
-  block_follows : (from : ℕ) (blocks new : List (Block ℕ)) → AllReused n claims from blocks new → (k : ℕ) (b : Block ℕ) → slice_get blocks k ≡ Some b
-      → (d : Block ℕ) × ((slice_get new k ≡ Some d) × Follows (claimed (known claims)) v w (claims_at claims (from + k)) b.lines b.jump d.lines d.jump)
-  block_follows from [] new all k b e = absurd (let no : ⊥ = cc in no)
-  block_follows from (d ∷ blocks) [] all k b e = absurd all
-  block_follows from (d ∷ blocks) (c ∷ new) all zero b e =
+  block_follows : (from : ℕ) (blocks new : List (Block ℕ)) → list_all (λ (d : Block ℕ). list_all (keeps_marks marks) d.lines) blocks ≡ true → AllReused n marks claims from blocks new → (k : ℕ) (b : Block ℕ) → slice_get blocks k ≡ Some b
+      → (d : Block ℕ) × ((slice_get new k ≡ Some d) × Follows (claimed (known marks claims)) v w (claims_at claims (from + k)) b.lines b.jump d.lines d.jump)
+  block_follows from [] new keep all k b e = absurd (let no : ⊥ = cc in no)
+  block_follows from (d ∷ blocks) [] keep all k b e = absurd all
+  block_follows from (d ∷ blocks) (c ∷ new) keep all zero b e =
+      let own = and_parts (list_all (keeps_marks marks) d.lines) (list_all (λ (x : Block ℕ). list_all (keeps_marks marks) x.lines) blocks) keep in
       let same : d ≡ b = cc in (
         c,
         (
           refl,
-          subst (λ (i : ℕ). Follows (claimed (known claims)) v w (claims_at claims i) b.lines b.jump c.lines c.jump) (let z : from ≡ from + 0 = omega arith in z)
-              (subst (λ (x : Block ℕ). Follows (claimed (known claims)) v w (claims_at claims from) x.lines x.jump c.lines c.jump) same
-              (subst (λ (x : Jump ℕ). Follows (claimed (known claims)) v w (claims_at claims from) d.lines d.jump c.lines x) (sym all.0.0) (lines_follow (claims_at claims from) d.lines c.lines d.jump all.0.1))),
+          subst (λ (i : ℕ). Follows (claimed (known marks claims)) v w (claims_at claims i) b.lines b.jump c.lines c.jump) (let z : from ≡ from + 0 = omega arith in z)
+              (subst (λ (x : Block ℕ). Follows (claimed (known marks claims)) v w (claims_at claims from) x.lines x.jump c.lines c.jump) same
+              (subst (λ (x : Jump ℕ). Follows (claimed (known marks claims)) v w (claims_at claims from) d.lines d.jump c.lines x) (sym all.0.0) (lines_follow (claims_at claims from) d.lines c.lines d.jump own.0 all.0.1))),
         ),
       )
-  block_follows from (d ∷ blocks) (c ∷ new) all (suc k) b e =
-      let found = block_follows (from + 1) blocks new all.1 k b e in (
+  block_follows from (d ∷ blocks) (c ∷ new) keep all (suc k) b e =
+      let own = and_parts (list_all (keeps_marks marks) d.lines) (list_all (λ (x : Block ℕ). list_all (keeps_marks marks) x.lines) blocks) keep in
+      let found = block_follows (from + 1) blocks new own.1 all.1 k b e in (
         found.0,
         (
           found.1.0,
-          subst (λ (i : ℕ). Follows (claimed (known claims)) v w (claims_at claims i) b.lines b.jump found.0.lines found.0.jump) (let z : (from + 1) + k ≡ from + suc k = omega arith in z) found.1.1,
+          subst (λ (i : ℕ). Follows (claimed (known marks claims)) v w (claims_at claims i) b.lines b.jump found.0.lines found.0.jump) (let z : (from + 1) + k ≡ from + suc k = omega arith in z) found.1.1,
         ),
       )
 
-  pub runs : claims_at claims 0 ≡ [] → AllReused n claims 0 v.blocks w.blocks → w.result ≡ v.result → w.params ≡ v.params → (globals : List Value)
+  pub runs : are_closed marks v ≡ true → claims_at claims 0 ≡ [] → AllReused n marks claims 0 v.blocks w.blocks → w.result ≡ v.result → w.params ≡ v.params → (globals : List Value)
       → KeepsCode (classes_in v.params) (begin virtual v) (step virtual globals v) (begin virtual w) (step virtual globals w)
-  runs nothing all result params globals =
-      rewrites_keep (claimed (known claims)) v w
-      (facts_rewrite (known claims) v w result params (λ globals i. subst (λ (facts : List Fact). AreTrue globals i.memory (bound virtual unknown v.params i.args) facts) (sym nothing) tt) (λ k b e.
-      let found = block_follows 0 v.blocks w.blocks all k b e in (
+  runs closed nothing all result params globals =
+      let own = and_parts (list_all (takes_whole marks) v.params) (list_all (λ (d : Block ℕ). list_all (keeps_marks marks) d.lines) v.blocks) closed in
+      rewrites_keep (claimed (known marks claims)) v w
+      (facts_rewrite (known marks claims) v w result params (λ globals i. (
+        subst (λ (facts : List Fact). AreTrue globals i.memory (bound virtual unknown v.params i.args) facts) (sym nothing) tt,
+        bound_whole marks unknown v.params i.args own.0 (λ r marked. tt),
+      )) (λ k b e.
+      let found = block_follows 0 v.blocks w.blocks own.1 all k b e in (
         found.0,
         (
           found.1.0,
-          subst (λ (i : ℕ). Follows (claimed (known claims)) v w (claims_at claims i) b.lines b.jump found.0.lines found.0.jump) (let z : 0 + k ≡ k = omega arith in z) found.1.1,
+          subst (λ (i : ℕ). Follows (claimed (known marks claims)) v w (claims_at claims i) b.lines b.jump found.0.lines found.0.jump) (let z : 0 + k ≡ k = omega arith in z) found.1.1,
         ),
       )))
       globals

@@ -1,5 +1,5 @@
 -- Code in which lines that compute what a register holds are copies of it.
-use Rattle.std.specs.Prelude.{◌≡◌, ℕ, ◌+◌, ◌<◌, Bool, true, false, ◌&&◌, List, [], ◌∷◌, slice_get, Option, Some, None}
+use Rattle.std.specs.Prelude.{◌≡◌, ℕ, ◌+◌, ◌-◌, ◌%◌, ◌^◌, ◌<◌, Bool, true, false, ◌&&◌, ◌||◌, nat_eq, if◌then◌else◌, List, [], ◌∷◌, slice_get, Option, Some, None}
 use Rattle.std.specs.Option.{option_map_or}
 use Rattle.vcode.specs.declared.place.Operand.{Operand}
 use Rattle.vcode.specs.declared.place.Operand.TheVariants.{At, Number, Name}
@@ -22,6 +22,7 @@ use Rattle.il_ast.specs.declared.operation.Class.{Class}
 use Rattle.il_ast.specs.declared.operation.Condition.{Condition}
 use Rattle.il_ast.specs.declared.operation.Condition.TheVariants.{SignedLessEqual, SignedLess, SignedGreaterEqual, SignedGreater}
 use Rattle.value_numbering.specs.declared.ways.Order.{Order}
+use Rattle.sign_extensions.specs.Whole.{is_marked}
 use Rattle.value_numbering.specs.Known.{IsIn, computed, names, source, canonical}
 use Rattle.value_numbering.specs.Steps.{linear_in, stands, is_word, after}
 use Rattle.value_numbering.specs.Narrow.{IsNarrow}
@@ -70,72 +71,123 @@ claims_at claims k = option_map_or (λ (facts : List Fact). facts) (slice_get cl
 
 -- ---- what a jump says
 
+abbrev pub order_of : Class → (less more : Operand ℕ) → Option Order
+order_of k a b = Some (record { class = k; less = a; more = b })
+
+-- the number before and behind it, modulo 2^64
+abbrev pub before : ℕ → ℕ
+before n = (n + (2 ^ 64 - 1)) % 2 ^ 64
+
+abbrev pub next : ℕ → ℕ
+next n = (n + 1) % 2 ^ 64
+
+-- no signed number of the class is less, or none is more
+abbrev pub is_least : Class → ℕ → Bool
+is_least W n = nat_eq (n % 2 ^ 32) (2 ^ 31)
+is_least L n = nat_eq (n % 2 ^ 64) (2 ^ 63)
+
+abbrev pub is_most : Class → ℕ → Bool
+is_most W n = nat_eq (n % 2 ^ 32) (2 ^ 31 - 1)
+is_most L n = nat_eq (n % 2 ^ 64) (2 ^ 63 - 1)
+
+-- what is no less than a number is more than the one before it, and what is no more is less than the
+-- one behind it
+abbrev pub at_least : Class → (more least : Operand ℕ) → Option Order
+at_least k a (Number n) = if is_least k n then None else order_of k (Number (before n)) a
+at_least k a b = None
+
+abbrev pub at_most : Class → (less most : Operand ℕ) → Option Order
+at_most k a (Number n) = if is_most k n then None else order_of k a (Number (next n))
+at_most k a b = None
+
 -- which of two operands is less, as signed numbers of the class, where the comparison holds
 abbrev pub order_met : Condition → Class → (left right : Operand ℕ) → Option Order
-order_met SignedLess k a b = Some (record { class = k; less = a; more = b })
-order_met SignedGreater k a b = Some (record { class = k; less = b; more = a })
+order_met SignedLess k a b = order_of k a b
+order_met SignedGreater k a b = order_of k b a
+order_met SignedGreaterEqual k a b = at_least k a b
+order_met SignedLessEqual k a b = at_most k a b
 order_met on k a b = None
 
 -- ... where it doesn't hold
 abbrev pub order_missed : Condition → Class → (left right : Operand ℕ) → Option Order
-order_missed SignedGreaterEqual k a b = Some (record { class = k; less = a; more = b })
-order_missed SignedLessEqual k a b = Some (record { class = k; less = b; more = a })
+order_missed SignedGreaterEqual k a b = order_of k a b
+order_missed SignedLessEqual k a b = order_of k b a
+order_missed SignedLess k a b = at_least k a b
+order_missed SignedGreater k a b = at_most k a b
 order_missed on k a b = None
 
--- the operand is known to be a word that stands extended
-abbrev pub is_limit : List Fact → Operand ℕ → Bool
-is_limit facts (At r) = is_word facts r
-is_limit facts (Number n) = stands n
-is_limit facts (Name g) = false
+-- the register holds a word that stands extended: by its mark it never holds anything else, or it is
+-- known here
+abbrev pub holds_word : List Bool → List Fact → ℕ → Bool
+holds_word marks facts r = is_marked marks r || is_word facts r
 
--- what is less as a number of this class is less than a word
-abbrev pub limits : List Fact → Class → Operand ℕ → Bool
-limits facts W a = true
-limits facts L a = is_limit facts a
+-- so does the operand
+abbrev pub is_limit : List Bool → List Fact → Operand ℕ → Bool
+is_limit marks facts (At r) = holds_word marks facts r
+is_limit marks facts (Number n) = stands n
+is_limit marks facts (Name g) = false
+
+-- what is less or more as a number of this class than the operand is so than a word
+abbrev pub limits : List Bool → List Fact → Class → Operand ℕ → Bool
+limits marks facts W a = true
+limits marks facts L a = is_limit marks facts a
 
 -- the register is said to be less than a word
-abbrev pub bounds : List Fact → Option Order → ℕ → Bool
-bounds facts (Some o) r = names r o.less && limits facts o.class o.more
-bounds facts None r = false
+abbrev pub bounds : List Bool → List Fact → Option Order → ℕ → Bool
+bounds marks facts (Some o) r = names r o.less && limits marks facts o.class o.more
+bounds marks facts None r = false
 
--- the fact is known, or it is known of registers that are no copies, or a word that stands extended
--- is less than another, so that one more is no less as a word than as a long
-pub data IsKnown (facts : List Fact) (order : Option Order) : Fact → Type 0 where
-  Listed : {f : Fact} → IsIn f facts → IsKnown facts order f
-  OfCopies : {r : ℕ} {e : Expression} → IsIn (record { register = r; value = canonical facts e }) facts → IsKnown facts order (record { register = r; value = e })
-  Bounded : {r : ℕ} → bounds facts order r ≡ true → is_word facts r ≡ true → IsKnown facts order (record { register = r; value = Growing (At r) 1 })
+-- ... to be more than one
+abbrev pub exceeds : List Bool → List Fact → Option Order → ℕ → Bool
+exceeds marks facts (Some o) r = names r o.more && limits marks facts o.class o.less
+exceeds marks facts None r = false
 
-abbrev pub AllKnown : List Fact → Option Order → (wanted : List Fact) → Type 0
-AllKnown facts order [] = Unit {0}
-AllKnown facts order (f ∷ wanted) = IsKnown facts order f × AllKnown facts order wanted
+-- the fact is known, or it is known of registers that are no copies; or a word that stands extended
+-- is less than another, so that one more is the same as a word and as a long, or more than another,
+-- so that one less is
+pub data IsKnown (marks : List Bool) (facts : List Fact) (order : Option Order) : Fact → Type 0 where
+  Listed : {f : Fact} → IsIn f facts → IsKnown marks facts order f
+  OfCopies : {r : ℕ} {e : Expression} → IsIn (record { register = r; value = canonical facts e }) facts → IsKnown marks facts order (record { register = r; value = e })
+  Bounded : {r : ℕ} → bounds marks facts order r ≡ true → holds_word marks facts r ≡ true → IsKnown marks facts order (record { register = r; value = Growing (At r) 1 })
+  Above : {r : ℕ} → exceeds marks facts order r ≡ true → holds_word marks facts r ≡ true → IsKnown marks facts order (record { register = r; value = Growing (At r) (2 ^ 64 - 1) })
+
+abbrev pub AllKnown : List Bool → List Fact → Option Order → (wanted : List Fact) → Type 0
+AllKnown marks facts order [] = Unit {0}
+AllKnown marks facts order (f ∷ wanted) =
+    IsKnown marks facts order f × AllKnown marks facts order wanted
+
+-- ---- lines and blocks, with the marks of registers that hold whole words alone
 
 -- what is claimed of each block that a jump may lead to is known
-abbrev pub LeadsWell : List (List Fact) → List Fact → Jump ℕ → Type 0
-LeadsWell claims facts (Goto k) = AllKnown facts None (claims_at claims k)
-LeadsWell claims facts (Branch on met otherwise) =
-    AllKnown facts (order_met on.condition on.class on.left on.right) (claims_at claims met)
-    × AllKnown facts (order_missed on.condition on.class on.left on.right) (claims_at claims otherwise)
-LeadsWell claims facts (Return a) = Unit {0}
-LeadsWell claims facts Halt = Unit {0}
+abbrev pub LeadsWell : (marks : List Bool) → List (List Fact) → List Fact → Jump ℕ → Type 0
+LeadsWell marks claims facts (Goto k) = AllKnown marks facts None (claims_at claims k)
+LeadsWell marks claims facts (Branch on met otherwise) =
+    AllKnown marks facts (order_met on.condition on.class on.left on.right) (claims_at claims met)
+    × AllKnown marks facts (order_missed on.condition on.class on.left on.right)
+    (claims_at claims otherwise)
+LeadsWell marks claims facts (Return a) = Unit {0}
+LeadsWell marks claims facts Halt = Unit {0}
 
 -- lines before which these facts are known
-abbrev pub AreReused : (registers : ℕ) → List (List Fact) → List Fact → (lines new : List (Line ℕ)) →
-    Jump ℕ → Type 0
-AreReused registers claims facts [] [] j = LeadsWell claims facts j
-AreReused registers claims facts [] (m ∷ new) j = ⊥
-AreReused registers claims facts (l ∷ lines) [] j = ⊥
-AreReused registers claims facts (l ∷ lines) (m ∷ new) j =
-    Made registers facts l m × AreReused registers claims (after m facts) lines new j
+abbrev pub AreReused : (registers : ℕ) → (marks : List Bool) → List (List Fact) → List Fact →
+    (lines new : List (Line ℕ)) → Jump ℕ → Type 0
+AreReused registers marks claims facts [] [] j = LeadsWell marks claims facts j
+AreReused registers marks claims facts [] (m ∷ new) j = ⊥
+AreReused registers marks claims facts (l ∷ lines) [] j = ⊥
+AreReused registers marks claims facts (l ∷ lines) (m ∷ new) j =
+    Made registers facts l m × AreReused registers marks claims (after m facts) lines new j
 
 -- a block before which what is claimed of it is known
-abbrev pub IsReused : (registers : ℕ) → List (List Fact) → ℕ → (b d : Block ℕ) → Type 0
-IsReused registers claims k b d =
-    (d.jump ≡ b.jump) × AreReused registers claims (claims_at claims k) b.lines d.lines b.jump
+abbrev pub IsReused : (registers : ℕ) → (marks : List Bool) → List (List Fact) → ℕ →
+    (b d : Block ℕ) → Type 0
+IsReused registers marks claims k b d =
+    (d.jump ≡ b.jump) × AreReused registers marks claims (claims_at claims k) b.lines d.lines b.jump
 
 -- blocks from this one on
-abbrev pub AllReused : (registers : ℕ) → List (List Fact) → ℕ → (blocks new : List (Block ℕ)) → Type 0
-AllReused registers claims k [] [] = Unit {0}
-AllReused registers claims k [] (d ∷ new) = ⊥
-AllReused registers claims k (b ∷ blocks) [] = ⊥
-AllReused registers claims k (b ∷ blocks) (d ∷ new) =
-    IsReused registers claims k b d × AllReused registers claims (k + 1) blocks new
+abbrev pub AllReused : (registers : ℕ) → (marks : List Bool) → List (List Fact) → ℕ →
+    (blocks new : List (Block ℕ)) → Type 0
+AllReused registers marks claims k [] [] = Unit {0}
+AllReused registers marks claims k [] (d ∷ new) = ⊥
+AllReused registers marks claims k (b ∷ blocks) [] = ⊥
+AllReused registers marks claims k (b ∷ blocks) (d ∷ new) =
+    IsReused registers marks claims k b d × AllReused registers marks claims (k + 1) blocks new

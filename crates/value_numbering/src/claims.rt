@@ -1,8 +1,8 @@
 //! Which facts are claimed where blocks begin. It is a guess: whether they are known there is tested where they are used.
 use crate::fact::{Expression, Fact, reads};
 use crate::lines::changed;
-use crate::steps::{is_word, pass};
-use crate::ways::{Order, bounds, is_known, is_linear, order_met, order_missed};
+use crate::steps::pass;
+use crate::ways::{Order, is_known, is_linear, may_grow, may_shrink, order_met, order_missed};
 use cfg_live::uses::line_writes;
 use flow::graph::successor;
 use il_ast::few::Few;
@@ -82,24 +82,43 @@ fn push_claim(known: &mut Vec<Fact>, fact: Fact) -> Result<(), AllocError> {
     Ok(())
 }
 
-/// The word that is less than another, as one that may grow.
-fn growing(facts: &[Fact], order: &Option<Order>) -> Option<Fact> {
-    let register = match order {
-        Some(
-            Order {
-                less: Operand::At(register),
-                ..
-            },
-        ) => *register,
-        _ => return None,
-    };
-    if bounds(facts, order, register) && is_word(facts, register) {
-        Some(Fact {
-            register,
-            value: Expression::Growing(Operand::At(register), 1),
-        })
-    } else {
-        None
+fn growing_by(register: u32, number: u64) -> Fact {
+    Fact {
+        register,
+        value: Expression::Growing(Operand::At(register), number),
+    }
+}
+
+/// Whether something is known as linear in the register.
+fn is_index(facts: &[Fact], register: u32) -> bool {
+    for fact in facts {
+        match fact.value {
+            Expression::Linear(_, Operand::At(index), _, _) if index == register => return true,
+            _ => {}
+        }
+    }
+    false
+}
+
+/// The word that is less than another, as one that may grow, if something is linear in it.
+fn growing(marks: &[bool], facts: &[Fact], order: &Option<Order>) -> Option<Fact> {
+    match order.as_ref()?.less {
+        Operand::At(register)
+            if is_index(facts, register) && may_grow(marks, facts, order, register) => {
+            Some(growing_by(register, 1))
+        }
+        _ => None,
+    }
+}
+
+/// The word that is more than another, as one that may shrink, if something is linear in it.
+fn shrinking(marks: &[bool], facts: &[Fact], order: &Option<Order>) -> Option<Fact> {
+    match order.as_ref()?.more {
+        Operand::At(register)
+            if is_index(facts, register) && may_shrink(marks, facts, order, register) => {
+            Some(growing_by(register, u64::MAX))
+        }
+        _ => None,
     }
 }
 
@@ -136,15 +155,16 @@ fn claim_copies(known: &mut Vec<Fact>, facts: &[Fact], linear: &Fact) -> Result<
     Ok(())
 }
 
-/// What blocks write each register, and the last one that leads back to each block.
+/// What blocks write each register, the last one that leads back to each block, and the marks of registers that hold whole words alone.
 #[derive(Drop)]
-struct Writing {
+struct Writing<'a> {
     blocks: Vec<Few<usize>>,
     backs: Vec<Option<usize>>,
+    marks: &'a [bool],
 }
 
 /// How many blocks write the register.
-fn writes_of(writing: &Writing, register: u32) -> usize {
+fn writes_of(writing: &Writing<'_>, register: u32) -> usize {
     match writing.blocks.get(register as usize) {
         Some(blocks) => blocks.len(),
         None => 0,
@@ -152,7 +172,7 @@ fn writes_of(writing: &Writing, register: u32) -> usize {
 }
 
 /// How many kinds of facts are claimed before this one. Of words, those may grow that are written more than once.
-fn rank(writing: &Writing, fact: &Fact) -> u32 {
+fn rank(writing: &Writing<'_>, fact: &Fact) -> u32 {
     match fact.value {
         Expression::Linear(_, _, _, _) | Expression::Growing(_, _) => 0,
         Expression::Same(_) => 2,
@@ -170,7 +190,7 @@ fn rank(writing: &Writing, fact: &Fact) -> u32 {
 }
 
 /// Whether one of the blocks from the first to the last writes the register.
-fn is_written(writing: &Writing, register: u32, first: usize, last: usize) -> bool {
+fn is_written(writing: &Writing<'_>, register: u32, first: usize, last: usize) -> bool {
     match writing.blocks.get(register as usize) {
         Some(blocks) => blocks
             .as_slice()
@@ -180,7 +200,7 @@ fn is_written(writing: &Writing, register: u32, first: usize, last: usize) -> bo
     }
 }
 
-fn is_changed(writing: &Writing, operand: Operand<u32>, first: usize, last: usize) -> bool {
+fn is_changed(writing: &Writing<'_>, operand: Operand<u32>, first: usize, last: usize) -> bool {
     match operand {
         Operand::At(register) => is_written(writing, register, first, last),
         _ => false,
@@ -188,7 +208,7 @@ fn is_changed(writing: &Writing, operand: Operand<u32>, first: usize, last: usiz
 }
 
 /// Whether the fact names a register that is written between a block and the last one that leads back there.
-fn is_lost(writing: &Writing, block: usize, fact: &Fact) -> bool {
+fn is_lost(writing: &Writing<'_>, block: usize, fact: &Fact) -> bool {
     let last = match writing.backs.get(block) {
         Some(Some(last)) => *last,
         _ => return false,
@@ -209,7 +229,7 @@ fn is_lost(writing: &Writing, block: usize, fact: &Fact) -> bool {
 
 fn claim_rank(
     known: &mut Vec<Fact>,
-    writing: &Writing,
+    writing: &Writing<'_>,
     block: usize,
     facts: &[Fact],
     wanted: u32,
@@ -225,13 +245,16 @@ fn claim_rank(
 /// What is claimed by what is known on the first way to a block; what is linear before all else.
 fn first_claim(
     alloc: Global,
-    writing: &Writing,
+    writing: &Writing<'_>,
     block: usize,
     facts: &[Fact],
     order: &Option<Order>,
 ) -> Result<Vec<Fact>, AllocError> {
     let mut known = Vec::with_capacity(alloc, facts.len().min(CLAIMS))?;
-    if let Some(fact) = growing(facts, order) {
+    if let Some(fact) = growing(writing.marks, facts, order) {
+        push_claim(&mut known, fact)?;
+    }
+    if let Some(fact) = shrinking(writing.marks, facts, order) {
         push_claim(&mut known, fact)?;
     }
     claim_rank(&mut known, writing, block, facts, 0)?;
@@ -245,12 +268,12 @@ fn first_claim(
 }
 
 /// Leaves those of the facts that are known on one more way; none where they become fewer too often. Says whether they do.
-fn narrow(claim: &mut Claim, facts: &[Fact], order: &Option<Order>) -> bool {
+fn narrow(marks: &[bool], claim: &mut Claim, facts: &[Fact], order: &Option<Order>) -> bool {
     let Some(known) = &mut claim.facts else {
         return false;
     };
     let before = known.len();
-    known.retain(|fact| is_known(facts, order, fact));
+    known.retain(|fact| is_known(marks, facts, order, fact));
     if known.len() == before {
         return false;
     }
@@ -264,14 +287,14 @@ fn narrow(claim: &mut Claim, facts: &[Fact], order: &Option<Order>) -> bool {
 /// One more way leads to the block, on which these facts are known; says whether that changes what is claimed.
 fn meet(
     alloc: Global,
-    writing: &Writing,
+    writing: &Writing<'_>,
     block: usize,
     claim: &mut Claim,
     facts: &[Fact],
     order: &Option<Order>,
 ) -> Result<bool, AllocError> {
     if claim.facts.is_some() {
-        let changes = narrow(claim, facts, order);
+        let changes = narrow(writing.marks, claim, facts, order);
         claim.is_new = claim.is_new || changes;
         return Ok(changes);
     }
@@ -283,7 +306,7 @@ fn meet(
 /// The same at one of all blocks; answers its number if that changes what is claimed of it, and none that a block has if not.
 fn meet_at(
     alloc: Global,
-    writing: &Writing,
+    writing: &Writing<'_>,
     claims: &mut [Claim],
     block: usize,
     facts: &[Fact],
@@ -299,7 +322,7 @@ fn meet_at(
 /// Goes on from the end of a block; says which is the first of the blocks that it leads to of which less is claimed now.
 fn lead(
     alloc: Global,
-    writing: &Writing,
+    writing: &Writing<'_>,
     claims: &mut [Claim],
     jump: &Jump<u32>,
     facts: &[Fact],
@@ -342,7 +365,7 @@ fn begin(claims: &mut [Claim], block: usize, facts: &mut Vec<Fact>) -> Result<bo
 /// Goes through a block, if that is due, from what is known where it begins to the blocks that it leads to; says which block is next.
 fn spread(
     alloc: Global,
-    writing: &Writing,
+    writing: &Writing<'_>,
     claims: &mut [Claim],
     along: &mut Along,
     registers: u32,
@@ -362,7 +385,7 @@ fn spread(
 /// Goes through the blocks in the order of the text, and back to the first of those of which less is claimed than when they were gone through, until there is none.
 fn spread_all(
     alloc: Global,
-    writing: &Writing,
+    writing: &Writing<'_>,
     claims: &mut [Claim],
     along: &mut Along,
     registers: u32,
@@ -405,7 +428,11 @@ fn note_back(backs: &mut [Option<usize>], number: usize, to: Option<usize>) {
     }
 }
 
-fn note_block(writing: &mut Writing, number: usize, block: &Block<u32>) -> Result<(), AllocError> {
+fn note_block(
+    writing: &mut Writing<'_>,
+    number: usize,
+    block: &Block<u32>,
+) -> Result<(), AllocError> {
     for line in block.lines.as_slice() {
         note_write(writing.blocks.as_mut_slice(), number, line)?;
     }
@@ -430,12 +457,18 @@ fn no_writes(alloc: Global, registers: u32) -> Result<Vec<Few<usize>>, AllocErro
     Ok(blocks)
 }
 
-fn writing_of(alloc: Global, registers: u32, blocks: &[Block<u32>]) -> Result<Writing, AllocError> {
+fn writing_of<'a>(
+    alloc: Global,
+    marks: &'a [bool],
+    registers: u32,
+    blocks: &[Block<u32>],
+) -> Result<Writing<'a>, AllocError> {
     let mut backs = Vec::new(alloc);
     backs.resize(blocks.len(), None)?;
     let mut writing = Writing {
         blocks: no_writes(alloc, registers)?,
         backs,
+        marks,
     };
     for (number, block) in blocks.iter().enumerate() {
         note_block(&mut writing, number, block)?;
@@ -475,11 +508,12 @@ fn listed(alloc: Global, claims: Vec<Claim>) -> Result<Vec<Seq<Fact>>, AllocErro
 /// The same of functions of several blocks.
 fn claims_of(
     alloc: Global,
+    marks: &[bool],
     registers: u32,
     blocks: &[Block<u32>],
 ) -> Result<Option<Vec<Seq<Fact>>>, AllocError> {
     let mut claims = first_claims(alloc, blocks.len())?;
-    let writing = writing_of(alloc, registers, blocks)?;
+    let writing = writing_of(alloc, marks, registers, blocks)?;
     let mut along = Along {
         facts: Vec::with_capacity(alloc, ROOM)?,
         has_changed: false,
@@ -506,11 +540,12 @@ fn claims_of(
 /// Only where memory was refused.
 pub(crate) fn claims(
     alloc: Global,
+    marks: &[bool],
     registers: u32,
     blocks: &[Block<u32>],
 ) -> Result<Option<Vec<Seq<Fact>>>, AllocError> {
     if blocks.len() > 1 {
-        claims_of(alloc, registers, blocks)
+        claims_of(alloc, marks, registers, blocks)
     } else {
         Ok(Some(Vec::new(alloc)))
     }

@@ -5,14 +5,14 @@
 //! is changed.
 //!
 //! What is linear in a register stays known where that register grows by a number, or the one that holds it (`specs/Steps`): with another offset. So a register that `code_motion` adds to, beside a
-//! counter, is known to hold the sum of a base and a product of the counter. A word grows as a long where a jump says that it is less than another (`ways`).
+//! counter, is known to hold the sum of a base and a product of the counter. A word grows by one as a long does where a jump says that it is less than another word, and becomes one less as a long does where it is more (`ways`). Which registers never hold anything but whole words, their marks say (`sign_extensions`).
 //!
 //! What is known where a block begins is claimed by a guess (`claims`): what is known at the end of each block that leads there. At each jump the walk tests that what is claimed of the blocks ahead is known; where
 //! it isn't, the function is done without claims. So no proof rests on the guess.
 //!
 //! At most 64 facts are known at a time, so that it takes time as the text is long.
 //!
-//! The crate stands on `vcode` for the code, on `il_ast` and `rv_isa` for the operations, and for the guess on `flow` for where jumps lead.
+//! The crate stands on `vcode` for the code, on `il_ast` and `rv_isa` for the operations, on `sign_extensions` for marks of registers that hold whole words, and for the guess on `flow` for where jumps lead.
 #![tactic(auto)]
 
 mod claims;

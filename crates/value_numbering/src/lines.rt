@@ -1,5 +1,5 @@
 //! Lines that are done again.
-ghost use Rattle.std.specs.Prelude.{◌≡◌, ◌<◌, ℕ, List, true, IfOk, IfSome, OnOk};
+ghost use Rattle.std.specs.Prelude.{◌≡◌, ◌<◌, ℕ, Bool, List, true, IfOk, IfSome, OnOk};
 ghost use Rattle.vcode.specs.declared.line.Jump.{Jump as AJump};
 ghost use Rattle.value_numbering.specs.declared.fact.Fact.{Fact as AFact};
 ghost use Rattle.value_numbering.specs.Known.{canonical};
@@ -47,6 +47,27 @@ pub(crate) fn is_worth(value: Expression) -> bool {
     }
 }
 
+/// Whether something is known as linear in a register.
+fn has_linear(facts: &[Fact]) -> bool {
+    for fact in facts {
+        if let Expression::Linear(_, _, _, _) = fact.value {
+            return true;
+        }
+    }
+    false
+}
+
+/// Whether something is known as the sum of the register and a product: a copy of the register is then worth more than a sum with a number.
+fn is_base(facts: &[Fact], register: u32) -> bool {
+    for fact in facts {
+        match fact.value {
+            Expression::Linear(Operand::At(base), _, _, _) if base == register => return true,
+            _ => {}
+        }
+    }
+    false
+}
+
 /// A register that is known to hold a sum with a product as what is linear in a register that grows.
 fn counted(facts: &[Fact], registers: u32, value: &Expression) -> Option<u32>
     ensures low { IfSome result (λ r. r < registers) }
@@ -81,10 +102,18 @@ fn reused(facts: &[Fact], registers: u32, fact: &Fact) -> Option<u32>
     ensures low { IfSome result (λ r. r < registers) }
     ensures holds { IfSome result (λ r. Holds facts.now r (canonical facts.now fact.now.value)) }
 {
-    if is_dear(fact.value) && is_worth(fact.value) {
-        held(facts, registers, &canonical(facts, fact.value))
-    } else {
-        None
+    if !is_dear(fact.value) || !(is_worth(fact.value) || has_linear(facts)) {
+        return None;
+    }
+    match held(facts, registers, &canonical(facts, fact.value)) {
+        Some(register) => {
+            if is_worth(fact.value) || is_base(facts, register) {
+                Some(register)
+            } else {
+                None
+            }
+        }
+        None => None,
     }
 }
 
@@ -195,7 +224,7 @@ pub(crate) fn lines(
     registers: u32,
     from: &[Line<u32>],
 ) -> Result<Vec<Line<u32>>, AllocError>
-    ensures { IfOk result (λ v. (claims : List (List AFact)) (j : AJump ℕ) → LeadsWell claims facts.new.items j → AreReused registers claims facts.old.items from.now v.items j) }
+    ensures { IfOk result (λ v. (marks : List Bool) (claims : List (List AFact)) (j : AJump ℕ) → LeadsWell marks claims facts.new.items j → AreReused registers marks claims facts.old.items from.now v.items j) }
 {
     let mut all = Vec::with_capacity(alloc, from.len())?;
     for line in from {

@@ -1,8 +1,9 @@
 //! Blocks and functions in which values are used again.
-ghost use Rattle.std.specs.Prelude.{◌≡◌, ◌+◌, ℕ, List, [], true, map, IfOk, IfSome};
+ghost use Rattle.std.specs.Prelude.{◌≡◌, ◌+◌, ℕ, List, [], true, map, IsTrue, IfOk, IfSome};
 ghost use Rattle.il_ast.specs.Passes.{Keeps};
 ghost use Rattle.vcode.specs.declared.code.Block.{Block as ABlock};
 ghost use Rattle.vcode.specs.Coded.{virtual_code};
+ghost use Rattle.sign_extensions.specs.Whole.{are_closed};
 ghost use Rattle.value_numbering.specs.Reused.{claims_at, LeadsWell, IsReused, AllReused};
 
 use crate::claims::claims;
@@ -11,6 +12,7 @@ use crate::lines::lines;
 use crate::repeats::blocks_may_repeat;
 use crate::ways::{are_known, order_met, order_missed};
 use il_ast::list::Seq;
+use sign_extensions::marks::whole_registers;
 use std::alloc::{AllocError, Global};
 use vcode::code::Block;
 use vcode::function::VFunc;
@@ -27,14 +29,19 @@ fn claims_at(claims: &[Seq<Fact>], block: usize) -> &[Fact]
 }
 
 /// Whether what is claimed of each block that a jump may lead to is known.
-fn leads_well(claims: &[Seq<Fact>], facts: &[Fact], jump: &Jump<u32>) -> bool
-    ensures { result ≡ true → LeadsWell claims.now facts.now jump.now }
+fn leads_well(marks: &[bool], claims: &[Seq<Fact>], facts: &[Fact], jump: &Jump<u32>) -> bool
+    ensures { result ≡ true → LeadsWell marks.now claims.now facts.now jump.now }
 {
     match jump {
-        Jump::Goto(block) => are_known(facts, &None, claims_at(claims, *block)),
+        Jump::Goto(block) => are_known(marks, facts, &None, claims_at(claims, *block)),
         Jump::Branch { on, met, otherwise } => {
-            are_known(facts, &order_met(on), claims_at(claims, *met))
-                && are_known(facts, &order_missed(on), claims_at(claims, *otherwise))
+            are_known(marks, facts, &order_met(on), claims_at(claims, *met))
+                && are_known(
+                    marks,
+                    facts,
+                    &order_missed(on),
+                    claims_at(claims, *otherwise),
+                )
         }
         Jump::Return(_) | Jump::Halt => true,
     }
@@ -43,18 +50,19 @@ fn leads_well(claims: &[Seq<Fact>], facts: &[Fact], jump: &Jump<u32>) -> bool
 /// A block with copies in the place of lines; none where the claims are not right.
 fn block(
     alloc: Global,
+    marks: &[bool],
     claims: &[Seq<Fact>],
     registers: u32,
     number: usize,
     from: &Block<u32>,
 ) -> Result<Option<Block<u32>>, AllocError>
-    ensures { IfOk result (λ o. IfSome o (λ d. IsReused registers claims.now number from.now d)) }
+    ensures { IfOk result (λ o. IfSome o (λ d. IsReused registers marks.now claims.now number from.now d)) }
 {
     let known = claims_at(claims, number);
     let mut facts = Vec::with_capacity(alloc, known.len().saturating_add(from.lines.len()))?;
     facts.extend_from_slice(known)?;
     let lines = lines(alloc, &mut facts, registers, from.lines.as_slice())?;
-    if !leads_well(claims, facts.as_slice(), &from.jump) {
+    if !leads_well(marks, claims, facts.as_slice(), &from.jump) {
         return Ok(None);
     }
     Ok(Some(Block {
@@ -65,15 +73,16 @@ fn block(
 
 fn blocks(
     alloc: Global,
+    marks: &[bool],
     claims: &[Seq<Fact>],
     registers: u32,
     from: &[Block<u32>],
 ) -> Result<Option<Vec<Block<u32>>>, AllocError>
-    ensures { IfOk result (λ o. IfSome o (λ v. AllReused registers claims.now 0 from.now v.items)) }
+    ensures { IfOk result (λ o. IfSome o (λ v. AllReused registers marks.now claims.now 0 from.now v.items)) }
 {
     let mut made = Vec::with_capacity(alloc, from.len())?;
     for (number, item) in from.iter().enumerate() {
-        match block(alloc, claims, registers, number, item)? {
+        match block(alloc, marks, claims, registers, number, item)? {
             Some(block) => made.push(block)?,
             None => return Ok(None),
         }
@@ -86,7 +95,13 @@ fn blocks(
 /// # Errors
 ///
 /// Only where memory was refused.
-fn apply(alloc: Global, function: &VFunc, claims: &[Seq<Fact>]) -> Result<Option<VFunc>, AllocError>
+fn apply(
+    alloc: Global,
+    function: &VFunc,
+    marks: &[bool],
+    claims: &[Seq<Fact>],
+) -> Result<Option<VFunc>, AllocError>
+    requires { IsTrue (are_closed marks.now function.now.code) }
     ensures { IfOk result (λ o. IfSome o (λ w. Keeps (virtual_code function.now) (virtual_code w))) }
 {
     if claims_at(claims, 0).len() != 0 {
@@ -94,6 +109,7 @@ fn apply(alloc: Global, function: &VFunc, claims: &[Seq<Fact>]) -> Result<Option
     }
     match blocks(
         alloc,
+        marks,
         claims,
         function.registers,
         function.code.blocks.as_slice(),
@@ -110,24 +126,40 @@ fn apply(alloc: Global, function: &VFunc, claims: &[Seq<Fact>]) -> Result<Option
 fn by_these_or_none(
     alloc: Global,
     function: &VFunc,
+    marks: &[bool],
     claims: &[Seq<Fact>],
 ) -> Result<Option<VFunc>, AllocError>
+    requires { IsTrue (are_closed marks.now function.now.code) }
     ensures { IfOk result (λ o. IfSome o (λ w. Keeps (virtual_code function.now) (virtual_code w))) }
 {
-    match apply(alloc, function, claims)? {
+    match apply(alloc, function, marks, claims)? {
         Some(made) => Ok(Some(made)),
-        None => apply(alloc, function, &[]),
+        None => apply(alloc, function, marks, &[]),
     }
 }
 
 /// The function by the claims that are found; none where no line becomes another by them.
-fn by_any_claims(alloc: Global, function: &VFunc) -> Result<Option<VFunc>, AllocError>
+fn by_any_claims(
+    alloc: Global,
+    function: &VFunc,
+    marks: &[bool],
+) -> Result<Option<VFunc>, AllocError>
+    requires { IsTrue (are_closed marks.now function.now.code) }
     ensures { IfOk result (λ o. IfSome o (λ w. Keeps (virtual_code function.now) (virtual_code w))) }
 {
-    match claims(alloc, function.registers, function.code.blocks.as_slice())? {
-        Some(claims) => by_these_or_none(alloc, function, claims.as_slice()),
+    let blocks = function.code.blocks.as_slice();
+    match claims(alloc, marks, function.registers, blocks)? {
+        Some(claims) => by_these_or_none(alloc, function, marks, claims.as_slice()),
         None => Ok(None),
     }
+}
+
+/// The same, by the registers that hold whole words alone.
+fn by_marks(alloc: Global, function: &VFunc) -> Result<Option<VFunc>, AllocError>
+    ensures { IfOk result (λ o. IfSome o (λ w. Keeps (virtual_code function.now) (virtual_code w))) }
+{
+    let marks = whole_registers(alloc, &function.code, function.registers)?;
+    by_any_claims(alloc, function, marks.as_slice())
 }
 
 /// The function in which lines that compute what a register holds are copies of it, extensions of what was loaded are loads, and stores of what was extended or masked write what it was made of, within
@@ -142,7 +174,7 @@ pub fn reuse_values(alloc: Global, function: VFunc) -> Result<VFunc, AllocError>
     if !blocks_may_repeat(alloc, function.code.blocks.as_slice())? {
         return Ok(function);
     }
-    match by_any_claims(alloc, &function)? {
+    match by_marks(alloc, &function)? {
         Some(made) => Ok(made),
         None => Ok(function),
     }

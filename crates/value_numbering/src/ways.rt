@@ -1,16 +1,18 @@
 //! What is known on the ways that a jump leads.
-ghost use Rattle.std.specs.Prelude.{◌≡◌, ◌&&◌, true, IfSome};
+ghost use Rattle.std.specs.Prelude.{◌≡◌, ◌-◌, ◌^◌, ◌&&◌, ◌||◌, true, IfSome};
 ghost use Rattle.vcode.specs.declared.place.Operand.TheVariants.{At};
 ghost use Rattle.value_numbering.specs.declared.fact.Expression.TheVariants.{Growing};
 ghost use Rattle.value_numbering.specs.Known.{canonical, IsIn};
+ghost use Rattle.sign_extensions.specs.Whole.{is_marked};
 ghost use Rattle.value_numbering.specs.Steps.{is_word};
-ghost use Rattle.value_numbering.specs.Reused.{order_met, order_missed, is_limit, limits, bounds, IsKnown, AllKnown};
+ghost use Rattle.value_numbering.specs.Reused.{order_of, before, next, is_least, is_most, at_least, at_most, order_met, order_missed, holds_word, is_limit, limits, bounds, exceeds, IsKnown, AllKnown};
 
 use crate::fact::{Expression, Fact, names};
 use crate::known::canonical;
 use crate::same::same_fact;
 use crate::steps::{is_word, stands};
 use il_ast::operation::{Class, Condition};
+use sign_extensions::marks::is_marked;
 use vcode::line::Comparison;
 use vcode::place::Operand;
 
@@ -22,21 +24,87 @@ pub(crate) struct Order {
     pub(crate) more: Operand<u32>,
 }
 
+fn order_of(class: Class, less: Operand<u32>, more: Operand<u32>) -> Option<Order>
+    ensures { result ≡ order_of class less more }
+{
+    Some(Order { class, less, more })
+}
+
+/// The number before it, modulo 2^64.
+fn before(number: u64) -> u64
+    ensures { result ≡ before number }
+{
+    number.wrapping_sub(1)
+}
+
+/// The number behind it, modulo 2^64.
+fn next(number: u64) -> u64
+    ensures { result ≡ next number }
+{
+    number.wrapping_add(1)
+}
+
+/// Whether no signed number of the class is less.
+fn is_least(class: Class, number: u64) -> bool
+    ensures { result ≡ is_least class number }
+{
+    match class {
+        Class::W => number % 0x1_0000_0000 == 0x8000_0000,
+        Class::L => number == 0x8000_0000_0000_0000,
+    }
+}
+
+/// Whether none is more.
+fn is_most(class: Class, number: u64) -> bool
+    ensures { result ≡ is_most class number }
+{
+    match class {
+        Class::W => number % 0x1_0000_0000 == 0x7fff_ffff,
+        Class::L => number == 0x7fff_ffff_ffff_ffff,
+    }
+}
+
+/// What is no less than a number is more than the one before it.
+fn at_least(class: Class, more: Operand<u32>, least: Operand<u32>) -> Option<Order>
+    ensures { result ≡ at_least class more least }
+{
+    match least {
+        Operand::Number(number) => {
+            if is_least(class, number) {
+                None
+            } else {
+                order_of(class, Operand::Number(before(number)), more)
+            }
+        }
+        _ => None,
+    }
+}
+
+/// What is no more than a number is less than the one behind it.
+fn at_most(class: Class, less: Operand<u32>, most: Operand<u32>) -> Option<Order>
+    ensures { result ≡ at_most class less most }
+{
+    match most {
+        Operand::Number(number) => {
+            if is_most(class, number) {
+                None
+            } else {
+                order_of(class, less, Operand::Number(next(number)))
+            }
+        }
+        _ => None,
+    }
+}
+
 /// What a comparison says where it holds.
 pub(crate) fn order_met(on: &Comparison<u32>) -> Option<Order>
     ensures { result ≡ order_met on.now.condition on.now.class on.now.left on.now.right }
 {
     match on.condition {
-        Condition::SignedLess => Some(Order {
-            class: on.class,
-            less: on.left,
-            more: on.right,
-        }),
-        Condition::SignedGreater => Some(Order {
-            class: on.class,
-            less: on.right,
-            more: on.left,
-        }),
+        Condition::SignedLess => order_of(on.class, on.left, on.right),
+        Condition::SignedGreater => order_of(on.class, on.right, on.left),
+        Condition::SignedGreaterEqual => at_least(on.class, on.left, on.right),
+        Condition::SignedLessEqual => at_most(on.class, on.left, on.right),
         _ => None,
     }
 }
@@ -46,16 +114,10 @@ pub(crate) fn order_missed(on: &Comparison<u32>) -> Option<Order>
     ensures { result ≡ order_missed on.now.condition on.now.class on.now.left on.now.right }
 {
     match on.condition {
-        Condition::SignedGreaterEqual => Some(Order {
-            class: on.class,
-            less: on.left,
-            more: on.right,
-        }),
-        Condition::SignedLessEqual => Some(Order {
-            class: on.class,
-            less: on.right,
-            more: on.left,
-        }),
+        Condition::SignedGreaterEqual => order_of(on.class, on.left, on.right),
+        Condition::SignedLessEqual => order_of(on.class, on.right, on.left),
+        Condition::SignedLess => at_least(on.class, on.left, on.right),
+        Condition::SignedGreater => at_most(on.class, on.left, on.right),
         _ => None,
     }
 }
@@ -90,74 +152,120 @@ pub(crate) fn is_linear(value: Expression) -> bool {
     }
 }
 
+/// Whether the register holds a word that stands extended: it never holds anything else by its mark, or it is known here.
+fn holds_word(marks: &[bool], facts: &[Fact], register: u32) -> bool
+    ensures { result ≡ holds_word marks.now facts.now register }
+{
+    is_marked(marks, register) || is_word(facts, register)
+}
+
 /// Whether the operand is known to be a word that stands extended.
-fn is_limit(facts: &[Fact], operand: Operand<u32>) -> bool
-    ensures { result ≡ is_limit facts.now operand }
+fn is_limit(marks: &[bool], facts: &[Fact], operand: Operand<u32>) -> bool
+    ensures { result ≡ is_limit marks.now facts.now operand }
 {
     match operand {
-        Operand::At(register) => is_word(facts, register),
+        Operand::At(register) => holds_word(marks, facts, register),
         Operand::Number(number) => stands(number),
         Operand::Name(_) => false,
     }
 }
 
-/// Whether what is less as a number of this class is less than a word.
-fn limits(facts: &[Fact], class: Class, operand: Operand<u32>) -> bool
-    ensures { result ≡ limits facts.now class operand }
+/// Whether what is less or more than the operand as a number of this class is so than a word.
+fn limits(marks: &[bool], facts: &[Fact], class: Class, operand: Operand<u32>) -> bool
+    ensures { result ≡ limits marks.now facts.now class operand }
 {
     match class {
         Class::W => true,
-        Class::L => is_limit(facts, operand),
+        Class::L => is_limit(marks, facts, operand),
     }
 }
 
 /// Whether the register is less than a word.
-pub(crate) fn bounds(facts: &[Fact], order: &Option<Order>, register: u32) -> bool
-    ensures { result ≡ bounds facts.now order.now register }
+fn bounds(marks: &[bool], facts: &[Fact], order: &Option<Order>, register: u32) -> bool
+    ensures { result ≡ bounds marks.now facts.now order.now register }
 {
     match order {
-        Some(order) => names(register, order.less) && limits(facts, order.class, order.more),
+        Some(order) => names(register, order.less) && limits(marks, facts, order.class, order.more),
         None => false,
     }
 }
 
-/// Whether one more than the register is no less as a word than as a long, which follows from the order.
-fn may_grow(facts: &[Fact], order: &Option<Order>, register: u32) -> bool
-    ensures { result ≡ (bounds facts.now order.now register && is_word facts.now register) }
+/// Whether the register is more than a word.
+fn exceeds(marks: &[bool], facts: &[Fact], order: &Option<Order>, register: u32) -> bool
+    ensures { result ≡ exceeds marks.now facts.now order.now register }
 {
-    bounds(facts, order, register) && is_word(facts, register)
+    match order {
+        Some(order) => {
+            names(register, order.more) && limits(marks, facts, order.class, order.less)
+        }
+        None => false,
+    }
 }
 
-/// The register that a value says that of.
-fn growing_by_one(value: Expression) -> Option<u32>
-    ensures { IfSome result (λ r. value ≡ Growing (At r) 1) }
+/// Whether one more than the register is the same as a word and as a long, which follows from the order.
+pub(crate) fn may_grow(marks: &[bool], facts: &[Fact], order: &Option<Order>, register: u32) -> bool
+    ensures { result ≡ (bounds marks.now facts.now order.now register && holds_word marks.now facts.now register) }
+{
+    bounds(marks, facts, order, register) && holds_word(marks, facts, register)
+}
+
+/// The same of one less.
+pub(crate) fn may_shrink(
+    marks: &[bool],
+    facts: &[Fact],
+    order: &Option<Order>,
+    register: u32,
+) -> bool
+    ensures { result ≡ (exceeds marks.now facts.now order.now register && holds_word marks.now facts.now register) }
+{
+    exceeds(marks, facts, order, register) && holds_word(marks, facts, register)
+}
+
+/// The register that a value says that of, with this number.
+fn growing_by(value: Expression, number: u64) -> Option<u32>
+    ensures { IfSome result (λ r. value ≡ Growing (At r) number) }
 {
     match value {
-        Expression::Growing(Operand::At(register), number) => {
-            if number == 1 { Some(register) } else { None }
+        Expression::Growing(Operand::At(register), by) => {
+            if by == number { Some(register) } else { None }
         }
         _ => None,
     }
 }
 
 /// Whether the fact says that of its register.
-fn is_bounded(facts: &[Fact], order: &Option<Order>, wanted: &Fact) -> bool
-    ensures { result ≡ true → IsKnown facts.now order.now wanted.now }
+fn is_bounded(marks: &[bool], facts: &[Fact], order: &Option<Order>, wanted: &Fact) -> bool
+    ensures { result ≡ true → IsKnown marks.now facts.now order.now wanted.now }
 {
-    match growing_by_one(wanted.value) {
+    match growing_by(wanted.value, 1) {
         Some(register) => {
             if register != wanted.register {
                 return false;
             }
-            may_grow(facts, order, register)
+            may_grow(marks, facts, order, register)
+        }
+        None => false,
+    }
+}
+
+/// The same of one less.
+fn is_above(marks: &[bool], facts: &[Fact], order: &Option<Order>, wanted: &Fact) -> bool
+    ensures { result ≡ true → IsKnown marks.now facts.now order.now wanted.now }
+{
+    match growing_by(wanted.value, u64::MAX) {
+        Some(register) => {
+            if register != wanted.register {
+                return false;
+            }
+            may_shrink(marks, facts, order, register)
         }
         None => false,
     }
 }
 
 /// Whether the fact is known on the way on which this order holds.
-pub(crate) fn is_known(facts: &[Fact], order: &Option<Order>, wanted: &Fact) -> bool
-    ensures { result ≡ true → IsKnown facts.now order.now wanted.now }
+pub(crate) fn is_known(marks: &[bool], facts: &[Fact], order: &Option<Order>, wanted: &Fact) -> bool
+    ensures { result ≡ true → IsKnown marks.now facts.now order.now wanted.now }
 {
     if is_listed(facts, wanted) {
         return true;
@@ -165,15 +273,23 @@ pub(crate) fn is_known(facts: &[Fact], order: &Option<Order>, wanted: &Fact) -> 
     if is_linear(wanted.value) {
         return is_of_copies(facts, wanted);
     }
-    is_bounded(facts, order, wanted)
+    if is_bounded(marks, facts, order, wanted) {
+        return true;
+    }
+    is_above(marks, facts, order, wanted)
 }
 
 /// Whether all these facts are known there.
-pub(crate) fn are_known(facts: &[Fact], order: &Option<Order>, wanted: &[Fact]) -> bool
-    ensures { result ≡ true → AllKnown facts.now order.now wanted.now }
+pub(crate) fn are_known(
+    marks: &[bool],
+    facts: &[Fact],
+    order: &Option<Order>,
+    wanted: &[Fact],
+) -> bool
+    ensures { result ≡ true → AllKnown marks.now facts.now order.now wanted.now }
 {
     for fact in wanted {
-        if !is_known(facts, order, fact) {
+        if !is_known(marks, facts, order, fact) {
             return false;
         }
     }

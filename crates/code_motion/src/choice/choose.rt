@@ -9,6 +9,7 @@ use crate::choice::written::{Spot, Written};
 use crate::plan::{BlockPlan, Computation, Plan};
 use flow::loops::{Loop, find_loops, largest_first};
 use rv_isa::instruction::RegOp;
+use sign_extensions::marks::whole_registers;
 use std::alloc::{AllocError, Global};
 use vcode::code::Block;
 use vcode::cost::line_cost;
@@ -202,16 +203,61 @@ struct Place {
     at: Spot,
 }
 
+/// The sum of what the loop doesn't change and a number, as a computation in front of it.
+fn sum_in_front(
+    register: u32,
+    written: &Written,
+    before: usize,
+    sum: &Operand<u32>,
+) -> Option<Computation> {
+    let Operand::At(sum) = sum else {
+        return None;
+    };
+    match written.summands(*sum)? {
+        (left, Operand::Number(number)) => Some(Computation {
+            block: before,
+            register,
+            operation: Operation::Reg(RegOp::Add),
+            left: written.in_front(left)?,
+            right: Operand::Number(number),
+        }),
+        _ => None,
+    }
+}
+
+/// An operand that has the same value in front of the loop, where a sum with a number is planned for that.
+fn base_of(
+    plans: &mut Plans,
+    written: &Written,
+    before: usize,
+    base: &Operand<u32>,
+) -> Result<Option<Operand<u32>>, AllocError> {
+    if let Some(operand) = written.in_front(*base) {
+        return Ok(Some(operand));
+    }
+    match sum_in_front(plans.next, written, before, base) {
+        Some(plan) => match put_plan(plans, plan)? {
+            Some(register) => Ok(Some(Operand::At(register))),
+            None => Ok(None),
+        },
+        None => Ok(None),
+    }
+}
+
 /// The sum of a product of a register that grows and of what the loop doesn't change.
 fn linear_of(
+    plans: &mut Plans,
     written: &Written,
     place: Place,
     to: u32,
     base: &Operand<u32>,
     factor: &Operand<u32>,
-) -> Option<Linear> {
-    match (written.product(*factor), written.in_front(*base)) {
-        (Some(product), Some(base)) => Some(Linear {
+) -> Result<Option<Linear>, AllocError> {
+    let Some(product) = written.product(*factor) else {
+        return Ok(None);
+    };
+    match base_of(plans, written, place.before, base)? {
+        Some(base) => Ok(Some(Linear {
             at: place.at,
             to,
             base,
@@ -219,8 +265,8 @@ fn linear_of(
             product,
             is_direct: true,
             is_part: false,
-        }),
-        _ => None,
+        })),
+        None => Ok(None),
     }
 }
 
@@ -266,9 +312,9 @@ fn push_linear(
     left: &Operand<u32>,
     right: &Operand<u32>,
 ) -> Result<(), AllocError> {
-    let linear = match linear_of(written, place, to, left, right) {
+    let linear = match linear_of(plans, written, place, to, left, right)? {
         Some(linear) => Some(linear),
-        None => linear_of(written, place, to, right, left),
+        None => linear_of(plans, written, place, to, right, left)?,
     };
     if let Some(linear) = linear {
         plans.sums.push(linear)?;
@@ -363,11 +409,12 @@ fn count_writes(written: &mut Written, blocks: &[Block<u32>], nest: &Loop) {
 fn plan_nest(
     plans: &mut Plans,
     written: &mut Written,
+    marks: &[bool],
     blocks: &[Block<u32>],
     nest: &Loop,
 ) -> Result<(), AllocError> {
     count_writes(written, blocks, nest);
-    find_growth(written, blocks, nest)?;
+    find_growth(written, marks, blocks, nest)?;
     plans.first = plans.list.len();
     plans.sums.clear();
     for number in nest.blocks.iter() {
@@ -386,10 +433,11 @@ fn plan_in_order(
     nests: &[Loop],
 ) -> Result<(), AllocError> {
     let blocks = function.code.blocks.as_slice();
+    let marks = whole_registers(alloc, &function.code, function.registers)?;
     let mut written = Written::new(alloc, function.registers, blocks)?;
     for (_, number) in largest_first(alloc, nests)?.iter() {
         if let Some(nest) = nests.get(*number) {
-            plan_nest(plans, &mut written, blocks, nest)?;
+            plan_nest(plans, &mut written, marks.as_slice(), blocks, nest)?;
         }
     }
     Ok(())

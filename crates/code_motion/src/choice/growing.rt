@@ -5,6 +5,7 @@ use crate::plan::Computation;
 use flow::loops::Loop;
 use il_ast::operation::{Class, Condition};
 use rv_isa::instruction::{RegOp, RegWOp};
+use sign_extensions::marks::is_marked;
 use std::alloc::AllocError;
 use vcode::code::Block;
 use vcode::cost::is_immediate;
@@ -35,8 +36,23 @@ const MOST: usize = 4;
 
 // ---- registers that grow
 
-/// What is more than the register, as a signed number, where the comparison holds or doesn't.
-fn more_than(on: &Comparison<u32>, register: u32, holds: bool) -> Option<Operand<u32>> {
+/// Of two operands, as signed numbers, one is less.
+#[derive(Clone, Copy)]
+struct Order {
+    less: Operand<u32>,
+    more: Operand<u32>,
+}
+
+/// The number that is further by so much.
+fn further(operand: Operand<u32>, by: u64) -> Option<Operand<u32>> {
+    match operand {
+        Operand::Number(number) => Some(Operand::Number(number.wrapping_add(by))),
+        _ => None,
+    }
+}
+
+/// What the comparison says where it holds or doesn't. What is no less than a number is more than the one before it.
+fn order_of(on: &Comparison<u32>, holds: bool) -> Option<Order> {
     let (less, more) = match (on.condition, holds) {
         (Condition::SignedLess, true) | (Condition::SignedGreaterEqual, false) => {
             (on.left, on.right)
@@ -44,29 +60,38 @@ fn more_than(on: &Comparison<u32>, register: u32, holds: bool) -> Option<Operand
         (Condition::SignedGreater, true) | (Condition::SignedLessEqual, false) => {
             (on.right, on.left)
         }
+        (Condition::SignedGreaterEqual, true) | (Condition::SignedLess, false) => {
+            (further(on.right, u64::MAX)?, on.left)
+        }
+        (Condition::SignedLessEqual, true) | (Condition::SignedGreater, false) => {
+            (on.left, further(on.right, 1)?)
+        }
         _ => return None,
     };
-    if less == Operand::At(register) {
-        Some(more)
-    } else {
-        None
-    }
+    Some(Order { less, more })
 }
 
-/// Whether what is less than the operand, as a number of this class, is less than a word.
-fn limits(class: Class, more: Operand<u32>) -> bool {
-    match (class, more) {
+/// Whether what is less or more than the operand, as a number of this class, is so than a word.
+fn limits(marks: &[bool], class: Class, other: Operand<u32>) -> bool {
+    match (class, other) {
         (Class::W, _) => true,
         (Class::L, Operand::Number(number)) => stands(number),
+        (Class::L, Operand::At(register)) => is_marked(marks, register),
         _ => false,
     }
 }
 
-fn is_less(on: &Comparison<u32>, register: u32, holds: bool) -> bool {
-    match more_than(on, register, holds) {
-        Some(more) => limits(on.class, more),
-        None => false,
-    }
+/// Whether the register is less than a word where it grows, or more than one where it shrinks.
+fn is_within(marks: &[bool], on: &Comparison<u32>, holds: bool, register: u32, by: u64) -> bool {
+    let Some(order) = order_of(on, holds) else {
+        return false;
+    };
+    let (own, other) = if by == 1 {
+        (order.less, order.more)
+    } else {
+        (order.more, order.less)
+    };
+    own == Operand::At(register) && limits(marks, on.class, other)
 }
 
 /// Whether the number is the extension of its low 32 bits.
@@ -74,8 +99,8 @@ fn stands(number: u64) -> bool {
     number < 0x8000_0000 || number >= 0xffff_ffff_8000_0000
 }
 
-/// Whether the loop goes on from its head only where the register is less than a word.
-fn is_tested(blocks: &[Block<u32>], nest: &Loop, register: u32) -> bool {
+/// Whether the loop goes on from its head only where the register may grow or shrink by one.
+fn is_tested(marks: &[bool], blocks: &[Block<u32>], nest: &Loop, register: u32, by: u64) -> bool {
     match blocks.get(nest.head) {
         Some(
             Block {
@@ -84,8 +109,8 @@ fn is_tested(blocks: &[Block<u32>], nest: &Loop, register: u32) -> bool {
             },
         ) => {
             match (nest.blocks.contains(met), nest.blocks.contains(otherwise)) {
-                (true, false) => is_less(on, register, true),
-                (false, true) => is_less(on, register, false),
+                (true, false) => is_within(marks, on, true, register, by),
+                (false, true) => is_within(marks, on, false, register, by),
                 _ => false,
             }
         }
@@ -170,7 +195,13 @@ fn growth_of(written: &Written, line: &Line<u32>, at: Spot) -> Option<(u32, Grow
 }
 
 /// Whether the growth is one of longs too.
-fn grows_long(blocks: &[Block<u32>], nest: &Loop, register: u32, growth: &Growth) -> bool {
+fn grows_long(
+    marks: &[bool],
+    blocks: &[Block<u32>],
+    nest: &Loop,
+    register: u32,
+    growth: &Growth,
+) -> bool {
     if !growth.is_word {
         return true;
     }
@@ -178,31 +209,35 @@ fn grows_long(blocks: &[Block<u32>], nest: &Loop, register: u32, growth: &Growth
         Some(block) => leaves_word(block.lines.as_slice(), register),
         None => false,
     };
-    growth.by == 1 && begins && is_tested(blocks, nest, register)
+    (growth.by == 1 || growth.by == u64::MAX)
+        && (begins || is_marked(marks, register))
+        && is_tested(marks, blocks, nest, register, growth.by)
 }
 
 fn note_growth(
     written: &mut Written,
+    marks: &[bool],
     blocks: &[Block<u32>],
     nest: &Loop,
     line: &Line<u32>,
     at: Spot,
 ) -> Result<(), AllocError> {
     match growth_of(written, line, at) {
-        Some((to, growth)) if to != growth.from || grows_long(blocks, nest, to, &growth) => {
+        Some((to, growth)) if to != growth.from || grows_long(marks, blocks, nest, to, &growth) => {
             written.grow(to, growth)
         }
         _ => Ok(()),
     }
 }
 
-/// Notes the registers that the loop adds a number to.
+/// Notes the registers that the loop adds a number to, by the marks of those that hold whole words alone.
 ///
 /// # Errors
 ///
 /// Only where memory was refused.
 pub(crate) fn find_growth(
     written: &mut Written,
+    marks: &[bool],
     blocks: &[Block<u32>],
     nest: &Loop,
 ) -> Result<(), AllocError> {
@@ -213,7 +248,7 @@ pub(crate) fn find_growth(
                     block: *number,
                     line,
                 };
-                note_growth(written, blocks, nest, item, at)?;
+                note_growth(written, marks, blocks, nest, item, at)?;
             }
         }
     }

@@ -1,4 +1,4 @@
-use Rattle.std.proofs.Common.{◌≡◌, ℕ, true, ◌&&◌, Option, sym, ◌∙◌, subst}
+use Rattle.std.proofs.Common.{◌≡◌, ℕ, Bool, true, ◌&&◌, Option, sym, ◌∙◌, subst}
 use Rattle.std.proofs.lemmas.Bool.{and_parts}
 use Rattle.vcode.specs.declared.place.Operand.TheVariants.{At}
 use Rattle.std.specs.Prelude.{List}
@@ -6,16 +6,15 @@ use Rattle.value_numbering.specs.declared.fact.Expression.{Expression}
 use Rattle.value_numbering.specs.declared.fact.Expression.TheVariants.{Growing}
 use Rattle.value_numbering.specs.declared.fact.Fact.{Fact}
 use Rattle.value_numbering.specs.declared.ways.Order.{Order}
-use Rattle.value_numbering.specs.Steps.{is_word}
-use Rattle.value_numbering.specs.Reused.{IsKnown, Bounded, bounds}
+use Rattle.value_numbering.specs.Reused.{IsKnown, Bounded, bounds, holds_word}
 use Rattle.value_numbering.proofs.ways.is_bounded.Goals as goal
 
-bounded : (facts : List Fact) (order : Option Order) (f : Fact) (r : ℕ) → f.value ≡ Growing (At r) 1 → r ≡ f.register → (bounds facts order r && is_word facts r) ≡ true → IsKnown facts order f
-bounded facts order f r is same h =
-    let s = and_parts (bounds facts order r) (is_word facts r) h in
-    subst (λ (v : Expression). IsKnown facts order (record { register = f.register; value = v })) (sym is)
-    (subst (λ (k : ℕ). IsKnown facts order (record { register = k; value = Growing (At r) 1 })) same (Bounded s.0 s.1))
+bounded : (marks : List Bool) (facts : List Fact) (order : Option Order) (f : Fact) (r : ℕ) → f.value ≡ Growing (At r) 1 → r ≡ f.register → (bounds marks facts order r && holds_word marks facts r) ≡ true → IsKnown marks facts order f
+bounded marks facts order f r is same h =
+    let s = and_parts (bounds marks facts order r) (holds_word marks facts r) h in
+    subst (λ (v : Expression). IsKnown marks facts order (record { register = f.register; value = v })) (sym is)
+    (subst (λ (k : ℕ). IsKnown marks facts order (record { register = k; value = Growing (At r) 1 })) same (Bounded s.0 s.1))
 
 pub returns-else-register-wanted : goal.returns-else-register-wanted
 returns-else-register-wanted c =
-    λ h. bounded c.args.facts.now c.args.order.now c.args.wanted.now c.in-Some.register c.in-Some.ensures c.if-register-wanted.false (sym c.may_grow.ensures ∙ h)
+    λ h. bounded c.args.marks.now c.args.facts.now c.args.order.now c.args.wanted.now c.in-Some.register c.in-Some.ensures c.if-register-wanted.false (sym c.may_grow.ensures ∙ h)
