@@ -1,10 +1,10 @@
 //! Which sums are put off, and how far: a guess.
-use crate::later::waiting::{lets_wait, names_no, names_none, operation_of};
+use crate::later::waiting::{lets_wait, operation_of};
 use cfg_live::uses::line_writes;
 use rv_isa::instruction::{RegOp, RegWOp};
 use vcode::code::Block;
 use vcode::line::{Jump, Line, Operation};
-use vcode::place::Operand;
+use vcode::place::{Argument, Operand};
 
 /// How many lines behind a sum are looked at.
 const WINDOW: usize = 48;
@@ -36,15 +36,32 @@ fn is_at(operand: &Operand<u32>, register: u32) -> bool {
     *operand == Operand::At(register)
 }
 
-fn reads(line: &Line<u32>, register: u32) -> bool {
+/// How many of the two operands are the register.
+fn reads_of_both(one: &Operand<u32>, other: &Operand<u32>, register: u32) -> u32 {
+    u32::from(is_at(one, register)).saturating_add(u32::from(is_at(other, register)))
+}
+
+fn reads_of_arguments(args: &[Argument<u32>], register: u32) -> u32 {
+    let mut count = 0u32;
+    for arg in args {
+        count = count.saturating_add(u32::from(is_at(&arg.value, register)));
+    }
+    count
+}
+
+/// How often the line reads the register.
+fn reads_of(line: &Line<u32>, register: u32) -> u32 {
     match line {
-        Line::Set { value, .. } => is_at(value, register),
-        Line::Operate { left, right, .. } => is_at(left, register) || is_at(right, register),
-        Line::Load { at, .. } => is_at(&at.base, register),
+        Line::Tick { .. } | Line::Alloc { .. } => 0,
+        Line::Set { value, .. } => u32::from(is_at(value, register)),
+        Line::Operate { left, right, .. } => reads_of_both(left, right, register),
+        Line::Load { at, .. } => u32::from(is_at(&at.base, register)),
+        Line::Store { value, at, .. } => reads_of_both(value, &at.base, register),
+        Line::Blit { from, to, .. } => reads_of_both(from, to, register),
         Line::Call { callee, args, .. } => {
-            is_at(callee, register) || !names_none(register, args.as_slice())
+            let passed = reads_of_arguments(args.as_slice(), register);
+            passed.saturating_add(u32::from(is_at(callee, register)))
         }
-        _ => !names_no(register, line),
     }
 }
 
@@ -59,7 +76,7 @@ fn jump_reads(jump: &Jump<u32>, register: u32) -> bool {
 /// Whether the register is written before it is read again, behind so many lines of the block; or isn't read again in it.
 fn is_dead(block: &Block<u32>, behind: usize, register: u32, is_elsewhere: bool) -> bool {
     for line in block.lines.as_slice().iter().skip(behind) {
-        if reads(line, register) {
+        if 0 < reads_of(line, register) {
             return false;
         }
         if line_writes(line) == Some(register) {
@@ -81,8 +98,9 @@ pub(crate) fn place_of(block: &Block<u32>, number: usize, counts: &[u32]) -> Opt
         if !lets_wait(&waiting, line) {
             break;
         }
-        if reads(line, sum.from) {
-            reading = reading.saturating_add(1);
+        let count = reads_of(line, sum.from);
+        if 0 < count {
+            reading = reading.saturating_add(count);
             place = Some(at.saturating_add(1));
         }
     }
