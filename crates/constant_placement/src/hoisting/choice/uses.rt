@@ -106,11 +106,8 @@ impl Uses {
             Line::Blit { from, to, .. } => {
                 self.push_two(from, to, (where_read(from), where_read(to)))
             }
-            Line::Call { callee, args, .. } => {
-                // a call of a name jumps to its lower part
-                self.push(callee, where_copied(callee))?;
-                self.push_arguments(args.as_slice())
-            }
+            // a call of a name that it reaches is one instruction
+            Line::Call { args, .. } => self.push_arguments(args.as_slice()),
         }
     }
 
