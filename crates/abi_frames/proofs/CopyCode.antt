@@ -2,23 +2,23 @@
 use Rattle.std.proofs.Common.{inl, inr, ◌≡◌, ◌≢◌, ℕ, zero, suc, ◌+◌, ◌-◌, ◌*◌, ◌/◌, ◌%◌, ◌^◌, ◌<◌, ◌≤◌, ◌⊎◌, Bool, true, false, List, [], ◌∷◌, ◌++◌, refl, sym, ◌∙◌, ap, subst, arith, lit<, append_assoc}
 use Rattle.std.specs.Prelude.{nat_lt, if◌then◌else◌}
 use Rattle.std.specs.Int.{byte_at}
-use Rattle.abi_frames.proofs.Shared.{State, LoadOp, StoreOp, Item, Plain, Location, Operand, nat_tests, number_at, stored, moved, is_place, operand_keeps, low}
+use Rattle.abi_frames.proofs.Shared.{State, LoadOp, StoreOp, Item, Plain, Location, InRegister, Slot, Operand, At, Number, Name, nat_tests, number_at, stored, moved, is_place, operand_keeps, low}
 use Rattle.rv_isa.specs.Step.{load, load_size, load_value, store_size}
 use Rattle.rv_isa.specs.Labelled.{Ground, Fixed}
 use Rattle.rv_isa.specs.declared.instruction.Instr.TheVariants.{Load}
 use Rattle.rv_isa.specs.declared.instruction.LoadOp.TheVariants.{Ld, Lwu, Lhu, Lbu}
 use Rattle.rv_isa.specs.declared.instruction.StoreOp.TheVariants.{Sb, Sh, Sw, Sd}
 use Rattle.rv_isa.proofs.MemoryLemmas.{stored_below, stored_above}
-use Rattle.operation_code.specs.Fields.{reg}
-use Rattle.abi_frames.specs.Emission.{into, copy_at, copy_eight, copy_eights, copy_rest, blit_items}
+use Rattle.operation_code.specs.Fields.{reg, add_low}
+use Rattle.abi_frames.specs.Emission.{into, fetch, source, copy_at, copy_eights, copy_rest, copy_bytes, copy_part, copy_parts, near_blit, far_blit, blit_items}
 use Rattle.operation_code.proofs.ConstantNumbers.{near_moves}
-use Rattle.operation_code.proofs.Leading.{Site, Leads, leads_nowhere, Sets, IsReg, register_reg}
+use Rattle.operation_code.proofs.Leading.{Site, Leads, leads_nowhere, Sets, IsReg, register_reg, in_register, in_register_small, same_in_register}
 use Rattle.abi_frames.proofs.Leads.{leads_on, leads_as}
 use Rattle.abi_frames.proofs.StackAccesses.{leads_load_at, UsableFrom, is_28, is_29}
 use Rattle.operation_code.proofs.Instructions.{leads_add_low}
-use Rattle.abi_frames.proofs.Activations.{Setting, IsSetting, site, bottom, operand_in}
-use Rattle.abi_frames.proofs.LineCode.{Scratched, leads_into, operand_same}
-use Rattle.abi_frames.proofs.Accesses.{leads_store_any, stored_byte}
+use Rattle.abi_frames.proofs.Activations.{Setting, IsSetting, site, bottom, operand_in, place_is}
+use Rattle.abi_frames.proofs.LineCode.{Scratched, leads_into, leads_fetch, fetched_scratched, source_number, source_small, source_not_29, operand_same}
+use Rattle.abi_frames.proofs.Accesses.{leads_store_any_in, stored_byte}
 use Rattle.flat_code.proofs.Storing.{byte_later}
 
 -- ---- bytes that were copied
@@ -80,15 +80,6 @@ read_byte f a (suc n) (suc k) small h =
     let high_part : (f a + 256 * rest) / 256 ≡ rest = omega (arith, byte) in
     sym (byte_later k (f a + 256 * rest)) ∙ (ap (byte_at k) high_part ∙ (read_byte f (a + 1) n k small (omega (arith, h)) ∙ ap f next))
 
--- ---- a load and a store
-
--- a load at an offset from a register
-leads_load_any : (c : Site) (s : State) (op : LoadOp) (d base o a : ℕ) → IsReg d → IsReg base → Fixed c.ground s
-    → moved (s.registers base) (low o).value ≡ a → UsableFrom c.ground a (load_size op)
-    → Leads c (Plain (Load op (reg d) (reg base) (low o)) ∷ []) s (Sets s d (load_value op (number_at s.bytes a (load_size op))))
-leads_load_any c s op d base o a is is_base fixed there usable =
-    leads_load_at c s op d base (low o) a is fixed (ap (λ x. moved x (low o).value) (register_reg s base is_base) ∙ there) usable
-
 -- n bytes were copied; of the registers only x30 may have changed
 pub record Piece (s : State) (n from to : ℕ) (u : State) : Type 0 where
   pub bytes : CopiedBytes s.bytes u.bytes n from to
@@ -119,22 +110,47 @@ written_copied s t u n from to v small value same is = record {
     elsewhere x (inl below) = stored_below t.bytes to n v x below
     elsewhere x (inr above) = stored_above t.bytes to n v x above
 
-leads_copy_at : (c : Site) (s : State) (load : LoadOp) (store : StoreOp) (n o from to : ℕ) → Alike load store n → Fixed c.ground s
-    → moved (s.registers 28) (low o).value ≡ from → moved (s.registers 29) (low o).value ≡ to → UsableFrom c.ground from n → UsableFrom c.ground to n
-    → Leads c (copy_at load store o) s (Piece s n from to)
-leads_copy_at c s load store n o from to alike fixed at_from at_to usable_from usable_to =
+-- the addresses to copy from and to are in two registers, and not in the one that the bytes go through
+record Bases (s : State) (a b from to : ℕ) : Type 0 where
+  from_small : a < 32
+  from_other : a ≢ 30
+  from_at : in_register s a ≡ from % 2 ^ 64
+  to_small : b < 32
+  to_other : b ≢ 30
+  to_at : in_register s b ≡ to % 2 ^ 64
+
+bases_stay : (s u : State) (a b from to : ℕ) → ((m : ℕ) → m ≢ 30 → u.registers m ≡ s.registers m) → Bases s a b from to → Bases u a b from to
+bases_stay s u a b from to same h = record {
+  from_small = h.from_small;
+  from_other = h.from_other;
+  from_at = same_in_register s u a h.from_small (same a h.from_other) ∙ h.from_at;
+  to_small = h.to_small;
+  to_other = h.to_other;
+  to_at = same_in_register s u b h.to_small (same b h.to_other) ∙ h.to_at;
+}
+
+offset_address : (x a o b : ℕ) → x ≡ a % 2 ^ 64 → o < 2048 → b ≡ a + o → b < 2 ^ 64 → moved x (low o).value ≡ b
+offset_address x a o b e h is small = near_moves x o h ∙ omega (arith, e, is, small)
+
+leads_copy_at : (c : Site) (s : State) (load : LoadOp) (store : StoreOp) (a b n o from to p q : ℕ) → Alike load store n → Fixed c.ground s → Bases s a b from to
+    → o < 2048 → p ≡ from + o → q ≡ to + o → UsableFrom c.ground p n → UsableFrom c.ground q n → Leads c (copy_at load store a b o) s (Piece s n p q)
+leads_copy_at c s load store a b n o from to p q alike fixed bases near is_p is_q usable_p usable_q =
     let m : ℕ = load_size load in
-    let v : ℕ = load_value load (number_at s.bytes from m) in
-    let value : v ≡ number_at s.bytes from n = alike.plain (number_at s.bytes from m) ∙ ap (number_at s.bytes from) alike.loads in
-    leads_on (leads_load_any c s load 30 28 o from is_30 is_28 fixed at_from (subst (UsableFrom c.ground from) (sym alike.loads) usable_from))
+    let v : ℕ = load_value load (number_at s.bytes p m) in
+    let value : v ≡ number_at s.bytes p n = alike.plain (number_at s.bytes p m) ∙ ap (number_at s.bytes p) alike.loads in
+    let more = alike.some in
+    let small_p = (usable_p p (omega arith) (omega (arith, more))).small in
+    let small_q = (usable_q q (omega arith) (omega (arith, more))).small in
+    leads_on (leads_load_at c s load 30 a (low o) p is_30 fixed (offset_address (in_register s a) from o p bases.from_at near is_p small_p)
+    (subst (UsableFrom c.ground p) (sym alike.loads) usable_p))
     (λ t f one.
-    leads_as (leads_store_any c t store 30 29 o to is_30 is_29 f
-    (ap (λ x. moved x (low o).value) (one.others 29 (λ e. absurd (omega (arith, e)))) ∙ at_to)
-    (subst (UsableFrom c.ground to) (sym alike.stores) usable_to))
+    let moved_on = bases_stay s t a b from to one.others bases in
+    leads_as (leads_store_any_in c t store 30 b (low o) q f (offset_address (in_register t b) to o q moved_on.to_at near is_q small_q)
+    (subst (UsableFrom c.ground q) (sym alike.stores) usable_q))
     (λ u g two. record {
-      bytes = written_copied s t u n from to (t.registers 30) fixed.small (one.value ∙ value) one.bytes
-          (two.bytes ∙ ap (λ q. stored t.bytes to q (t.registers 30)) alike.stores);
-      registers = λ q other. two.registers q ∙ one.others q other;
+      bytes = written_copied s t u n p q (in_register t 30) fixed.small (register_reg t 30 is_30 ∙ (one.value ∙ value)) one.bytes
+          (two.bytes ∙ ap (λ x. stored t.bytes q x (in_register t 30)) alike.stores);
+      registers = λ x other. two.registers x ∙ one.others x other;
       output = two.output ∙ one.output;
     }))
 
@@ -150,134 +166,63 @@ halves = record { loads = refl; stores = refl; plain = λ v. refl; some = lit< t
 single : Alike Lbu Sb 1
 single = record { loads = refl; stores = refl; plain = λ v. refl; some = lit< tt }
 
--- ---- many bytes
-
--- n bytes were copied; of the registers only scratch may have changed
-pub record Copied (s : State) (n from to : ℕ) (u : State) : Type 0 where
-  pub bytes : CopiedBytes s.bytes u.bytes n from to
-  pub registers : (m : ℕ) → m < 28 → u.registers m ≡ s.registers m
-  pub output : u.output ≡ s.output
-
--- and the next addresses are in x28 and x29
-pub record Onward (s : State) (n from to : ℕ) (u : State) : Type 0 where
-  pub copied : Copied s n from to u
-  pub from_at : u.registers 28 ≡ (from + n) % 2 ^ 64
-  pub to_at : u.registers 29 ≡ (to + n) % 2 ^ 64
-
-offset_address : (x a o b : ℕ) → x ≡ a % 2 ^ 64 → o < 2048 → b ≡ a + o → b < 2 ^ 64 → moved x (low o).value ≡ b
-offset_address x a o b e h is small = near_moves x o h ∙ omega (arith, e, is, small)
-
-not_scratch : (m d : ℕ) → 28 ≤ d → m < 28 → m ≢ d
-not_scratch m d h lo e = absurd (omega (arith, h, lo, e))
-
-next_address : (x a o : ℕ) → x ≡ a % 2 ^ 64 → o < 2048 → moved x (low o).value ≡ (a + o) % 2 ^ 64
-next_address x a o e h = near_moves x o h ∙ omega (arith, e)
-
-leads_eight : (c : Site) (s : State) (from to : ℕ) → Fixed c.ground s → s.registers 28 ≡ from % 2 ^ 64 → s.registers 29 ≡ to % 2 ^ 64
-    → UsableFrom c.ground from 8 → UsableFrom c.ground to 8 → Leads c copy_eight s (Onward s 8 from to)
-leads_eight c s from to fixed at_from at_to usable_from usable_to =
-    let small_from = (usable_from from (omega arith) (omega arith)).small in
-    let small_to = (usable_to to (omega arith) (omega arith)).small in
-    let there_from = offset_address (s.registers 28) from 0 from at_from (lit< tt) (omega arith) small_from in
-    let there_to = offset_address (s.registers 29) to 0 to at_to (lit< tt) (omega arith) small_to in
-    leads_on (leads_copy_at c s Ld Sd 8 0 from to longs fixed there_from there_to usable_from usable_to)
-    (λ t f one.
-    leads_on (leads_add_low c t 28 28 8 (t.registers 28) ((from + 8) % 2 ^ 64) is_28 (register_reg t 28 is_28)
-    (next_address (t.registers 28) from 8 (one.registers 28 (λ e. absurd (omega (arith, e))) ∙ at_from) (lit< tt)))
-    (λ u g two.
-    leads_as (leads_add_low c u 29 29 8 (u.registers 29) ((to + 8) % 2 ^ 64) is_29 (register_reg u 29 is_29)
-    (next_address (u.registers 29) to 8
-    (two.others 29 (λ e. absurd (omega (arith, e))) ∙ (one.registers 29 (λ e. absurd (omega (arith, e))) ∙ at_to)) (lit< tt)))
-    (λ w h three. record {
-      copied = record {
-        bytes = subst (λ (b : ℕ → ℕ). CopiedBytes s.bytes b 8 from to) (sym (three.bytes ∙ two.bytes)) one.bytes;
-        registers = λ m lo.
-            three.others m (not_scratch m 29 (omega arith) lo)
-            ∙ (two.others m (not_scratch m 28 (omega arith) lo) ∙ one.registers m (not_scratch m 30 (omega arith) lo));
-        output = three.output ∙ (two.output ∙ one.output);
-      };
-      from_at = three.others 28 (λ e. absurd (omega (arith, e))) ∙ two.value;
-      to_at = three.value;
-    })))
-
--- with the addresses that follow
-apart_after : (n m from to : ℕ) → Apart (n + m) from to → Apart m (from + n) (to + n)
-apart_after n m from to (inl same) = inl (ap (λ x. x + n) same)
-apart_after n m from to (inr (inl below)) = inr (inl (omega (arith, below)))
-apart_after n m from to (inr (inr above)) = inr (inr (omega (arith, above)))
+-- ---- pieces, one behind the other
 
 apart_before : (n m from to : ℕ) → Apart (n + m) from to → Apart n from to
 apart_before n m from to (inl same) = inl same
 apart_before n m from to (inr (inl below)) = inr (inl (omega (arith, below)))
 apart_before n m from to (inr (inr above)) = inr (inr (omega (arith, above)))
 
-usable_after : (g : Ground) (a n m : ℕ) → UsableFrom g a (n + m) → UsableFrom g (a + n) m
-usable_after g a n m usable x lo hi = usable x (omega (arith, lo)) (omega (arith, hi))
+apart_after : (n m from to : ℕ) → Apart (n + m) from to → Apart m (from + n) (to + n)
+apart_after n m from to (inl same) = inl (ap (λ x. x + n) same)
+apart_after n m from to (inr (inl below)) = inr (inl (omega (arith, below)))
+apart_after n m from to (inr (inr above)) = inr (inr (omega (arith, above)))
 
-usable_before : (g : Ground) (a n m : ℕ) → UsableFrom g a (n + m) → UsableFrom g a n
-usable_before g a n m usable x lo hi = usable x lo (omega (arith, hi))
+usable_part : (g : Ground) (a n b m : ℕ) → UsableFrom g a n → a ≤ b → b + m ≤ a + n → UsableFrom g b m
+usable_part g a n b m usable behind before x lo hi = usable x (omega (arith, lo, behind)) (omega (arith, hi, before))
 
-copied_on : (s u w : State) (n m from to : ℕ) → Apart (n + m) from to → Copied s n from to u → Copied u m (from + n) (to + n) w → Copied s (n + m) from to w
-copied_on s u w n m from to apart one two = record {
+piece_on : (s u w : State) (n m from to : ℕ) → Apart (n + m) from to → Piece s n from to u → Piece u m (from + n) (to + n) w → Piece s (n + m) from to w
+piece_on s u w n m from to apart one two = record {
   bytes = copied_then s.bytes u.bytes w.bytes n m from to apart one.bytes two.bytes;
-  registers = λ q lo. two.registers q lo ∙ one.registers q lo;
+  registers = λ q other. two.registers q other ∙ one.registers q other;
   output = two.output ∙ one.output;
 }
 
-further : (x a n m : ℕ) → x ≡ (a + n + m) % 2 ^ 64 → x ≡ (a + (n + m)) % 2 ^ 64
-further x a n m e = omega (arith, e)
-
-onward_on : (s u w : State) (n m from to : ℕ) → Apart (n + m) from to → Onward s n from to u → Onward u m (from + n) (to + n) w → Onward s (n + m) from to w
-onward_on s u w n m from to apart one two = record {
-  copied = copied_on s u w n m from to apart one.copied two.copied;
-  from_at = further (w.registers 28) from n m two.from_at;
-  to_at = further (w.registers 29) to n m two.to_at;
+no_piece : (s : State) (n from to : ℕ) → n ≡ 0 → Piece s n from to s
+no_piece s n from to none = record {
+  bytes = subst (λ k. CopiedBytes s.bytes s.bytes k from to) (sym none) (no_bytes s.bytes from to);
+  registers = λ q h. refl;
+  output = refl;
 }
 
-leads_eights : (c : Site) (s : State) (k from to : ℕ) → Apart (8 * k) from to → Fixed c.ground s → s.registers 28 ≡ from % 2 ^ 64
-    → s.registers 29 ≡ to % 2 ^ 64 → UsableFrom c.ground from (8 * k) → UsableFrom c.ground to (8 * k) → Leads c (copy_eights k) s (Onward s (8 * k) from to)
-leads_eights c s zero from to apart fixed at_from at_to usable_from usable_to =
-    leads_nowhere c s (Onward s (8 * zero) from to)
-    (record {
-      copied = record { bytes = no_bytes s.bytes from to; registers = λ m lo. refl; output = refl };
-      from_at = omega (arith, at_from);
-      to_at = omega (arith, at_to);
-    })
-leads_eights c s (suc k) from to apart fixed at_from at_to usable_from usable_to =
-    let whole : 8 * suc k ≡ 8 + 8 * k = omega arith in
-    let apart_n : Apart (8 + 8 * k) from to = subst (λ n. Apart n from to) whole apart in
-    let from_n : UsableFrom c.ground from (8 + 8 * k) = subst (UsableFrom c.ground from) whole usable_from in
-    let to_n : UsableFrom c.ground to (8 + 8 * k) = subst (UsableFrom c.ground to) whole usable_to in
-    leads_on (leads_eight c s from to fixed at_from at_to (usable_before c.ground from 8 (8 * k) from_n) (usable_before c.ground to 8 (8 * k) to_n))
+leads_eights : (c : Site) (s : State) (a b o k n from to p q : ℕ) → n ≡ 8 * k → o + n ≤ 2048 → p ≡ from + o → q ≡ to + o → Apart n p q → Fixed c.ground s
+    → Bases s a b from to → UsableFrom c.ground p n → UsableFrom c.ground q n → Leads c (copy_eights a b o k) s (Piece s n p q)
+leads_eights c s a b o zero n from to p q is near is_p is_q apart fixed bases usable_p usable_q =
+    leads_nowhere c s (Piece s n p q) (no_piece s n p q (omega (arith, is)))
+leads_eights c s a b o (suc k) n from to p q is near is_p is_q apart fixed bases usable_p usable_q =
+    let whole : n ≡ 8 + 8 * k = omega (arith, is) in
+    let apart_n : Apart (8 + 8 * k) p q = subst (λ n. Apart n p q) whole apart in
+    leads_on (leads_copy_at c s Ld Sd a b 8 o from to p q longs fixed bases (omega (arith, near, whole)) is_p is_q
+    (usable_part c.ground p n p 8 usable_p (omega arith) (omega (arith, whole))) (usable_part c.ground q n q 8 usable_q (omega arith) (omega (arith, whole))))
     (λ u f one.
-    leads_as (leads_eights c u k (from + 8) (to + 8) (apart_after 8 (8 * k) from to apart_n) f one.from_at one.to_at
-    (usable_after c.ground from 8 (8 * k) from_n) (usable_after c.ground to 8 (8 * k) to_n))
-    (λ w g two. subst (λ n. Onward s n from to w) (sym whole) (onward_on s u w 8 (8 * k) from to apart_n one two)))
+    leads_as (leads_eights c u a b (o + 8) k (8 * k) from to (p + 8) (q + 8) refl (omega (arith, near, whole)) (omega (arith, is_p)) (omega (arith, is_q))
+    (apart_after 8 (8 * k) p q apart_n) f (bases_stay s u a b from to one.registers bases)
+    (usable_part c.ground p n (p + 8) (8 * k) usable_p (omega arith) (omega (arith, whole))) (usable_part c.ground q n (q + 8) (8 * k) usable_q (omega arith) (omega (arith, whole))))
+    (λ w g two. subst (λ n. Piece s n p q w) (sym whole) (piece_on s u w 8 (8 * k) p q apart_n one two)))
 
 -- ---- fewer than eight bytes
 
-leads_piece : (c : Site) (s : State) (load : LoadOp) (store : StoreOp) (n o from to m : ℕ) (t : Bool) → Alike load store n → (t ≡ true → m ≡ 0)
-    → (t ≡ false → m ≡ n) → Fixed c.ground s → s.registers 28 ≡ from % 2 ^ 64 → s.registers 29 ≡ to % 2 ^ 64 → o < 2048
-    → UsableFrom c.ground (from + o) m → UsableFrom c.ground (to + o) m → Leads c (if t then [] else copy_at load store o) s (Piece s m (from + o) (to + o))
-leads_piece c s load store n o from to m true alike none some fixed at_from at_to near usable_from usable_to =
-    leads_nowhere c s (Piece s m (from + o) (to + o))
-    (record {
-      bytes = subst (λ k. CopiedBytes s.bytes s.bytes k (from + o) (to + o)) (sym (none refl)) (no_bytes s.bytes (from + o) (to + o));
-      registers = λ q h. refl;
-      output = refl;
-    })
-leads_piece c s load store n o from to m false alike none some fixed at_from at_to near usable_from usable_to =
+leads_piece : (c : Site) (s : State) (load : LoadOp) (store : StoreOp) (a b n o from to p q m : ℕ) (t : Bool) → Alike load store n → (t ≡ true → m ≡ 0)
+    → (t ≡ false → m ≡ n) → Fixed c.ground s → Bases s a b from to → o + m ≤ 2048 → p ≡ from + o → q ≡ to + o
+    → UsableFrom c.ground p m → UsableFrom c.ground q m → Leads c (if t then [] else copy_at load store a b o) s (Piece s m p q)
+leads_piece c s load store a b n o from to p q m true alike none some fixed bases near is_p is_q usable_p usable_q =
+    leads_nowhere c s (Piece s m p q) (no_piece s m p q (none refl))
+leads_piece c s load store a b n o from to p q m false alike none some fixed bases near is_p is_q usable_p usable_q =
+    let is = some refl in
     let more = alike.some in
-    let from_n : UsableFrom c.ground (from + o) n = subst (UsableFrom c.ground (from + o)) (some refl) usable_from in
-    let to_n : UsableFrom c.ground (to + o) n = subst (UsableFrom c.ground (to + o)) (some refl) usable_to in
-    let small_from = (from_n (from + o) (omega arith) (omega (arith, more))).small in
-    let small_to = (to_n (to + o) (omega arith) (omega (arith, more))).small in
-    subst (λ k. Leads c (copy_at load store o) s (Piece s k (from + o) (to + o))) (sym (some refl))
-    (leads_copy_at c s load store n o (from + o) (to + o) alike fixed (offset_address (s.registers 28) from o (from + o) at_from near refl small_from)
-    (offset_address (s.registers 29) to o (to + o) at_to near refl small_to) from_n to_n)
-
-piece_copied : (s u : State) (n from to : ℕ) → Piece s n from to u → Copied s n from to u
-piece_copied s u n from to h = record { bytes = h.bytes; registers = λ m lo. h.registers m (not_scratch m 30 (omega arith) lo); output = h.output }
+    subst (λ k. Leads c (copy_at load store a b o) s (Piece s k p q)) (sym is)
+    (leads_copy_at c s load store a b n o from to p q alike fixed bases (omega (arith, near, is, more)) is_p is_q
+    (subst (UsableFrom c.ground p) is usable_p) (subst (UsableFrom c.ground q) is usable_q))
 
 -- the bits of a number below eight
 four_of : (n : ℕ) → n < 8 → (nat_lt n 4 ≡ true → n / 4 * 4 ≡ 0) × (nat_lt n 4 ≡ false → n / 4 * 4 ≡ 4)
@@ -289,130 +234,276 @@ two_of n = (λ e. grind (arith, nat_tests), λ e. grind (arith, nat_tests))
 one_of : (n : ℕ) → (nat_lt (n % 2) 1 ≡ true → n % 2 ≡ 0) × (nat_lt (n % 2) 1 ≡ false → n % 2 ≡ 1)
 one_of n = (λ e. grind (arith, nat_tests), λ e. grind (arith, nat_tests))
 
--- the last byte
-leads_last : (c : Site) (s : State) (n from to : ℕ) → n < 8 → Fixed c.ground s → s.registers 28 ≡ from % 2 ^ 64 → s.registers 29 ≡ to % 2 ^ 64
-    → UsableFrom c.ground (from + n / 2 * 2) (n % 2) → UsableFrom c.ground (to + n / 2 * 2) (n % 2)
-    → Leads c (if nat_lt (n % 2) 1 then [] else copy_at Lbu Sb (n / 2 * 2)) s (Copied s (n % 2) (from + n / 2 * 2) (to + n / 2 * 2))
-leads_last c s n from to few fixed at_from at_to usable_from usable_to =
-    let o : ℕ = n / 2 * 2 in
-    let m : ℕ = n % 2 in
-    let bits = one_of n in
-    leads_as (leads_piece c s Lbu Sb 1 o from to m (nat_lt (n % 2) 1) single bits.0 bits.1 fixed at_from at_to (omega (arith, few)) usable_from usable_to)
-    (λ u f h. piece_copied s u m (from + o) (to + o) h)
-
--- the two before it, and the last
-leads_pair : (c : Site) (s : State) (n from to : ℕ) → n < 8 → Apart (n % 4) (from + n / 4 * 4) (to + n / 4 * 4) → Fixed c.ground s
-    → s.registers 28 ≡ from % 2 ^ 64 → s.registers 29 ≡ to % 2 ^ 64
-    → UsableFrom c.ground (from + n / 4 * 4) (n % 4) → UsableFrom c.ground (to + n / 4 * 4) (n % 4)
-    → Leads c ((if nat_lt (n % 4) 2 then [] else copy_at Lhu Sh (n / 4 * 4)) ++ (if nat_lt (n % 2) 1 then [] else copy_at Lbu Sb (n / 2 * 2))) s
-    (Copied s (n % 4) (from + n / 4 * 4) (to + n / 4 * 4))
-leads_pair c s n from to few apart fixed at_from at_to usable_from usable_to =
-    let o : ℕ = n / 4 * 4 in
+leads_rest : (c : Site) (s : State) (a b o n from to p q : ℕ) → n < 8 → o + n ≤ 2048 → p ≡ from + o → q ≡ to + o → Apart n p q → Fixed c.ground s
+    → Bases s a b from to → UsableFrom c.ground p n → UsableFrom c.ground q n → Leads c (copy_rest a b o n) s (Piece s n p q)
+leads_rest c s a b o n from to p q few near is_p is_q apart fixed bases usable_p usable_q =
+    let k : ℕ = n / 4 * 4 in
     let m : ℕ = n % 4 / 2 * 2 in
-    let q : ℕ = n / 2 * 2 in
-    let whole : n % 4 ≡ m + n % 2 = omega arith in
-    let next_from : from + o + m ≡ from + q = omega arith in
-    let next_to : to + o + m ≡ to + q = omega arith in
-    let bits = two_of n in
-    let apart_n : Apart (m + n % 2) (from + o) (to + o) = subst (λ k. Apart k (from + o) (to + o)) whole apart in
-    let from_n : UsableFrom c.ground (from + o) (m + n % 2) = subst (UsableFrom c.ground (from + o)) whole usable_from in
-    let to_n : UsableFrom c.ground (to + o) (m + n % 2) = subst (UsableFrom c.ground (to + o)) whole usable_to in
-    let last_from : UsableFrom c.ground (from + q) (n % 2) = subst (λ x. UsableFrom c.ground x (n % 2)) next_from (usable_after c.ground (from + o) m (n % 2) from_n) in
-    let last_to : UsableFrom c.ground (to + q) (n % 2) = subst (λ x. UsableFrom c.ground x (n % 2)) next_to (usable_after c.ground (to + o) m (n % 2) to_n) in
-    leads_on (leads_piece c s Lhu Sh 2 o from to m (nat_lt (n % 4) 2) halves bits.0 bits.1 fixed at_from at_to (omega (arith, few))
-    (usable_before c.ground (from + o) m (n % 2) from_n) (usable_before c.ground (to + o) m (n % 2) to_n))
+    let r : ℕ = n % 2 in
+    let whole : n ≡ k + (m + r) = omega arith in
+    let both : k + m ≡ n / 2 * 2 = omega arith in
+    let fours = four_of n few in
+    let twos = two_of n in
+    let ones = one_of n in
+    let apart_n : Apart (k + (m + r)) p q = subst (λ x. Apart x p q) whole apart in
+    let later = apart_after k (m + r) p q apart_n in
+    leads_on (leads_piece c s Lwu Sw a b 4 o from to p q k (nat_lt n 4) words fours.0 fours.1 fixed bases (omega (arith, near, whole)) is_p is_q
+    (usable_part c.ground p n p k usable_p (omega arith) (omega (arith, whole))) (usable_part c.ground q n q k usable_q (omega arith) (omega (arith, whole))))
     (λ u f one.
-    leads_as (leads_last c u n from to few f (one.registers 28 (λ e. absurd (omega (arith, e))) ∙ at_from) (one.registers 29 (λ e. absurd (omega (arith, e))) ∙ at_to)
-    last_from last_to)
-    (λ w g two.
-    let two_there : Copied u (n % 2) (from + o + m) (to + o + m) w =
-    subst (λ x. Copied u (n % 2) x (to + o + m) w) (sym next_from) (subst (λ x. Copied u (n % 2) (from + q) x w) (sym next_to) two) in
-    subst (λ k. Copied s k (from + o) (to + o) w) (sym whole)
-    (copied_on s u w m (n % 2) (from + o) (to + o) apart_n (piece_copied s u m (from + o) (to + o) one) two_there)))
+    let in_u = bases_stay s u a b from to one.registers bases in
+    leads_on (leads_piece c u Lhu Sh a b 2 (o + k) from to (p + k) (q + k) m (nat_lt (n % 4) 2) halves twos.0 twos.1 f in_u (omega (arith, near, whole)) (omega (arith, is_p)) (omega (arith, is_q))
+    (usable_part c.ground p n (p + k) m usable_p (omega arith) (omega (arith, whole))) (usable_part c.ground q n (q + k) m usable_q (omega arith) (omega (arith, whole))))
+    (λ v g two.
+    leads_as (leads_piece c v Lbu Sb a b 1 (o + n / 2 * 2) from to (p + k + m) (q + k + m) r (nat_lt (n % 2) 1) single ones.0 ones.1 g (bases_stay u v a b from to two.registers in_u)
+    (omega (arith, near, whole, both)) (omega (arith, is_p, both)) (omega (arith, is_q, both))
+    (usable_part c.ground p n (p + k + m) r usable_p (omega arith) (omega (arith, whole))) (usable_part c.ground q n (q + k + m) r usable_q (omega arith) (omega (arith, whole))))
+    (λ w h three. subst (λ x. Piece s x p q w) (sym whole)
+    (piece_on s u w k (m + r) p q apart_n one (piece_on u v w m r (p + k) (q + k) later two three)))))
 
-leads_rest : (c : Site) (s : State) (n from to : ℕ) → n < 8 → Apart n from to → Fixed c.ground s → s.registers 28 ≡ from % 2 ^ 64
-    → s.registers 29 ≡ to % 2 ^ 64 → UsableFrom c.ground from n → UsableFrom c.ground to n → Leads c (copy_rest n) s (Copied s n from to)
-leads_rest c s n from to few apart fixed at_from at_to usable_from usable_to =
-    let m : ℕ = n / 4 * 4 in
-    let whole : n ≡ m + n % 4 = omega arith in
-    let here_from : from + 0 ≡ from = omega arith in
-    let here_to : to + 0 ≡ to = omega arith in
-    let bits = four_of n few in
-    let apart_n : Apart (m + n % 4) from to = subst (λ k. Apart k from to) whole apart in
-    let from_n : UsableFrom c.ground from (m + n % 4) = subst (UsableFrom c.ground from) whole usable_from in
-    let to_n : UsableFrom c.ground to (m + n % 4) = subst (UsableFrom c.ground to) whole usable_to in
-    leads_on (leads_piece c s Lwu Sw 4 0 from to m (nat_lt n 4) words bits.0 bits.1 fixed at_from at_to (lit< tt)
-    (subst (λ x. UsableFrom c.ground x m) (sym here_from) (usable_before c.ground from m (n % 4) from_n))
-    (subst (λ x. UsableFrom c.ground x m) (sym here_to) (usable_before c.ground to m (n % 4) to_n)))
+-- ---- so few bytes that the offsets fit the instructions
+
+leads_bytes : (c : Site) (s : State) (a b n from to : ℕ) → n < 2048 → Apart n from to → Fixed c.ground s → Bases s a b from to
+    → UsableFrom c.ground from n → UsableFrom c.ground to n → Leads c (copy_bytes a b n) s (Piece s n from to)
+leads_bytes c s a b n from to near apart fixed bases usable_from usable_to =
+    let k : ℕ = 8 * (n / 8) in
+    let r : ℕ = n % 8 in
+    let whole : n ≡ k + r = omega arith in
+    let apart_n : Apart (k + r) from to = subst (λ x. Apart x from to) whole apart in
+    leads_on (leads_eights c s a b 0 (n / 8) k from to from to refl (omega (arith, near, whole)) (omega arith) (omega arith) (apart_before k r from to apart_n) fixed bases
+    (usable_part c.ground from n from k usable_from (omega arith) (omega (arith, whole))) (usable_part c.ground to n to k usable_to (omega arith) (omega (arith, whole))))
     (λ u f one.
-    let first : Copied s m from to u =
-    subst (λ x. Copied s m x to u) here_from (subst (λ x. Copied s m (from + 0) x u) here_to (piece_copied s u m (from + 0) (to + 0) one)) in
-    leads_as (leads_pair c u n from to few (apart_after m (n % 4) from to apart_n) f (one.registers 28 (λ e. absurd (omega (arith, e))) ∙ at_from)
-    (one.registers 29 (λ e. absurd (omega (arith, e))) ∙ at_to) (usable_after c.ground from m (n % 4) from_n) (usable_after c.ground to m (n % 4) to_n))
-    (λ w g two. subst (λ k. Copied s k from to w) (sym whole) (copied_on s u w m (n % 4) from to apart_n first two)))
+    leads_as (leads_rest c u a b (n / 8 * 8) r from to (from + k) (to + k) (omega arith) (omega (arith, near)) (omega arith) (omega arith) (apart_after k r from to apart_n) f
+    (bases_stay s u a b from to one.registers bases)
+    (usable_part c.ground from n (from + k) r usable_from (omega arith) (omega (arith, whole))) (usable_part c.ground to n (to + k) r usable_to (omega arith) (omega (arith, whole))))
+    (λ w g two. subst (λ x. Piece s x from to w) (sym whole) (piece_on s u w k r from to apart_n one two)))
+
+-- ---- many bytes
+
+-- n bytes were copied; of the registers only scratch may have changed
+pub record Copied (s : State) (n from to : ℕ) (u : State) : Type 0 where
+  pub bytes : CopiedBytes s.bytes u.bytes n from to
+  pub registers : (m : ℕ) → m < 28 → u.registers m ≡ s.registers m
+  pub output : u.output ≡ s.output
+
+-- and the next addresses are in x28 and x29
+record Onward (s : State) (n from to : ℕ) (u : State) : Type 0 where
+  copied : Copied s n from to u
+  from_at : u.registers 28 ≡ (from + n) % 2 ^ 64
+  to_at : u.registers 29 ≡ (to + n) % 2 ^ 64
+
+not_scratch : (m d : ℕ) → 28 ≤ d → m < 28 → m ≢ d
+not_scratch m d h lo e = absurd (omega (arith, h, lo, e))
+
+piece_copied : (s u : State) (n from to : ℕ) → Piece s n from to u → Copied s n from to u
+piece_copied s u n from to h = record { bytes = h.bytes; registers = λ m lo. h.registers m (not_scratch m 30 (omega arith) lo); output = h.output }
+
+copied_on : (s u w : State) (n m from to : ℕ) → Apart (n + m) from to → Copied s n from to u → Copied u m (from + n) (to + n) w → Copied s (n + m) from to w
+copied_on s u w n m from to apart one two = record {
+  bytes = copied_then s.bytes u.bytes w.bytes n m from to apart one.bytes two.bytes;
+  registers = λ q lo. two.registers q lo ∙ one.registers q lo;
+  output = two.output ∙ one.output;
+}
+
+in_scratch : (s : State) (from to : ℕ) → s.registers 28 ≡ from % 2 ^ 64 → s.registers 29 ≡ to % 2 ^ 64 → Bases s 28 29 from to
+in_scratch s from to at_from at_to = record {
+  from_small = lit< tt;
+  from_other = λ e. absurd (omega (arith, e));
+  from_at = register_reg s 28 is_28 ∙ at_from;
+  to_small = lit< tt;
+  to_other = λ e. absurd (omega (arith, e));
+  to_at = register_reg s 29 is_29 ∙ at_to;
+}
+
+next_address : (x a o : ℕ) → x ≡ a % 2 ^ 64 → o < 2048 → moved x (low o).value ≡ (a + o) % 2 ^ 64
+next_address x a o e h = near_moves x o h ∙ omega (arith, e)
+
+-- the addresses move on
+leads_next : (c : Site) (s t : State) (n from to : ℕ) → n < 2048 → Fixed c.ground t → s.registers 28 ≡ from % 2 ^ 64 → s.registers 29 ≡ to % 2 ^ 64 → Piece s n from to t
+    → Leads c (add_low 28 28 n ∷ add_low 29 29 n ∷ []) t (Onward s n from to)
+leads_next c s t n from to near f at_from at_to one =
+    leads_on (leads_add_low c t 28 28 n (t.registers 28) ((from + n) % 2 ^ 64) is_28 (register_reg t 28 is_28)
+    (next_address (t.registers 28) from n (one.registers 28 (λ e. absurd (omega (arith, e))) ∙ at_from) near))
+    (λ u g two.
+    leads_as (leads_add_low c u 29 29 n (u.registers 29) ((to + n) % 2 ^ 64) is_29 (register_reg u 29 is_29)
+    (next_address (u.registers 29) to n
+    (two.others 29 (λ e. absurd (omega (arith, e))) ∙ (one.registers 29 (λ e. absurd (omega (arith, e))) ∙ at_to)) near))
+    (λ w h three. record {
+      copied = record {
+        bytes = subst (λ (b : ℕ → ℕ). CopiedBytes s.bytes b n from to) (sym (three.bytes ∙ two.bytes)) one.bytes;
+        registers = λ m lo.
+            three.others m (not_scratch m 29 (omega arith) lo)
+            ∙ (two.others m (not_scratch m 28 (omega arith) lo) ∙ one.registers m (not_scratch m 30 (omega arith) lo));
+        output = three.output ∙ (two.output ∙ one.output);
+      };
+      from_at = three.others 28 (λ e. absurd (omega (arith, e))) ∙ two.value;
+      to_at = three.value;
+    }))
+
+leads_part : (c : Site) (s : State) (from to : ℕ) → Apart 2040 from to → Fixed c.ground s → s.registers 28 ≡ from % 2 ^ 64 → s.registers 29 ≡ to % 2 ^ 64
+    → UsableFrom c.ground from 2040 → UsableFrom c.ground to 2040 → Leads c copy_part s (Onward s 2040 from to)
+leads_part c s from to apart fixed at_from at_to usable_from usable_to =
+    leads_on (leads_bytes c s 28 29 2040 from to (lit< tt) apart fixed (in_scratch s from to at_from at_to) usable_from usable_to)
+    (λ t f one. leads_next c s t 2040 from to (lit< tt) f at_from at_to one)
+
+further : (x a n m : ℕ) → x ≡ (a + n + m) % 2 ^ 64 → x ≡ (a + (n + m)) % 2 ^ 64
+further x a n m e = omega (arith, e)
+
+onward_on : (s u w : State) (n m from to : ℕ) → Apart (n + m) from to → Onward s n from to u → Onward u m (from + n) (to + n) w → Onward s (n + m) from to w
+onward_on s u w n m from to apart one two = record {
+  copied = copied_on s u w n m from to apart one.copied two.copied;
+  from_at = further (w.registers 28) from n m two.from_at;
+  to_at = further (w.registers 29) to n m two.to_at;
+}
+
+leads_parts : (c : Site) (s : State) (k n from to : ℕ) → n ≡ 2040 * k → Apart n from to → Fixed c.ground s → s.registers 28 ≡ from % 2 ^ 64 → s.registers 29 ≡ to % 2 ^ 64
+    → UsableFrom c.ground from n → UsableFrom c.ground to n → Leads c (copy_parts k) s (Onward s n from to)
+leads_parts c s zero n from to is apart fixed at_from at_to usable_from usable_to =
+    let none : n ≡ 0 = omega (arith, is) in
+    leads_nowhere c s (Onward s n from to)
+    (record {
+      copied = piece_copied s s n from to (no_piece s n from to none);
+      from_at = omega (arith, at_from, none);
+      to_at = omega (arith, at_to, none);
+    })
+leads_parts c s (suc k) n from to is apart fixed at_from at_to usable_from usable_to =
+    let m : ℕ = 2040 * k in
+    let whole : n ≡ 2040 + m = omega (arith, is) in
+    let apart_n : Apart (2040 + m) from to = subst (λ n. Apart n from to) whole apart in
+    leads_on (leads_part c s from to (apart_before 2040 m from to apart_n) fixed at_from at_to
+    (usable_part c.ground from n from 2040 usable_from (omega arith) (omega (arith, whole))) (usable_part c.ground to n to 2040 usable_to (omega arith) (omega (arith, whole))))
+    (λ u f one.
+    leads_as (leads_parts c u k m (from + 2040) (to + 2040) refl (apart_after 2040 m from to apart_n) f one.from_at one.to_at
+    (usable_part c.ground from n (from + 2040) m usable_from (omega arith) (omega (arith, whole))) (usable_part c.ground to n (to + 2040) m usable_to (omega arith) (omega (arith, whole))))
+    (λ w g two. subst (λ n. Onward s n from to w) (sym whole) (onward_on s u w 2040 m from to apart_n one two)))
+
+leads_all : (c : Site) (s : State) (n from to : ℕ) → Apart n from to → Fixed c.ground s → s.registers 28 ≡ from % 2 ^ 64 → s.registers 29 ≡ to % 2 ^ 64
+    → UsableFrom c.ground from n → UsableFrom c.ground to n → Leads c (copy_parts (n / 2040) ++ copy_bytes 28 29 (n % 2040)) s (Copied s n from to)
+leads_all c s n from to apart fixed at_from at_to usable_from usable_to =
+    let k : ℕ = 2040 * (n / 2040) in
+    let r : ℕ = n % 2040 in
+    let whole : n ≡ k + r = omega arith in
+    let apart_n : Apart (k + r) from to = subst (λ x. Apart x from to) whole apart in
+    leads_on (leads_parts c s (n / 2040) k from to refl (apart_before k r from to apart_n) fixed at_from at_to
+    (usable_part c.ground from n from k usable_from (omega arith) (omega (arith, whole))) (usable_part c.ground to n to k usable_to (omega arith) (omega (arith, whole))))
+    (λ u f one.
+    leads_as (leads_bytes c u 28 29 r (from + k) (to + k) (omega arith) (apart_after k r from to apart_n) f (in_scratch u (from + k) (to + k) one.from_at one.to_at)
+    (usable_part c.ground from n (from + k) r usable_from (omega arith) (omega (arith, whole))) (usable_part c.ground to n (to + k) r usable_to (omega arith) (omega (arith, whole))))
+    (λ w g two. subst (λ x. Copied s x from to w) (sym whole)
+    (copied_on s u w k r from to apart_n one.copied (piece_copied u w r (from + k) (to + k) two))))
 
 -- ---- the line
 
--- the addresses are in x28 and x29
-record Addressed (s : State) (from to : ℕ) (u : State) : Type 0 where
-  from_at : u.registers 28 ≡ from
-  to_at : u.registers 29 ≡ to
+copied_later : (s u w : State) (n from to : ℕ) → Scratched s u → Copied u n from to w → Copied s n from to w
+copied_later s u w n from to same h = record {
+  bytes = subst (λ (b : ℕ → ℕ). CopiedBytes b w.bytes n from to) same.bytes h.bytes;
+  registers = λ m lo. h.registers m lo ∙ same.registers m lo;
+  output = h.output ∙ same.output;
+}
+
+-- the addresses are in x28 and x29, or in registers of their own
+record Addressed (s : State) (a b from to : ℕ) (u : State) : Type 0 where
+  from_at : in_register u a ≡ from
+  to_at : in_register u b ≡ to
   same : Scratched s u
+
+scratched_on : (s u w : State) → Scratched s u → Scratched u w → Scratched s w
+scratched_on s u w one two = record {
+  registers = λ m lo. two.registers m lo ∙ one.registers m lo;
+  bytes = two.bytes ∙ one.bytes;
+  output = two.output ∙ one.output;
+}
+
+set_scratched : (s : State) (d v : ℕ) (u : State) → 28 ≤ d → Sets s d v u → Scratched s u
+set_scratched s d v u h set = record { registers = λ m lo. set.others m (not_scratch m d h lo); bytes = set.bytes; output = set.output }
 
 leads_addresses : (c : Setting) → IsSetting c → (s : State) (from to : Operand Location) → s.registers 2 ≡ bottom c
     → operand_keeps (is_place c.slots) from ≡ true → operand_keeps (is_place c.slots) to ≡ true
-    → Leads (site c) (into c.layout 28 from ++ into c.layout 29 to) s (Addressed s (operand_in c s from) (operand_in c s to))
+    → Leads (site c) (into c.layout 28 from ++ into c.layout 29 to) s (Addressed s 28 29 (operand_in c s from) (operand_in c s to))
 leads_addresses c is s from to pointer known_from known_to =
     leads_on (leads_into c is s 28 from is_28 (λ e. absurd (omega (arith, e))) pointer known_from)
     (λ u f one.
-    let same : Scratched s u = record { registers = λ m lo. one.others m (not_scratch m 28 (omega arith) lo); bytes = one.bytes; output = one.output } in
+    let same = set_scratched s 28 (operand_in c s from) u (omega arith) one in
     leads_as (leads_into c is u 29 to is_29 (λ e. absurd (omega (arith, e))) (same.registers 2 (lit< tt) ∙ pointer) known_to)
     (λ w g two. record {
-      from_at = two.others 28 (λ e. absurd (omega (arith, e))) ∙ one.value;
-      to_at = two.value ∙ operand_same c s u to known_to same;
-      same = record {
-        registers = λ m lo. two.others m (not_scratch m 29 (omega arith) lo) ∙ same.registers m lo;
-        bytes = two.bytes ∙ same.bytes;
-        output = two.output ∙ same.output;
-      };
+      from_at = register_reg w 28 is_28 ∙ (two.others 28 (λ e. absurd (omega (arith, e))) ∙ one.value);
+      to_at = register_reg w 29 is_29 ∙ (two.value ∙ operand_same c s u to known_to same);
+      same = scratched_on s u w same (set_scratched u 29 (operand_in c u to) w (omega arith) two);
     }))
 
-leads_bytes : (c : Site) (s : State) (n from to : ℕ) → Apart n from to → Fixed c.ground s → s.registers 28 ≡ from → s.registers 29 ≡ to
-    → UsableFrom c.ground from n → UsableFrom c.ground to n → Leads c (copy_eights (n / 8) ++ copy_rest (n % 8)) s (Copied s n from to)
-leads_bytes c s n from to apart fixed at_from at_to usable_from usable_to =
-    let k : ℕ = n / 8 in
-    let r : ℕ = n % 8 in
-    let whole : n ≡ 8 * k + r = omega arith in
-    let few : r < 8 = omega arith in
-    let word_from = fixed.words 28 in
-    let word_to = fixed.words 29 in
-    let here_from : s.registers 28 ≡ from % 2 ^ 64 = omega (arith, at_from, word_from) in
-    let here_to : s.registers 29 ≡ to % 2 ^ 64 = omega (arith, at_to, word_to) in
-    let apart_n : Apart (8 * k + r) from to = subst (λ x. Apart x from to) whole apart in
-    let from_n : UsableFrom c.ground from (8 * k + r) = subst (UsableFrom c.ground from) whole usable_from in
-    let to_n : UsableFrom c.ground to (8 * k + r) = subst (UsableFrom c.ground to) whole usable_to in
-    leads_on (leads_eights c s k from to (apart_before (8 * k) r from to apart_n) fixed here_from here_to (usable_before c.ground from (8 * k) r from_n)
-    (usable_before c.ground to (8 * k) r to_n))
+leads_sources : (c : Setting) → IsSetting c → (s : State) (from to : Operand Location) → s.registers 2 ≡ bottom c
+    → operand_keeps (is_place c.slots) from ≡ true → operand_keeps (is_place c.slots) to ≡ true
+    → Leads (site c) (fetch c.layout 28 from ++ fetch c.layout 29 to) s (Addressed s (source 28 from) (source 29 to) (operand_in c s from) (operand_in c s to))
+leads_sources c is s from to pointer known_from known_to =
+    leads_on (leads_fetch c is s 28 from is_28 (λ e. absurd (omega (arith, e))) pointer known_from)
     (λ u f one.
-    leads_as (leads_rest c u r (from + 8 * k) (to + 8 * k) few (apart_after (8 * k) r from to apart_n) f one.from_at one.to_at
-    (usable_after c.ground from (8 * k) r from_n) (usable_after c.ground to (8 * k) r to_n))
-    (λ w g two. subst (λ x. Copied s x from to w) (sym whole) (copied_on s u w (8 * k) r from to apart_n one.copied two)))
+    let same = fetched_scratched c s 28 from u (omega arith) one in
+    leads_as (leads_fetch c is u 29 to is_29 (λ e. absurd (omega (arith, e))) (same.registers 2 (lit< tt) ∙ pointer) known_to)
+    (λ w g two. record {
+      from_at = same_in_register u w (source 28 from) (source_small c.slots 28 from (lit< tt) known_from)
+          (two.others (source 28 from) (source_not_29 c.slots from known_from)) ∙ one.value;
+      to_at = two.value ∙ operand_same c s u to known_to same;
+      same = scratched_on s u w same (fetched_scratched c u 29 to w (omega arith) two);
+    }))
+
+source_not_30 : (slots d : ℕ) (a : Operand Location) → d ≢ 30 → operand_keeps (is_place slots) a ≡ true → source d a ≢ 30
+source_not_30 slots d (At (InRegister r)) other good e = let hi = (place_is slots r good).to_27 in absurd (omega (arith, e, hi))
+source_not_30 slots d (At (Slot i)) other good e = other e
+source_not_30 slots d (Number n) other good e = source_number d n (λ x. x ≢ 30) (λ h. absurd (omega (arith, h))) other e
+source_not_30 slots d (Name g) other good e = other e
+
+whole_address : (x : ℕ) (y : ℕ) → y < 2 ^ 64 → y ≡ x → y ≡ x % 2 ^ 64
+whole_address x y small e = omega (arith, small, e)
+
+leads_near_blit : (c : Setting) → IsSetting c → (s : State) (from to : Operand Location) (count : ℕ) → count < 2048 → s.registers 2 ≡ bottom c
+    → operand_keeps (is_place c.slots) from ≡ true → operand_keeps (is_place c.slots) to ≡ true
+    → Apart count (operand_in c s from) (operand_in c s to)
+    → UsableFrom c.world.memory_map (operand_in c s from) count → UsableFrom c.world.memory_map (operand_in c s to) count
+    → Leads (site c) (near_blit c.layout from to count) s (Copied s count (operand_in c s from) (operand_in c s to))
+leads_near_blit c is s from to count near pointer known_from known_to apart usable_from usable_to =
+    let p : ℕ = operand_in c s from in
+    let q : ℕ = operand_in c s to in
+    let a : ℕ = source 28 from in
+    let b : ℕ = source 29 to in
+    subst (λ l. Leads (site c) l s (Copied s count p q)) (append_assoc (fetch c.layout 28 from) (fetch c.layout 29 to) (copy_bytes a b count))
+    (leads_on (leads_sources c is s from to pointer known_from known_to)
+    (λ u f one.
+    leads_as (leads_bytes (site c) u a b count p q near apart f
+    (record {
+      from_small = source_small c.slots 28 from (lit< tt) known_from;
+      from_other = source_not_30 c.slots 28 from (λ e. absurd (omega (arith, e))) known_from;
+      from_at = whole_address p (in_register u a) (in_register_small (site c).ground u a f) one.from_at;
+      to_small = source_small c.slots 29 to (lit< tt) known_to;
+      to_other = source_not_30 c.slots 29 to (λ e. absurd (omega (arith, e))) known_to;
+      to_at = whole_address q (in_register u b) (in_register_small (site c).ground u b f) one.to_at;
+    })
+    usable_from usable_to)
+    (λ w g two. copied_later s u w count p q one.same (piece_copied u w count p q two))))
+
+leads_far_blit : (c : Setting) → IsSetting c → (s : State) (from to : Operand Location) (count : ℕ) → s.registers 2 ≡ bottom c
+    → operand_keeps (is_place c.slots) from ≡ true → operand_keeps (is_place c.slots) to ≡ true
+    → Apart count (operand_in c s from) (operand_in c s to)
+    → UsableFrom c.world.memory_map (operand_in c s from) count → UsableFrom c.world.memory_map (operand_in c s to) count
+    → Leads (site c) (far_blit c.layout from to count) s (Copied s count (operand_in c s from) (operand_in c s to))
+leads_far_blit c is s from to count pointer known_from known_to apart usable_from usable_to =
+    let p : ℕ = operand_in c s from in
+    let q : ℕ = operand_in c s to in
+    let bytes : List Item = copy_parts (count / 2040) ++ copy_bytes 28 29 (count % 2040) in
+    subst (λ l. Leads (site c) l s (Copied s count p q)) (append_assoc (into c.layout 28 from) (into c.layout 29 to) bytes)
+    (leads_on (leads_addresses c is s from to pointer known_from known_to)
+    (λ u f one.
+    leads_as (leads_all (site c) u count p q apart f
+    (whole_address p (u.registers 28) (f.words 28) (sym (register_reg u 28 is_28) ∙ one.from_at))
+    (whole_address q (u.registers 29) (f.words 29) (sym (register_reg u 29 is_29) ∙ one.to_at)) usable_from usable_to)
+    (λ w g two. copied_later s u w count p q one.same two)))
 
 pub leads_blit_line : (c : Setting) → IsSetting c → (s : State) (from to : Operand Location) (count : ℕ) → s.registers 2 ≡ bottom c
     → operand_keeps (is_place c.slots) from ≡ true → operand_keeps (is_place c.slots) to ≡ true
     → Apart count (operand_in c s from) (operand_in c s to)
     → UsableFrom c.world.memory_map (operand_in c s from) count → UsableFrom c.world.memory_map (operand_in c s to) count
     → Leads (site c) (blit_items c.layout from to count) s (Copied s count (operand_in c s from) (operand_in c s to))
-leads_blit_line c is s from to count pointer known_from known_to apart usable_from usable_to =
-    let p : ℕ = operand_in c s from in
-    let q : ℕ = operand_in c s to in
-    let bytes : List Item = copy_eights (count / 8) ++ copy_rest (count % 8) in
-    subst (λ l. Leads (site c) l s (Copied s count p q)) (append_assoc (into c.layout 28 from) (into c.layout 29 to) bytes)
-    (leads_on (leads_addresses c is s from to pointer known_from known_to)
-    (λ u f one.
-    leads_as (leads_bytes (site c) u count p q apart f one.from_at one.to_at usable_from usable_to)
-    (λ w g two. record {
-      bytes = subst (λ (b : ℕ → ℕ). CopiedBytes b w.bytes count p q) one.same.bytes two.bytes;
-      registers = λ m lo. two.registers m lo ∙ one.same.registers m lo;
-      output = two.output ∙ one.same.output;
-    })))
+leads_blit_line c is s from to count pointer known_from known_to apart usable_from usable_to = by_test (nat_lt count 2048) refl
+  where
+    by_test : (t : Bool) → nat_lt count 2048 ≡ t
+        → Leads (site c) (if t then near_blit c.layout from to count else far_blit c.layout from to count) s (Copied s count (operand_in c s from) (operand_in c s to))
+    by_test true e = leads_near_blit c is s from to count (grind (arith, nat_tests)) pointer known_from known_to apart usable_from usable_to
+    by_test false e = leads_far_blit c is s from to count pointer known_from known_to apart usable_from usable_to

@@ -1,14 +1,25 @@
--- The code of so many times eight bytes, one after another.
-use Rattle.std.proofs.Common.{◌≡◌, ℕ, suc, ◌+◌, ◌-◌, ◌<◌, List, ◌++◌, sym, ◌∙◌, ap, arith, append_assoc}
+-- The code of so many pieces, one after another.
+use Rattle.std.proofs.Common.{◌≡◌, ℕ, zero, suc, ◌+◌, ◌-◌, ◌*◌, ◌<◌, List, ◌++◌, sym, ◌∙◌, ap, arith, append_assoc}
 use Rattle.rv_isa.specs.declared.labelled.Item.{Item}
-use Rattle.abi_frames.specs.Emission.{copy_eight, copy_eights}
+use Rattle.rv_isa.specs.declared.instruction.LoadOp.TheVariants.{Ld}
+use Rattle.rv_isa.specs.declared.instruction.StoreOp.TheVariants.{Sd}
+use Rattle.abi_frames.specs.Emission.{copy_at, copy_eights, copy_part, copy_parts}
 
-pub eights_left : (n i : ℕ) → i < n → copy_eights (n - i) ≡ copy_eight ++ copy_eights (n - (i + 1))
-eights_left n i h =
+-- a piece that is made is one less to make
+one_more : (is js ks piece less more : List Item) → more ≡ piece ++ less → ks ≡ is ++ piece → is ++ more ≡ js → ks ++ less ≡ js
+one_more is js ks piece less more next made all =
+    ap (λ l. l ++ less) made ∙ (append_assoc is piece less ∙ (ap (λ l. is ++ l) (sym next) ∙ all))
+
+pub part_more : (is js ks : List Item) (n i : ℕ) → i < n → ks ≡ is ++ copy_part → is ++ copy_parts (n - i) ≡ js → ks ++ copy_parts (n - (i + 1)) ≡ js
+part_more is js ks n i h made all =
     let more : n - i ≡ suc (n - (i + 1)) = omega (arith, h) in
-    ap copy_eights more
+    one_more is js ks copy_part (copy_parts (n - (i + 1))) (copy_parts (n - i)) (ap copy_parts more) made all
 
-pub eight_more : (is js ks : List Item) (n i : ℕ) → i < n → ks ≡ is ++ copy_eight → is ++ copy_eights (n - i) ≡ js → ks ++ copy_eights (n - (i + 1)) ≡ js
-eight_more is js ks n i h f e =
-    ap (λ l. l ++ copy_eights (n - (i + 1))) f
-    ∙ (append_assoc is copy_eight (copy_eights (n - (i + 1))) ∙ (ap (λ l. is ++ l) (sym (eights_left n i h)) ∙ e))
+pub eight_more : (is js ks : List Item) (from to n i : ℕ) → i < n → ks ≡ is ++ copy_at Ld Sd from to (8 * i) → is ++ copy_eights from to (8 * i) (n - i) ≡ js
+    → ks ++ copy_eights from to (8 * (i + 1)) (n - (i + 1)) ≡ js
+eight_more is js ks from to n i h made all =
+    let more : n - i ≡ suc (n - (i + 1)) = omega (arith, h) in
+    let further : 8 * i + 8 ≡ 8 * (i + 1) = omega arith in
+    let piece : List Item = copy_at Ld Sd from to (8 * i) in
+    one_more is js ks piece (copy_eights from to (8 * (i + 1)) (n - (i + 1))) (copy_eights from to (8 * i) (n - i))
+    (ap (copy_eights from to (8 * i)) more ∙ ap (λ o. piece ++ copy_eights from to o (n - (i + 1))) further) made all

@@ -115,7 +115,7 @@ leads_word_into c is s d (Number n) reg other pointer known =
 leads_word_into c is s d (Name g) reg other pointer known = extended_after c is s d (Name g) reg other pointer known
 
 -- the register that has the operand
-source_number : (d n : ℕ) (P : ℕ → Type 0) → P 0 → P d → P (source d (Number n))
+pub source_number : (d n : ℕ) (P : ℕ → Type 0) → P 0 → P d → P (source d (Number n))
 source_number d n P none some = by_test (nat_eq n 0)
   where
     by_test : (b : Bool) → P (if b then 0 else d)
@@ -262,8 +262,14 @@ leads_read c is s (RegWOperation op) d a reg other pointer known =
 leads_read c is s (Compare on L) d a reg other pointer known =
     leads_as (leads_fetch c is s d a reg other pointer known)
     (λ u f h. fetched_for c s (Compare on L) d a u refl refl h)
-leads_read c is s (Compare on W) d a reg other pointer known =
-    leads_as (leads_word_into c is s d a reg other pointer known)
+leads_read c is s (Compare on W) d (At p) reg other pointer known =
+    leads_as (leads_word_into c is s d (At p) reg other pointer known)
+    (λ u f h. record { value = register_reg u d reg ∙ h.value; others = h.others; bytes = h.bytes; output = h.output })
+leads_read c is s (Compare on W) d (Number n) reg other pointer known =
+    leads_as (leads_fetch c is s d (Number (word n)) reg other pointer refl)
+    (λ u f h. record { value = h.value ∙ (word_is_small n ∙ sym (same_word n)); others = h.others; bytes = h.bytes; output = h.output })
+leads_read c is s (Compare on W) d (Name g) reg other pointer known =
+    leads_as (leads_word_into c is s d (Name g) reg other pointer known)
     (λ u f h. record { value = register_reg u d reg ∙ h.value; others = h.others; bytes = h.bytes; output = h.output })
 
 pub read_scratched : (c : Setting) (s : State) (op : Operation) (d : ℕ) (a : Operand Location) (u : State) → 28 ≤ d → ReadFor c s op d a u → Scratched s u
@@ -273,13 +279,17 @@ pub read_small : (slots : ℕ) (op : Operation) (d : ℕ) (a : Operand Location)
 read_small slots (RegOperation op) d a h good = source_small slots d a h good
 read_small slots (RegWOperation op) d a h good = source_small slots d a h good
 read_small slots (Compare on L) d a h good = source_small slots d a h good
-read_small slots (Compare on W) d a h good = h
+read_small slots (Compare on W) d (At p) h good = h
+read_small slots (Compare on W) d (Number n) h good = source_small slots d (Number (word n)) h refl
+read_small slots (Compare on W) d (Name g) h good = h
 
 pub read_not_29 : (slots : ℕ) (op : Operation) (a : Operand Location) → operand_keeps (is_place slots) a ≡ true → operand_source op 28 a ≢ 29
 read_not_29 slots (RegOperation op) a good = source_not_29 slots a good
 read_not_29 slots (RegWOperation op) a good = source_not_29 slots a good
 read_not_29 slots (Compare on L) a good = source_not_29 slots a good
-read_not_29 slots (Compare on W) a good = λ e. absurd (omega (arith, e))
+read_not_29 slots (Compare on W) (At p) good = λ e. absurd (omega (arith, e))
+read_not_29 slots (Compare on W) (Number n) good = source_not_29 slots (Number (word n)) refl
+read_not_29 slots (Compare on W) (Name g) good = λ e. absurd (omega (arith, e))
 
 -- the other operand is in the form
 leads_by_form : (c : Setting) → IsSetting c → (s : State) (to : Location) (op : Operation) (a : Operand Location) (form : Form) (g : ℕ → ℕ) (v : ℕ)

@@ -5,8 +5,8 @@ use Rattle.std.specs.Prelude.{◌&&◌, not, nat_eq, nat_le, nat_lt, if◌then�
 use Rattle.abi_frames.proofs.Shared.{Condition, Class, W, L, Immediate, LoadOp, StoreOp, Item, Plain, Label, Location, InRegister, Slot, Operand, ReturnValue, Argument, Destination, At, Number, Name, Operation, Line, Comparison, Jump, Block, Code, EarlyReturn, Layout, list_all, sum_by, and_parts, and_from, leb-true, longest_size, all_append, not_both, equals_itself, nat_tests, sum_by-cons, low}
 use Rattle.il_ast.specs.declared.operation.Condition.TheVariants.{Equal, NotEqual, SignedLessEqual, SignedLess, SignedGreaterEqual, SignedGreater, UnsignedLessEqual, UnsignedLess, UnsignedGreaterEqual, UnsignedGreater}
 use Rattle.il_ast.specs.declared.operation.Size.{Size}
-use Rattle.rv_isa.specs.declared.instruction.LoadOp.TheVariants.{Lwu, Lhu, Lbu}
-use Rattle.rv_isa.specs.declared.instruction.StoreOp.TheVariants.{Sb, Sh, Sw}
+use Rattle.rv_isa.specs.declared.instruction.LoadOp.TheVariants.{Ld, Lwu, Lhu, Lbu}
+use Rattle.rv_isa.specs.declared.instruction.StoreOp.TheVariants.{Sb, Sh, Sw, Sd}
 use Rattle.rv_isa.specs.declared.instruction.Instr.TheVariants.{Lui, Addiw}
 use Rattle.rv_isa.specs.declared.labelled.Item.TheVariants.{Branch as BranchTo, Goto as GoTo, Call as CallTo, Relocated}
 use Rattle.vcode.specs.declared.place.Address.{Address as MemoryAddress}
@@ -29,7 +29,7 @@ use Rattle.operation_code.specs.declared.immediate.Form.TheVariants.{Immediate a
 use Rattle.operation_code.proofs.FormNumbers.{word_low, word_is_small}
 use Rattle.operation_code.proofs.ConstantNumbers.{word_by_bits}
 use Rattle.abi_frames.proofs.Branching.{branch_size}
-use Rattle.abi_frames.specs.Emission.{far_store, load_slot, store_slot, slot_offset, into, fetch, source, word_into, target, deliver, set_items, operand_into, operand_source, on_registers, by_form, operate_by, operate_items, base_items, load_by, load_items, store_by, store_op, store_items, line_items, lines_items, move_pointer, lower_pointer, raise_pointer, save_all, restore_all, prologue, epilogue, result_items, goto_items, branch_when, inverted, ways_items, compared_into, compared_source, branch_items, leave_items, left_by, left_behind, raise_most, end_most, copies_end, left_by_value, jump_items, end_items, body_items, blocks_items, passed_class, pass_into, stack_items, stack_all, register_items, register_all, passed_items, callee_items, prepare_items, call_through, receive_items, call_items, copy_at, copy_eight, copy_eights, copy_rest, blit_items, address_at, alloc_items}
+use Rattle.abi_frames.specs.Emission.{far_store, load_slot, store_slot, slot_offset, into, fetch, source, word_into, word_fetch, target, deliver, set_items, operand_into, operand_source, on_registers, by_form, operate_by, operate_items, base_items, load_by, load_items, store_by, store_op, store_items, line_items, lines_items, move_pointer, lower_pointer, raise_pointer, save_all, restore_all, prologue, epilogue, result_items, goto_items, branch_when, inverted, ways_items, compared_into, compared_source, branch_items, leave_items, left_by, left_behind, raise_most, end_most, copies_end, left_by_value, jump_items, end_items, body_items, blocks_items, passed_class, pass_into, stack_items, stack_all, register_items, register_all, passed_items, callee_items, prepare_items, call_through, receive_items, call_items, copy_at, copy_eights, copy_rest, copy_bytes, copy_part, copy_parts, near_blit, far_blit, blit_items, address_at, alloc_items}
 use Rattle.operation_code.specs.Operations.{compare_items, operation_items}
 use Rattle.abi_frames.specs.Moves.{operand_exchanged, argument_exchanged, exchange, is_read, settled, arrived, earlier_at, move_up, moves_up, moved_up, all_move_up, all_moved_up}
 use Rattle.abi_frames.proofs.MovingUp.{moved_length}
@@ -168,6 +168,12 @@ word_into_size y d (At p) = extended_size y d (At p)
 word_into_size y d (Number n) = fits (constant_of_word_size d n) (let some = some_cost n in omega (arith, some))
 word_into_size y d (Name g) = extended_size y d (Name g)
 
+word_fetch_size : (y : Layout) (d : ℕ) (a : Operand Location) → Instructions (operand_cost a + 1) (word_fetch y d a)
+word_fetch_size y d (At p) = word_into_size y d (At p)
+word_fetch_size y d (Number n) =
+    fits (either (nat_eq (word n) 0) nothing (constant_of_word_size d n)) (let some = some_cost n in omega (arith, some))
+word_fetch_size y d (Name g) = word_into_size y d (Name g)
+
 set_size : (y : Layout) (to : Location) (a : Operand Location) → Instructions (operand_cost a + 3) (set_items y to a)
 set_size y (InRegister r) a = fits (into_size y r a) (omega arith)
 set_size y (Slot i) a = joined (fetch_size y 28 a) (store_size (source 28 a) (slot_offset y i))
@@ -217,7 +223,7 @@ read_size : (y : Layout) (op : Operation) (d : ℕ) (a : Operand Location) → I
 read_size y (RegOperation op) d a = fits (fetch_size y d a) (omega arith)
 read_size y (RegWOperation op) d a = fits (fetch_size y d a) (omega arith)
 read_size y (Compare on L) d a = fits (fetch_size y d a) (omega arith)
-read_size y (Compare on W) d a = word_into_size y d a
+read_size y (Compare on W) d a = word_fetch_size y d a
 
 some_operand_cost : (a : Operand Location) → 1 ≤ operand_cost a
 some_operand_cost (At p) = lit≤ tt
@@ -365,33 +371,62 @@ alloc_size : (y : Layout) (used : ℕ) (to : Option Location) → Instructions (
 alloc_size y used None = nothing
 alloc_size y used (Some to) = joined (address_size (target to) (y.area + used)) (deliver_size y to)
 
-eights_size : (k : ℕ) → Instructions (4 * k) (copy_eights k)
-eights_size zero = nothing
-eights_size (suc k) = fits (joined (short {n = 4} {is = copy_eight} refl refl) (eights_size k)) (omega arith)
+eights_size : (a b o k : ℕ) → Instructions (2 * k) (copy_eights a b o k)
+eights_size a b o zero = nothing
+eights_size a b o (suc k) = fits (joined (short {n = 2} {is = copy_at Ld Sd a b o} refl refl) (eights_size a b (o + 8) k)) (omega arith)
 
 -- each part copies some byte
-piece_size : (load : LoadOp) (store : StoreOp) (o : ℕ) (t : Bool) → Instructions (if t then 0 else 2) (if t then [] else copy_at load store o)
-piece_size load store o true = nothing
-piece_size load store o false = short refl refl
+piece_size : (load : LoadOp) (store : StoreOp) (a b o : ℕ) (t : Bool) → Instructions (if t then 0 else 2) (if t then [] else copy_at load store a b o)
+piece_size load store a b o true = nothing
+piece_size load store a b o false = short refl refl
 
 abbrev rest_most : ℕ → ℕ
 rest_most n = (if nat_lt n 4 then 0 else 2) + ((if nat_lt (n % 4) 2 then 0 else 2) + (if nat_lt (n % 2) 1 then 0 else 2))
 
-rest_size : (n : ℕ) → Instructions (rest_most n) (copy_rest n)
-rest_size n =
-    joined (piece_size Lwu Sw 0 (nat_lt n 4))
-    (joined (piece_size Lhu Sh (n / 4 * 4) (nat_lt (n % 4) 2)) (piece_size Lbu Sb (n / 2 * 2) (nat_lt (n % 2) 1)))
+rest_size : (a b o n : ℕ) → Instructions (rest_most n) (copy_rest a b o n)
+rest_size a b o n =
+    joined (piece_size Lwu Sw a b o (nat_lt n 4))
+    (joined (piece_size Lhu Sh a b (o + n / 4 * 4) (nat_lt (n % 4) 2)) (piece_size Lbu Sb a b (o + n / 2 * 2) (nat_lt (n % 2) 1)))
+
+bytes_size : (a b n : ℕ) → Instructions (2 * (n / 8) + rest_most (n % 8)) (copy_bytes a b n)
+bytes_size a b n = joined (eights_size a b 0 (n / 8)) (rest_size a b (n / 8 * 8) (n % 8))
+
+part_size : Instructions 512 copy_part
+part_size =
+    let none : rest_most (2040 % 8) ≡ 0 = refl in
+    fits (joined (bytes_size 28 29 2040) (short {n = 2} {is = add_low 28 28 2040 ∷ add_low 29 29 2040 ∷ []} refl refl)) (omega (arith, none))
+
+parts_size : (k : ℕ) → Instructions (512 * k) (copy_parts k)
+parts_size zero = nothing
+parts_size (suc k) = fits (joined part_size (parts_size k)) (omega arith)
 
 rest_few : (n : ℕ) → n < 8 → (rest_most n ≤ 6) × (rest_most n ≤ 2 * n)
 rest_few n few = (grind (arith, nat_tests), grind (arith, nat_tests))
 
-blit_size : (y : Layout) (from to : Operand Location) (count : ℕ)
-    → Instructions (operand_cost from + operand_cost to + 8 * ((count + 7) / 8)) (blit_items y from to count)
-blit_size y from to count =
+near_blit_size : (y : Layout) (from to : Operand Location) (count : ℕ)
+    → Instructions (operand_cost from + operand_cost to + 8 * ((count + 7) / 8)) (near_blit y from to count)
+near_blit_size y from to count =
     let both = rest_few (count % 8) (omega arith) in
     let most = both.0 in
     let some = both.1 in
-    fits (joined (into_size y 28 from) (joined (into_size y 29 to) (joined (eights_size (count / 8)) (rest_size (count % 8))))) (omega (arith, most, some))
+    fits (joined (fetch_size y 28 from) (joined (fetch_size y 29 to) (bytes_size (source 28 from) (source 29 to) count))) (omega (arith, most, some))
+
+far_blit_size : (y : Layout) (from to : Operand Location) (count : ℕ) → 2048 ≤ count
+    → Instructions (operand_cost from + operand_cost to + 8 * ((count + 7) / 8)) (far_blit y from to count)
+far_blit_size y from to count many =
+    let r : ℕ = count % 2040 in
+    let most = (rest_few (r % 8) (omega arith)).0 in
+    let all : 512 * (count / 2040) + (2 * (r / 8) + rest_most (r % 8)) ≤ 8 * ((count + 7) / 8) = omega (arith, most, many) in
+    fits (joined (into_size y 28 from) (joined (into_size y 29 to) (joined (parts_size (count / 2040)) (bytes_size 28 29 r)))) (omega (arith, all))
+
+blit_size : (y : Layout) (from to : Operand Location) (count : ℕ)
+    → Instructions (operand_cost from + operand_cost to + 8 * ((count + 7) / 8)) (blit_items y from to count)
+blit_size y from to count = by_test (nat_lt count 2048) refl
+  where
+    by_test : (t : Bool) → nat_lt count 2048 ≡ t
+        → Instructions (operand_cost from + operand_cost to + 8 * ((count + 7) / 8)) (if t then near_blit y from to count else far_blit y from to count)
+    by_test true e = near_blit_size y from to count
+    by_test false e = far_blit_size y from to count (grind (arith, nat_tests))
 
 pub line_size : (y : Layout) (used : ℕ) (l : Line Location) → Instructions (line_cost l) (line_items y used l)
 line_size y used (Tick turn w) = nothing
@@ -478,7 +513,7 @@ word_more L = 0
 
 pub compared_size : (y : Layout) (on : Condition) (k : Class) (d : ℕ) (a : Operand Location) → Instructions (operand_cost a + word_more k) (operand_into y (Compare on k) d a)
 compared_size y on L d a = fits (fetch_size y d a) (omega arith)
-compared_size y on W d a = word_into_size y d a
+compared_size y on W d a = word_fetch_size y d a
 
 branch_pays : (k : Class) → 2 * word_more k + 5 ≤ branch_cost k
 branch_pays W = lit≤ tt
@@ -758,7 +793,9 @@ short_word y d (Name g) bare is = absurd (let no : ⊥ = cc in no)
 
 short_compared : (y : Layout) (on : Condition) (k : Class) (d : ℕ) (a : Operand Location) → is_bare a ≡ true → is_short a ≡ true
     → Instructions 1 (operand_into y (Compare on k) d a)
-short_compared y on W d a bare is = short_word y d a bare is
+short_compared y on W d (At p) bare is = short_word y d (At p) bare is
+short_compared y on W d (Number n) bare is = either (nat_eq (word n) 0) nothing (immediate_size d (word n) (number_word n is))
+short_compared y on W d (Name g) bare is = short_word y d (Name g) bare is
 short_compared y on L d a bare is = short_fetch y d a bare is
 
 short_passed : (y : Layout) (k : Class) (a : Operand Location) → is_bare a ≡ true → is_short a ≡ true → Instructions 1 (pass_into y 10 k a)

@@ -97,6 +97,15 @@ abbrev pub word_into : Layout → ℕ → Operand Location → List Item
 word_into y d (Number n) = constant d (word n)
 word_into y d a = fetch y d a ++ (extend d (source d a) ∷ [])
 
+-- the same into a register: the given one; the number 0 is in x0
+abbrev pub word_fetch : Layout → ℕ → Operand Location → List Item
+word_fetch y d (Number n) = fetch y d (Number (word n))
+word_fetch y d a = word_into y d a
+
+abbrev pub word_source : ℕ → Operand Location → ℕ
+word_source d (Number n) = source d (Number (word n))
+word_source d a = d
+
 -- the register in which a value for this place is made, and what brings it there from x28
 abbrev pub target : Location → ℕ
 target (InRegister r) = r
@@ -115,13 +124,13 @@ set_items y (Slot i) a =
 
 -- an operand of the operation, in a register: a word is extended before it is compared
 abbrev pub operand_into : Layout → Operation → ℕ → Operand Location → List Item
-operand_into y (Compare on W) d a = word_into y d a
+operand_into y (Compare on W) d a = word_fetch y d a
 operand_into y (Compare on L) d a = fetch y d a
 operand_into y (RegOperation op) d a = fetch y d a
 operand_into y (RegWOperation op) d a = fetch y d a
 
 abbrev pub operand_source : Operation → ℕ → Operand Location → ℕ
-operand_source (Compare on W) d a = d
+operand_source (Compare on W) d a = word_source d a
 operand_source (Compare on L) d a = source d a
 operand_source (RegOperation op) d a = source d a
 operand_source (RegWOperation op) d a = source d a
@@ -253,33 +262,52 @@ call_items y to callee args =
 
 -- ---- each line
 
--- as many bytes as the load and the store take, at an offset from the addresses in x28 and x29
-abbrev pub copy_at : LoadOp → StoreOp → (offset : ℕ) → List Item
-copy_at load store o =
-    Plain (Load load (reg THIRD_SCRATCH) (reg FIRST_SCRATCH) (low o))
-    ∷ store_at store THIRD_SCRATCH SECOND_SCRATCH o ∷ []
+-- as many bytes as the load and the store take, at an offset from the addresses in two registers
+abbrev pub copy_at : LoadOp → StoreOp → (from to offset : ℕ) → List Item
+copy_at load store from to o =
+    Plain (Load load (reg THIRD_SCRATCH) (reg from) (low o)) ∷ store_at store THIRD_SCRATCH to o ∷ []
 
-abbrev pub copy_eight : List Item
-copy_eight =
-    copy_at Ld Sd 0 ++ (add_low FIRST_SCRATCH FIRST_SCRATCH 8
-    ∷ add_low SECOND_SCRATCH SECOND_SCRATCH 8 ∷ [])
+-- so many times eight bytes, from this offset on
+abbrev pub copy_eights : (from to offset : ℕ) → (eights : ℕ) → List Item
+copy_eights from to o zero = []
+copy_eights from to o (suc n) = copy_at Ld Sd from to o ++ copy_eights from to (o + 8) n
 
--- so many times eight bytes
-abbrev pub copy_eights : ℕ → List Item
-copy_eights zero = []
-copy_eights (suc n) = copy_eight ++ copy_eights n
+-- fewer than eight bytes, from this offset on: four, two and one
+abbrev pub copy_rest : (from to offset : ℕ) → (bytes : ℕ) → List Item
+copy_rest from to o n =
+    (if nat_lt n 4 then [] else copy_at Lwu Sw from to o)
+    ++ ((if nat_lt (n % 4) 2 then [] else copy_at Lhu Sh from to (o + n / 4 * 4))
+    ++ (if nat_lt (n % 2) 1 then [] else copy_at Lbu Sb from to (o + n / 2 * 2)))
 
--- fewer than eight bytes: four, two and one
-abbrev pub copy_rest : ℕ → List Item
-copy_rest n =
-    (if nat_lt n 4 then [] else copy_at Lwu Sw 0)
-    ++ ((if nat_lt (n % 4) 2 then [] else copy_at Lhu Sh (n / 4 * 4))
-    ++ (if nat_lt (n % 2) 1 then [] else copy_at Lbu Sb (n / 2 * 2)))
+-- so few bytes that the offsets fit the instructions
+abbrev pub copy_bytes : (from to : ℕ) → (bytes : ℕ) → List Item
+copy_bytes from to n = copy_eights from to 0 (n / 8) ++ copy_rest from to (n / 8 * 8) (n % 8)
+
+-- 2,040 bytes, behind which the addresses in x28 and x29 move on; and so many times that
+abbrev pub next_part : List Item
+next_part =
+    add_low FIRST_SCRATCH FIRST_SCRATCH 2040 ∷ add_low SECOND_SCRATCH SECOND_SCRATCH 2040 ∷ []
+
+abbrev pub copy_part : List Item
+copy_part = copy_bytes FIRST_SCRATCH SECOND_SCRATCH 2040 ++ next_part
+
+abbrev pub copy_parts : ℕ → List Item
+copy_parts zero = []
+copy_parts (suc n) = copy_part ++ copy_parts n
+
+abbrev pub near_blit : Layout → (from to : Operand Location) → (count : ℕ) → List Item
+near_blit y from to count =
+    fetch y FIRST_SCRATCH from ++ (fetch y SECOND_SCRATCH to
+    ++ copy_bytes (source FIRST_SCRATCH from) (source SECOND_SCRATCH to) count)
+
+abbrev pub far_blit : Layout → (from to : Operand Location) → (count : ℕ) → List Item
+far_blit y from to count =
+    into y FIRST_SCRATCH from ++ (into y SECOND_SCRATCH to
+    ++ (copy_parts (count / 2040) ++ copy_bytes FIRST_SCRATCH SECOND_SCRATCH (count % 2040)))
 
 abbrev pub blit_items : Layout → (from to : Operand Location) → (count : ℕ) → List Item
 blit_items y from to count =
-    into y FIRST_SCRATCH from ++ (into y SECOND_SCRATCH to
-    ++ (copy_eights (count / 8) ++ copy_rest (count % 8)))
+    if nat_lt count 2048 then near_blit y from to count else far_blit y from to count
 
 -- the address at an offset from the stack pointer, into the register d
 abbrev pub address_at : (d offset : ℕ) → List Item

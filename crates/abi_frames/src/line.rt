@@ -10,8 +10,8 @@ use crate::call::push_call;
 use crate::copy::push_blit;
 use crate::layout::Layout;
 use crate::operand::{
-    push_address_at, push_deliver, push_fetch, push_into_slot, push_operand, push_word, source_of,
-    target_of,
+    push_address_at, push_deliver, push_fetch, push_into_slot, push_operand, push_word_fetch,
+    source_of, target_of, word_source_of,
 };
 use crate::room::alloc_bytes;
 use il_ast::operation::{Class, Size};
@@ -65,7 +65,7 @@ pub(crate) fn push_operand_for(
     ensures { OnOk result (items.new.items ≡ items.old.items ++ operand_into layout.now operation.now to operand.now) }
 {
     match operation {
-        Operation::Compare(_, Class::W) => push_word(items, layout, to, operand),
+        Operation::Compare(_, Class::W) => push_word_fetch(items, layout, to, operand),
         Operation::Compare(_, Class::L) | Operation::Reg(_) | Operation::RegW(_) => {
             push_fetch(items, layout, to, operand)
         }
@@ -76,7 +76,7 @@ pub(crate) fn operand_source(operation: &Operation, to: u8, operand: &Operand<Lo
     ensures { result ≡ operand_source operation.now to operand.now }
 {
     match operation {
-        Operation::Compare(_, Class::W) => to,
+        Operation::Compare(_, Class::W) => word_source_of(to, operand),
         Operation::Compare(_, Class::L) | Operation::Reg(_) | Operation::RegW(_) => {
             source_of(to, operand)
         }

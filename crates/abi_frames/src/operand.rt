@@ -2,7 +2,7 @@
 ghost use Rattle.std.specs.Prelude.{◌≡◌, ◌+◌, ◌-◌, ◌*◌, ◌%◌, ◌^◌, ◌<◌, nat_eq, if◌then◌else◌, [], ◌∷◌, ◌++◌, OnOk};
 ghost use Rattle.operation_code.specs.Constants.{constant, word};
 ghost use Rattle.operation_code.specs.Fields.{add_low, extend};
-ghost use Rattle.abi_frames.specs.Emission.{load_slot, store_slot, address_at, slot_offset, into, fetch, source, word_into, target, deliver};
+ghost use Rattle.abi_frames.specs.Emission.{load_slot, store_slot, address_at, slot_offset, into, fetch, source, word_into, word_fetch, word_source, target, deliver};
 
 use crate::layout::Layout;
 use operation_code::constant::{push_constant, upper_part, word};
@@ -179,6 +179,31 @@ pub(crate) fn push_word(
     match operand {
         Operand::Number(number) => push_constant(items, to, word(*number)),
         Operand::At(_) | Operand::Name(_) => push_extended(items, layout, to, operand),
+    }
+}
+
+/// Has the low 32 bits of an operand, sign-extended, in a register: in `to`, or the number 0 in x0.
+pub(crate) fn push_word_fetch(
+    items: &mut Vec<Item>,
+    layout: &Layout,
+    to: u8,
+    operand: &Operand<Location>,
+) -> Result<(), AllocError>
+    ensures { OnOk result (items.new.items ≡ items.old.items ++ word_fetch layout.now to operand.now) }
+{
+    match operand {
+        Operand::Number(number) => push_number(items, to, word(*number)),
+        Operand::At(_) | Operand::Name(_) => push_word(items, layout, to, operand),
+    }
+}
+
+/// The register in which `push_word_fetch` has an operand.
+pub(crate) fn word_source_of(to: u8, operand: &Operand<Location>) -> u8
+    ensures { result ≡ word_source to operand.now }
+{
+    match operand {
+        Operand::Number(number) => source_of(to, &Operand::Number(word(*number))),
+        Operand::At(_) | Operand::Name(_) => to,
     }
 }
 

@@ -1,5 +1,5 @@
 -- What words ask for: which argument each part of a command is taken from.
-use Rattle.std.specs.Prelude.{◌≡◌, ◌≢◌, ℕ, Bool, true, false, ◌^◌, ◌<◌, List, [], map, codes, Option, Some, None, unwrap_or}
+use Rattle.std.specs.Prelude.{◌≡◌, ◌≢◌, ℕ, Bool, true, false, ◌^◌, ◌<◌, List, [], map, codes, Option, Some, None, option_map, unwrap_or}
 use Rattle.std.specs.Str.Parse.{IsNumeral, digits_value, without_leading_plus}
 use Rattle.clap.specs.Walk.{Row, first_of, one_of, all_of}
 use Rattle.command_line.specs.declared.Command.{Command}
@@ -48,8 +48,9 @@ Asks name rows (Disassemble explain file) =
     (name ≡ codes "dis") × IsExplain rows explain × (file.now ≡ word_in rows (codes "EXE"))
 Asks name rows (Check files) =
     (name ≡ codes "check") × (map (λ s. s.now) files.items ≡ words_in rows (codes "FILES"))
-Asks name rows (Symbols files) =
-    (name ≡ codes "symbols") × (map (λ s. s.now) files.items ≡ words_in rows (codes "FILES"))
+Asks name rows (Symbols out files) =
+    (name ≡ codes "symbols") × (option_map (λ s. s.now) out ≡ first_of (codes "OUT") rows)
+    × (map (λ s. s.now) files.items ≡ words_in rows (codes "FILES"))
 Asks name rows (Stack files) =
     (name ≡ codes "stack") × (map (λ s. s.now) files.items ≡ words_in rows (codes "FILES"))
 Asks name rows (Trace limit last files words) =

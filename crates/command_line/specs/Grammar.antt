@@ -16,6 +16,10 @@ use Rattle.clap.specs.declared.builder.value_parser.ValueParser.TheVariants as v
 abbrev pub out_rule : Rule
 out_rule = record (new_rule (codes "OUT")) { short = Some 111; required = true }
 
+-- the same where nothing has to be written
+abbrev pub also_out_rule : Rule
+also_out_rule = record (new_rule (codes "OUT")) { short = Some 111 }
+
 -- FILE...
 abbrev pub files_rule : Rule
 files_rule = record (new_rule (codes "FILES")) {
@@ -88,7 +92,7 @@ abbrev pub check_app : App
 check_app = with_rule (new_app (codes "check")) files_rule
 
 abbrev pub symbols_app : App
-symbols_app = with_rule (new_app (codes "symbols")) files_rule
+symbols_app = with_rule (with_rule (new_app (codes "symbols")) also_out_rule) files_rule
 
 abbrev pub stack_app : App
 stack_app = with_rule (new_app (codes "stack")) files_rule

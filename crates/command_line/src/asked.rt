@@ -1,7 +1,7 @@
 //! What parsed words ask for.
-ghost use Rattle.std.specs.Prelude.{◌≡◌, IfOk, codes, map};
+ghost use Rattle.std.specs.Prelude.{◌≡◌, IfOk, codes, map, option_map};
 ghost use Rattle.clap.specs.Matches.{found_of};
-ghost use Rattle.clap.specs.Walk.{rows_of};
+ghost use Rattle.clap.specs.Walk.{first_of, rows_of};
 ghost use Rattle.command_line.specs.Asked.{Asks, AsksFor, HandsOn, IsExplain, IsLast, IsLimit, MayHandOn, word_in, words_in};
 
 use crate::grammar::{EXECUTABLE, EXPLAIN, FILES, LAST, LIMIT, OUT, TEXT, WORDS};
@@ -14,6 +14,13 @@ fn word_of<'a>(found: &ArgMatches<'a>, name: &str) -> &'a str
     ensures { result.now ≡ word_in (rows_of (found_of found.now)) name.now }
 {
     found.get_str(name).unwrap_or("")
+}
+
+/// The one word of an argument, if it has one.
+fn option_of<'a>(found: &ArgMatches<'a>, name: &str) -> Option<&'a str>
+    ensures { option_map (λ s. s.now) result ≡ first_of name.now (rows_of (found_of found.now)) }
+{
+    found.get_str(name)
 }
 
 /// All words of an argument.
@@ -101,7 +108,10 @@ fn symbols_of<'a>(alloc: Global, found: &ArgMatches<'a>) -> Result<Command<'a>, 
     ensures { IfOk result (Asks (codes "symbols") (rows_of (found_of found.now))) }
 {
     let files = words_of(alloc, found, FILES)?;
-    Ok(Command::Symbols { files })
+    Ok(Command::Symbols {
+        out: option_of(found, OUT),
+        files,
+    })
 }
 
 fn stack_of<'a>(alloc: Global, found: &ArgMatches<'a>) -> Result<Command<'a>, AllocError>

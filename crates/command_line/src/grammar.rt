@@ -2,7 +2,7 @@
 ghost use Rattle.std.specs.Prelude.{[], ◌∷◌, IfOk, List, Some, ℕ};
 ghost use Rattle.clap.specs.Simple.{new_app, new_rule, with_rule};
 ghost use Rattle.clap.specs.Walk.{Rule};
-ghost use Rattle.command_line.specs.Grammar.{HasSubcommand, IsRead, IsRuled, build_app, check_app, dis_app, explain_rule, files_rule, interp_app, last_rule, limit_rule, out_rule, path_rule, program_app, qbec_app, run_app, running_app, stack_app, symbols_app, trace_app, words_rule};
+ghost use Rattle.command_line.specs.Grammar.{HasSubcommand, IsRead, IsRuled, also_out_rule, build_app, check_app, dis_app, explain_rule, files_rule, interp_app, last_rule, limit_rule, out_rule, path_rule, program_app, qbec_app, run_app, running_app, stack_app, symbols_app, trace_app, words_rule};
 
 use clap::builder::ValueParser;
 use clap::{Arg, ArgAction, Command, value_parser};
@@ -61,9 +61,11 @@ const CHECK: &str =
 Example: qbec check examples/hello.ssa";
 
 const SYMBOLS: &str =
-    "Exit status: 0; 126 where the texts are refused or a file can't be read, and a line on standard error says why. Standard output has a line for each function and each datum, in the order of addresses, as nm -S prints them: address and size in hexadecimal, a letter, and the name; the letter is T for a function and D for a datum, t or d where the name isn't exported.
+    "Exit status: 0; 126 where the texts are refused or a file can't be read or written, and a line on standard error says why. Standard output has a line for each function and each datum of the executable that build makes of the texts, in the order of addresses, as nm -S prints them: address and size in hexadecimal, a letter, and the name; the letter is T for a function and D for a datum, t or d where the name isn't exported.
 
-Example: qbec symbols examples/hello.ssa";
+With -o the executable of which the lines are is written to OUT first.
+
+Example: qbec symbols -o hello examples/hello.ssa";
 
 const STACK: &str =
     "Exit status: 0; 126 where the texts are refused or a file can't be read, and a line on standard error says why. Standard output has a line for each function, in the order of the texts: the bytes of stack that it needs, the most that a call of it takes with all that it calls, or - where nothing bounds that, and the name. The last line says the most that the program takes, whatever its argument words and however long it runs, or which calls come round to themselves.
@@ -190,7 +192,7 @@ fn symbols<'a>(alloc: Global) -> Result<Command<'a>, AllocError>
     ensures { IfOk result (λ c. IsRead c symbols_app) }
 {
     let about = "Shows where the names of texts stand in their executable";
-    command(alloc, "symbols", about, SYMBOLS, files(alloc))
+    command(alloc, "symbols", about, SYMBOLS, also_out(alloc))?.arg(files(alloc))
 }
 
 fn stack<'a>(alloc: Global) -> Result<Command<'a>, AllocError>
@@ -217,6 +219,15 @@ fn out<'a>(alloc: Global) -> Arg<'a>
         .short('o')
         .required(true)
         .help("The executable file to write")
+}
+
+/// An OUT that needn't be there.
+fn also_out<'a>(alloc: Global) -> Arg<'a>
+    ensures { IsRuled result also_out_rule }
+{
+    Arg::new(alloc, OUT)
+        .short('o')
+        .help("An executable file to write too, that of which the lines are")
 }
 
 fn files<'a>(alloc: Global) -> Arg<'a>

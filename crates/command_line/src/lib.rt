@@ -62,8 +62,9 @@ pub enum Command<'a> {
         files: Vec<&'a str>,
         words: Vec<&'a str>,
     },
-    /// Show where the names of the files, as texts in this order, stand in an executable of them.
+    /// Show where the names of the files, as texts in this order, stand in an executable of them, and write it to the file `out`, where there is one.
     Symbols {
+        out: Option<&'a str>,
         files: Vec<&'a str>,
     },
     /// Show how much stack the functions of the files, as texts in this order, need and take at most.
@@ -78,7 +79,7 @@ pub const DEFAULT_LIMIT: u64 = 1_000_000_000;
 /// What the words after the program's name ask for.
 ///
 /// The words are those of a call such as `build [--explain] -o OUT FILE...`, `run [--explain] [--limit N] EXE WORD...`, `interp [--explain] [--limit N] FILE WORD...`,
-/// `dis [--explain] EXE`, `check FILE...`, `symbols FILE...`, `stack FILE...` or `trace [--limit N] [--last K] FILE... [-- WORD...]`.
+/// `dis [--explain] EXE`, `check FILE...`, `symbols [-o OUT] FILE...`, `stack FILE...` or `trace [--limit N] [--last K] FILE... [-- WORD...]`.
 /// N is from 0 to 1,000,000,000,000, by default [`DEFAULT_LIMIT`], and K from 0 to 1,000, by default 0. A WORD that begins with `-` stands after `--`, and each WORD
 /// of a trace does.
 ///

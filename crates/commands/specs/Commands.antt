@@ -12,9 +12,9 @@ use Rattle.commands.specs.declared.failure.Failure.{Failure}
 use Rattle.commands.specs.declared.failure.Failure.TheVariants.{Memory, Output}
 use Rattle.commands.specs.Messages.{line_of}
 use Rattle.commands.specs.Parts.{IsBuilt, BuildFails, RunsTo, RunFails, MeansTo, InterpretFails, IsDisassembled, DisassemblyFails, AreShown, ShowingLinesFails, IsTraced, TraceFails, IsChecked, CheckFails}
+use Rattle.commands.specs.Listings.{SymbolsAreShown, SymbolsFail}
 use Rattle.commands.specs.StackLines.{ShowsStack}
 use Rattle.commands.specs.Statuses.{status_of}
-use Rattle.qbec.specs.Listing.{IsListed}
 
 -- what a disk and the two streams tell at one time
 pub record World : Type 0 where
@@ -40,9 +40,10 @@ Done (Disassemble explain file) old new status =
 Done (Check files) old new status =
     IsChecked old.disk (map (λ p. p.now) files.items) old.err new.err status
     × (new.disk ≡ old.disk) × (new.out ≡ old.out)
-Done (Symbols files) old new status =
-    (status ≡ 0) × AreShown IsListed old.disk (map (λ p. p.now) files.items) old.out new.out
-    × (new.disk ≡ old.disk) × (new.err ≡ old.err)
+Done (Symbols out files) old new status =
+    (status ≡ 0)
+    × SymbolsAreShown out (map (λ p. p.now) files.items) old.disk new.disk old.out new.out
+    × (new.err ≡ old.err)
 Done (Stack files) old new status =
     (status ≡ 0) × AreShown ShowsStack old.disk (map (λ p. p.now) files.items) old.out new.out
     × (new.disk ≡ old.disk) × (new.err ≡ old.err)
@@ -62,8 +63,8 @@ Fails (Interpret explain limit file words) disk after old new f =
 Fails (Disassemble explain file) disk after old new f = DisassemblyFails disk after file old new f
 Fails (Check files) disk after old new f =
     CheckFails disk after (map (λ p. p.now) files.items) f × (new ≡ old)
-Fails (Symbols files) disk after old new f =
-    ShowingLinesFails IsListed disk after (map (λ p. p.now) files.items) old new f
+Fails (Symbols out files) disk after old new f =
+    SymbolsFail out (map (λ p. p.now) files.items) disk after old new f
 Fails (Stack files) disk after old new f =
     ShowingLinesFails ShowsStack disk after (map (λ p. p.now) files.items) old new f
 Fails (Trace limit last files words) disk after old new f =
@@ -82,7 +83,7 @@ is_explained (Run explain limit file words) = explain
 is_explained (Interpret explain limit file words) = explain
 is_explained (Disassemble explain file) = explain
 is_explained (Check files) = true
-is_explained (Symbols files) = true
+is_explained (Symbols out files) = true
 is_explained (Stack files) = true
 is_explained (Trace limit last files words) = true
 

@@ -8,5 +8,6 @@ pub mod Pieces
 pub mod StackLines
 pub mod Bounded
 pub mod Parts
+pub mod Listings
 pub mod Commands
 pub mod Exits

@@ -204,9 +204,15 @@ fn perform<'a, D: Disk, O: Sink, E: Sink>(
             explanation,
         ),
         Command::Stack { files } => show_stack(alloc, disk, out, files.as_slice(), explanation),
-        Command::Symbols { files } => {
-            list_symbols(alloc, allocator, disk, out, files.as_slice(), explanation)
-        }
+        Command::Symbols { out: target, files } => list_symbols(
+            alloc,
+            allocator,
+            disk,
+            out,
+            *target,
+            files.as_slice(),
+            explanation,
+        ),
     }
 }
 
@@ -221,7 +227,7 @@ fn perform<'a, D: Disk, O: Sink, E: Sink>(
 /// | `check FILE...` | says on `err` what is wrong with the files as texts, in order, each with its line |
 /// | `trace [--limit N] [--last K] FILE... [-- WORD...]` | interprets the files as texts, in order, as `interp` does one, and says on `err` where and why they ended, if they didn't exit, with the last K turns |
 /// | `stack FILE...` | shows how much stack the functions of the files, as texts in order, need, and the most that calls of them and the program take |
-/// | `symbols FILE...` | shows where the functions and the data of the files, as texts in order, stand in the executable that `build` makes with this strategy |
+/// | `symbols [-o OUT] FILE...` | compiles the files as `build` does, and shows where their functions and data stand in the executable that this makes, behind writing it to OUT where that is given |
 ///
 /// A program's output goes to `out`, while it runs. The status is the program's own, or 0 of `build`, of `dis`, of `symbols`, of `stack`, and of `check` where the texts are a program, else 126. Where something ends otherwise, the line of the [`Failure`] goes
 /// to `err`, and its status is answered; where words are asked for, by `--explain`, or by `check`, `trace`, `symbols` or `stack`, lines behind it say why texts or a file were

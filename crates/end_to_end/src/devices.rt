@@ -19,7 +19,7 @@ const HALTS: &str =
 const SEVEN: &str = "export function w $main() {\n@s\nret 7\n}\n";
 
 /// Words, and the status and line that they give where a file or a device fails.
-const ON_A_DEVICE: [(&str, &str); 7] = [
+const ON_A_DEVICE: [(&str, &str); 9] = [
     ("build -o out seven broken", "126 qbec: cannot read broken"),
     ("build -o out absent broken", "126 qbec: cannot read absent"),
     ("build -o broken seven", "126 qbec: cannot write broken"),
@@ -27,15 +27,18 @@ const ON_A_DEVICE: [(&str, &str); 7] = [
     ("run absent", "126 qbec: cannot read absent"),
     ("interp broken", "126 qbec: cannot read broken"),
     ("dis broken", "126 qbec: cannot read broken"),
+    ("symbols -o out absent", "126 qbec: cannot read absent"),
+    ("symbols -o broken seven", "126 qbec: cannot write broken"),
 ];
 
 /// The same where memory is refused for the file.
-const ON_MEMORY: [(&str, &str); 5] = [
+const ON_MEMORY: [(&str, &str); 6] = [
     ("build -o out seven broken", "126 qbec: memory"),
     ("build -o broken seven", "126 qbec: memory"),
     ("run broken", "126 qbec: memory"),
     ("interp broken", "126 qbec: memory"),
     ("dis broken", "126 qbec: memory"),
+    ("symbols -o broken seven", "126 qbec: memory"),
 ];
 
 /// A word that is no instruction.
@@ -275,6 +278,7 @@ pub fn check(report: &mut Report) -> Result<(), AllocError> {
         "interp halts",
         "run made",
         "dis made",
+        "symbols -o out seven",
         "--help",
         "build --help",
     ] {

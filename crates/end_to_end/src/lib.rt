@@ -21,6 +21,7 @@ mod prefixes;
 mod programs;
 mod random;
 mod sizes;
+mod stack_uses;
 mod strategies;
 mod table;
 mod texts;

@@ -1,10 +1,11 @@
 //! Words of the command line, and what is shown for them.
 //!
 //! In `lines.cases` a line `$ WORDS` begins a case, the next one is the status, and the lines up to one that is a dot are what goes to standard output and then to
-//! standard error. Lines behind `file PATH`, up to one that is a dot, are a file for the next case. Five files are there for each: the texts `seven` and `halts`, `made`, which the second is built to, `faults`, an executable whose one word is no instruction, and `exits`, one of three instructions.
+//! standard error; behind those of `stack`, where it shows a bound, how much of the stack a run uses, by the interpreter. Lines behind `file PATH`, up to one that is a dot, are a file for the next case. Five files are there for each: the texts `seven` and `halts`, `made`, which the second is built to, `faults`, an executable whose one word is no instruction, and `exits`, one of three instructions.
 use crate::broken_disk::BrokenDisk;
 use crate::commanded::{Done, perform};
 use crate::devices::disk_of;
+use crate::stack_uses::{bound_shown, greatest_use};
 use std::alloc::{AllocError, Global};
 use std::rt::Files;
 use std::{fs, io, str};
@@ -26,6 +27,31 @@ fn all_of(alloc: Global, done: &Done) -> Result<String, AllocError> {
     format!(in alloc; "{status}\n{output}{message}")
 }
 
+/// How much of the stack a run of the files uses.
+fn use_of(alloc: Global, disk: &BrokenDisk, paths: &[&str]) -> Result<u64, AllocError> {
+    let texts: Vec<&[u8]> = paths
+        .iter()
+        .map(|path| disk.find(*path).unwrap_or(b""))
+        .collect(alloc)?;
+    greatest_use(alloc, texts.as_slice())
+}
+
+/// Behind what `stack` shows, adds what a run uses, which is no more than the bound.
+fn check_use(
+    disk: &BrokenDisk,
+    paths: &[&str],
+    said: &mut String,
+    report: &mut Report,
+) -> Result<(), AllocError> {
+    let bound = match bound_shown(said.as_str()) {
+        Some(bound) => bound,
+        None => return Ok(()),
+    };
+    let used = use_of(report.alloc, disk, paths)?;
+    writeln!(said, "used by a run: {used}")?;
+    report.holds("the use of a run is within the bound", used <= bound)
+}
+
 fn check_shown(
     disk: &mut BrokenDisk,
     words: &str,
@@ -36,7 +62,10 @@ fn check_shown(
     report.begin(words)?;
     let words: Vec<&str> = words.split_whitespace().collect(alloc)?;
     let done = perform(alloc, disk, words.as_slice())?;
-    let said = all_of(alloc, &done)?;
+    let mut said = all_of(alloc, &done)?;
+    if let ["stack", paths @ ..] = words.as_slice() {
+        check_use(disk, paths, &mut said, report)?;
+    }
     report.compare("shown", wanted, said.as_str())
 }
 

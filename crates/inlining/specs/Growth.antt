@@ -1,6 +1,6 @@
 -- A function that grows by calls in place.
 use Rattle.std.specs.Prelude.{◌≡◌, ℕ, ◌+◌, ◌<◌, not, ◌∷◌, map, length, take, drop, slice_get, Some, IsTrue}
-use Rattle.std.specs.List.{list_all, list_any}
+use Rattle.std.specs.List.{list_all, list_any, sum_by}
 use Rattle.std.specs.Option.{option_map}
 use Rattle.il_ast.specs.declared.limits.TheConstants.{FUNCTION_WEIGHT}
 use Rattle.il_ast.specs.Meaning.{same_classes, result_fits}
@@ -24,12 +24,20 @@ use Rattle.inlining.specs.InPlace.{Site, candidate_block, up_to_call, behind_cal
 use Rattle.inlining.specs.Candidates.{begins_turn, is_candidate}
 use Rattle.inlining.specs.Placed.{Candidates, Grows}
 
--- the room that the candidate's code leaves, in a function with so many blocks
-pub record Takes (room : Room) (blocks : ℕ) (candidate : VFunc) (left : Room) : Type 0 where
+abbrev pub line_count : Block ℕ → ℕ
+line_count b = length b.lines
+
+-- the room that the candidate's code leaves, in a function with so many blocks, one of which, of so
+-- many lines, is cut for it
+pub record Takes (room : Room) (blocks cut : ℕ) (candidate : VFunc) (left : Room) : Type 0 where
   pub registers : left.registers ≡ room.registers + candidate.registers
   pub few : left.registers < PLACES
   pub low : blocks + length candidate.code.blocks < BLOCKS
   pub weight : code_weight candidate.code + left.weight_left ≡ room.weight_left
+  pub lines :
+      sum_by line_count candidate.code.blocks + length candidate.code.params + left.lines_left
+      ≡ room.lines_left
+  pub copies : cut + left.copies_left ≡ room.copies_left
 
 -- the candidate takes what the call passes, gives what it wants, and has blocks
 pub record Answers (candidate : VFunc) (s : Site) : Type 0 where
@@ -56,7 +64,7 @@ pub record IsMade (room : Room) (blocks : ℕ) (candidate : VFunc) (j : ℕ) (s 
         ∷ map (candidate_block (blocks + 1) blocks room.registers candidate.code.result s.to) candidate.code.blocks
     pub paid : IsTrue (is_paid c.up_to)
     pub all_paid : IsTrue (list_all is_paid c.behind.items)
-    pub takes : Takes room blocks candidate c.room
+    pub takes : Takes room blocks (length s.block.lines) candidate c.room
 
 -- the block cut at a call of one of the candidates
 pub record IsCut (candidates : Candidates) (g : Growth) (b : Block ℕ) (c : Cut) : Type 0 where

@@ -3,7 +3,7 @@ ghost use Rattle.std.specs.Prelude.{◌≡◌, ℕ, ◌+◌, ◌<◌, ◌++◌, 
 ghost use Rattle.std.specs.List.{sum_by};
 ghost use Rattle.vcode.specs.declared.code.Block.{Block as BlockOf};
 ghost use Rattle.vcode.specs.Regular.{weight_of};
-ghost use Rattle.inlining.specs.Growth.{Takes};
+ghost use Rattle.inlining.specs.Growth.{Takes, line_count};
 
 use crate::limits::BLOCKS;
 use std::alloc::{AllocError, Global};
@@ -76,7 +76,10 @@ pub(crate) fn weight_behind(whole: u64, blocks: &[Block<u32>]) -> Option<u64>
     Some(left)
 }
 
-fn lines_behind(whole: usize, blocks: &[Block<u32>]) -> Option<usize> {
+/// What is left of so many lines behind those of all blocks, if they are no more.
+fn lines_behind(whole: usize, blocks: &[Block<u32>]) -> Option<usize>
+    ensures { IfSome result (λ left. sum_by line_count blocks.now + left ≡ whole) }
+{
     let mut left = whole;
     for block in blocks {
         match left.checked_sub(block.lines.len()) {
@@ -94,7 +97,7 @@ pub(crate) fn room_behind(
     lines: usize,
     candidate: &VFunc,
 ) -> Option<Room>
-    ensures { IfSome result (λ left. Takes room blocks candidate.now left) }
+    ensures { IfSome result (λ left. Takes room blocks lines candidate.now left) }
 {
     let more = candidate.code.blocks.as_slice();
     let registers = room.registers.checked_add(candidate.registers)?;

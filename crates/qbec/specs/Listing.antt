@@ -51,8 +51,3 @@ pub record IsListedFile (texts : List (List ℕ)) (file listing : List ℕ) : Ty
   pub program : Program
   pub is : IsProgram checked program
   pub lists : IsFileListed checked program file listing
-
--- these are the lines of the names in a file that compiling these texts makes
-pub record IsListed (texts : List (List ℕ)) (listing : List ℕ) : Type 0 where
-  pub file : List ℕ
-  pub lists : IsListedFile texts file listing

@@ -175,6 +175,17 @@ fn all_later(
     Ok(made)
 }
 
+/// So many sums of a block are put off over one another, at most.
+const ROUNDS: usize = 4;
+
+/// The function with sums put off, none of them over another one that is.
+fn put_off_some(alloc: Global, function: VFunc, counts: &[u32]) -> Result<VFunc, AllocError>
+    ensures { IfOk result (λ w. Keeps (virtual_code function) (virtual_code w)) }
+{
+    let made = all_later(alloc, function.code.blocks.as_slice(), counts)?;
+    function.with_blocks(alloc, function.registers, Seq::from_vec(made))
+}
+
 /// The function with its sums of a register and a number behind the last lines that read that register, where it isn't wanted then.
 ///
 /// # Errors
@@ -183,11 +194,13 @@ fn all_later(
 pub fn put_off_sums(alloc: Global, function: VFunc) -> Result<VFunc, AllocError>
     ensures { IfOk result (λ w. Keeps (virtual_code function) (virtual_code w)) }
 {
-    let blocks = function.code.blocks.as_slice();
-    let counts = count_reads(alloc, function.registers, blocks)?;
-    if !is_any_put_off(blocks, counts.as_slice()) {
-        return Ok(function);
+    let mut function = function;
+    let counts = count_reads(alloc, function.registers, function.code.blocks.as_slice())?;
+    for _round in 0..ROUNDS {
+        if !is_any_put_off(function.code.blocks.as_slice(), counts.as_slice()) {
+            break;
+        }
+        function = put_off_some(alloc, function, counts.as_slice())?;
     }
-    let made = all_later(alloc, blocks, counts.as_slice())?;
-    function.with_blocks(alloc, function.registers, Seq::from_vec(made))
+    Ok(function)
 }

@@ -9,7 +9,7 @@ ghost use Rattle.qbec.specs.declared.error.CompileError.TheVariants.{Memory};
 ghost use Rattle.qbec.specs.Codes.{AreGood, AreWords};
 ghost use Rattle.qbec.specs.Refusals.{Refuses};
 ghost use Rattle.qbec.specs.Texts.{AreProgram};
-ghost use Rattle.qbec.specs.Listing.{IsFileListed, IsListed, IsListedFile, letter, listing_of, symbol_line};
+ghost use Rattle.qbec.specs.Listing.{IsFileListed, IsListedFile, letter, listing_of, symbol_line};
 ghost use Rattle.qbec.specs.Symbols.{entry};
 
 use crate::codes::codes_of;
@@ -121,26 +121,6 @@ pub fn listed_file(
             Ok(linked) => listed(alloc, &linked, allocator),
             Err(error) => Err(link_refusal(alloc, error)),
         },
-        Err(error) => Err(error),
-    }
-}
-
-/// The lines of [`listed_file`] alone.
-///
-/// # Errors
-///
-/// Those of [`crate::compile::compile`], for the same texts.
-pub fn listing(
-    alloc: Global,
-    texts: &[&[u8]],
-    allocator: &mut dyn Strategy,
-) -> Result<Vec<u8>, CompileError>
-    ensures listed { IfOk result (λ v. IsListed (map (λ t. t.now) texts.now) v.items) }
-    ensures refused { IfErr result (λ e. Refuses e (map (λ t. t.now) texts.now)) }
-    ensures only { (p : Program) → AreProgram (map (λ t. t.now) texts.now) p → IfErr result (λ e. e ≡ Memory) }
-{
-    match listed_file(alloc, texts, allocator) {
-        Ok(ListedFile { file: _, listing }) => Ok(listing),
         Err(error) => Err(error),
     }
 }

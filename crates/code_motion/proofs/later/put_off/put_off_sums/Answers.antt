@@ -1,14 +1,11 @@
-use Rattle.std.proofs.Common.{ℕ, List, subst}
-use Rattle.vcode.specs.declared.code.Block.{Block}
-use Rattle.vcode.proofs.Results.{becomes_these}
-use Rattle.code_motion.specs.Later.{AllLater}
-use Rattle.code_motion.proofs.KeepingLater.{owed_later}
+use Rattle.il_ast.proofs.Passing.{keeps_compose}
+use Rattle.vcode.specs.Coded.{virtual_code}
+use Rattle.vcode.proofs.Results.{keeps_itself}
 use Rattle.code_motion.proofs.later.put_off.put_off_sums.Goals as goal
 
-pub with_blocks-requires-clause-becomes : goal.with_blocks-requires-clause-becomes
-with_blocks-requires-clause-becomes c =
-    let v = c.args.function in
-    let items = c.in_ok-made.made.items in
-    let all : AllLater v.code.blocks items =
-    subst (λ (bs : List (Block ℕ)). AllLater bs items) c.as_slice-blocks.ensures c.in_ok-made.ensures in
-    becomes_these v v.registers items c.from_vec.result (owed_later v items all) c.from_vec.ensures
+pub loop-round-init : goal.loop-round-init
+loop-round-init c = keeps_itself (virtual_code c.args.function)
+
+pub loop-round-preserved : goal.loop-round-preserved
+loop-round-preserved c =
+    keeps_compose (virtual_code c.args.function) (virtual_code c.loop-round.function) (virtual_code c.in_ok-function.function) c.loop-round.invariant c.in_ok-function.ensures

@@ -1,0 +1,80 @@
+//! How much of the stack runs use, by the interpreter.
+use il_interp::pieces::{Running, begin_to_run};
+use il_interp::trace::Place;
+use il_types::cost::capped_need;
+use obj_link::linking::linked::Linked;
+use obj_link::linking::resolve::resolve;
+use qbec::texts::checked_texts;
+use std::alloc::{AllocError, Global};
+
+/// So many turns of a run are looked at.
+const TURNS: u64 = 20_000;
+
+fn needs_of(alloc: Global, linked: &Linked<'_>) -> Result<Vec<u64>, AllocError> {
+    linked
+        .functions
+        .as_slice()
+        .iter()
+        .map(|function| capped_need(function.item))
+        .collect(alloc)
+}
+
+fn need_at(needs: &[u64], place: Option<Place>) -> u64 {
+    match place {
+        Some(place) => needs.get(place.function).copied().unwrap_or(0),
+        None => 0,
+    }
+}
+
+/// What the activations need that are there.
+fn used(running: &Running<'_>, needs: &[u64]) -> u64 {
+    let mut sum = need_at(needs, running.place());
+    for number in 0..running.callers() {
+        sum = sum.saturating_add(need_at(needs, running.caller(number)));
+    }
+    sum
+}
+
+fn greatest(alloc: Global, running: &mut Running<'_>, needs: &[u64]) -> Result<u64, AllocError> {
+    let mut greatest = used(running, needs);
+    for _done in 0..TURNS {
+        if running.go_on(alloc, 1)?.is_some() {
+            break;
+        }
+        greatest = greatest.max(used(running, needs));
+    }
+    Ok(greatest)
+}
+
+fn greatest_of(alloc: Global, linked: &Linked<'_>) -> Result<u64, AllocError> {
+    let needs = needs_of(alloc, linked)?;
+    match begin_to_run(alloc, linked, &[]) {
+        Ok(Ok(mut running)) => {
+            running.watch(alloc, 0);
+            greatest(alloc, &mut running, needs.as_slice())
+        }
+        _ => Ok(0),
+    }
+}
+
+/// The greatest use of the stack in the first turns of a run without argument words, in bytes: 0 where the texts are no program.
+pub fn greatest_use(alloc: Global, texts: &[&[u8]]) -> Result<u64, AllocError> {
+    let checked = match checked_texts(alloc, texts) {
+        Ok(checked) => checked,
+        Err(_) => return Ok(0),
+    };
+    match resolve(alloc, checked.as_slice()) {
+        Ok(linked) => greatest_of(alloc, &linked),
+        Err(_) => Ok(0),
+    }
+}
+
+/// The bound that `qbec stack` shows in its last line, if there is one.
+pub fn bound_shown(output: &str) -> Option<u64> {
+    let (_, last) = output.split_once("\nat most ")?;
+    let (bytes, _) = last.split_once(' ')?;
+    match bytes.parse::<u64>() {
+        Ok(bytes) => Some(bytes),
+        Err(_) => None,
+    }
+}
