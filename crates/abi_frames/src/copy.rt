@@ -57,10 +57,24 @@ fn push_rest(
         push_copy(items, LoadOp::Lwu, StoreOp::Sw, from, to, offset)?;
     }
     if bytes % 4 >= 2 {
-        push_copy(items, LoadOp::Lhu, StoreOp::Sh, from, to, offset + bytes / 4 * 4)?;
+        push_copy(
+            items,
+            LoadOp::Lhu,
+            StoreOp::Sh,
+            from,
+            to,
+            offset + bytes / 4 * 4,
+        )?;
     }
     if bytes % 2 >= 1 {
-        push_copy(items, LoadOp::Lbu, StoreOp::Sb, from, to, offset + bytes / 2 * 2)?;
+        push_copy(
+            items,
+            LoadOp::Lbu,
+            StoreOp::Sb,
+            from,
+            to,
+            offset + bytes / 2 * 2,
+        )?;
     }
     Ok(())
 }

@@ -225,9 +225,9 @@ fn out<'a>(alloc: Global) -> Arg<'a>
 fn also_out<'a>(alloc: Global) -> Arg<'a>
     ensures { IsRuled result also_out_rule }
 {
-    Arg::new(alloc, OUT)
-        .short('o')
-        .help("An executable file to write too, that of which the lines are")
+    Arg::new(alloc, OUT).short('o').help(
+        "An executable file to write too, that of which the lines are",
+    )
 }
 
 fn files<'a>(alloc: Global) -> Arg<'a>
