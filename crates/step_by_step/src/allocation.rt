@@ -1,11 +1,11 @@
 //! Certificates: which are chosen for functions, and what is made of functions by them.
 use crate::certified::{certificate_of, certificate_text, places_of};
+use crate::code_text::function::{located_text, virtual_function};
 use alloc_check::accept::{Refused, accept};
 use certificates::list;
 use certificates::spill_all::SpillAll;
 use certificates::strategy::Strategy;
 use cfg_live::live::live;
-use code_text::function::{located_text, virtual_function};
 use regalloc::linear_scan::LinearScan;
 use std::alloc::Global;
 use vcode::function::{LFunc, VFunc};

@@ -2,10 +2,10 @@
 //!
 //! A line `params` has the places of the parameters, `everywhere` what holds at the start of every block, and a line `start` for each block what else holds there. For each point
 //! stand a line `moves` and a line `places`. A move is `P to P`, and `%N P` says that the place holds what the register has.
+use crate::code_text::function::is_same;
+use crate::code_text::place::Place;
+use crate::code_text::words::Words;
 use certificates::certificate::{Certificate, Equality, Transfer};
-use code_text::function::is_same;
-use code_text::place::Place;
-use code_text::words::Words;
 use il_ast::list::Seq;
 use std::alloc::{AllocError, Global};
 use text_maker::maker::TextMaker;

@@ -1,9 +1,9 @@
 //! What passes choose to do with a function, in lines of their own.
+use crate::code_text::function::virtual_function;
 use crate::lists::add_numbers;
 use block_layout::placement::choice::chains::chained;
 use block_layout::tails::choice::{Worth, chosen_tails};
 use code_motion::choice::choose::choose_plan;
-use code_text::function::virtual_function;
 use constant_placement::hoisting::choice::plans::choose_plans;
 use constant_placement::hoisting::plan::Plan;
 use constant_placement::sinking::choice::choose;

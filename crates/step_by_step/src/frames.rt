@@ -2,10 +2,10 @@
 //!
 //! Instructions are written as a disassembly has them. A label is `@N:`, a branch or a jump to it has `@N` in the place of an offset, and an instruction with a part of an
 //! address has ` + $N + OFFSET` behind it; `call $N` calls a name.
+use crate::code_text::function::{located_function, located_text};
 use abi_frames::frame::frame;
 use asm_layout::call::CallForm;
 use asm_layout::layout::layout;
-use code_text::function::{located_function, located_text};
 use flat_code::function::flat;
 use rv_isa::code::MachineCode;
 use rv_isa::decode::decode;

@@ -1,13 +1,13 @@
 //! Points of functions, and the registers that are live at each.
 //!
 //! A graph is a text with a line for each point: the registers that it reads, the one that it writes, and the points behind it.
+use crate::code_text::function::virtual_function;
 use crate::lists::{add_numbers, numbers, registers};
 use cfg_live::graph::Graph;
 use cfg_live::live::live_in;
 use cfg_live::points;
 use cfg_live::sets::Live;
 use cfg_live::uses::Uses;
-use code_text::function::virtual_function;
 use il_ast::list::Seq;
 use std::alloc::{AllocError, Global};
 use text_maker::maker::TextMaker;

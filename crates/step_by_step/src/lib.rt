@@ -9,6 +9,7 @@ mod back_end;
 mod case;
 mod certified;
 mod chosen;
+mod code_text;
 mod files;
 mod frames;
 mod front_end;
@@ -29,9 +30,9 @@ mod tokens;
 mod watch;
 
 use crate::case::{Case, case_of};
+use crate::code_text::function::is_same;
 use crate::step::{BACK_END, FRONT_END, PARTS_OF_PASSES, Step};
 use crate::watch::watched;
-use code_text::function::is_same;
 use qbec::passes::PASSES;
 use std::alloc::{AllocError, Global};
 use std::rt::Files;

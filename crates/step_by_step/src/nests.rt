@@ -1,6 +1,6 @@
 //! Loops of functions.
+use crate::code_text::function::virtual_function;
 use crate::lists::add_numbers;
-use code_text::function::virtual_function;
 use flow::depths::{depths, frequency};
 use flow::graph::predecessors;
 use il_ast::few::Few;

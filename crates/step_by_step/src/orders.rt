@@ -1,9 +1,9 @@
 //! Orders of the blocks of a function.
+use crate::code_text::function::virtual_function;
 use crate::lists::{add_numbers, numbers};
 use crate::passes::shown_or_refused;
 use block_layout::placement::choice::chains::chained;
 use block_layout::placement::order::in_order;
-use code_text::function::virtual_function;
 use std::alloc::{AllocError, Global};
 use text_maker::maker::TextMaker;
 

@@ -1,5 +1,5 @@
 //! The passes on virtual code.
-use code_text::function::{virtual_function, virtual_text};
+use crate::code_text::function::{virtual_function, virtual_text};
 use inlining::calls::inline_calls;
 use qbec::passes::Pass;
 use std::alloc::{AllocError, Global};

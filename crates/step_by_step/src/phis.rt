@@ -2,8 +2,8 @@
 ghost use Rattle.std.specs.Prelude.{◌≡◌, Some, IfSome, slice_get};
 ghost use Rattle.phi_copies.specs.Good.{IsGoodFunction};
 
+use crate::code_text::function::virtual_text;
 use crate::hexadecimal::add_hexadecimal;
-use code_text::function::virtual_text;
 use il_ast::function::Func;
 use il_ast::operand::Val;
 use il_ast::operation::Class;

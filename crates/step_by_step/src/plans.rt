@@ -1,8 +1,8 @@
 //! Passes by given plans, right and wrong ones, in the place of those that are chosen.
+use crate::code_text::function::virtual_function;
 use crate::lists::numbers;
 use crate::passes::{shown, shown_or_refused};
 use code_motion::plan::{BlockPlan, Computation};
-use code_text::function::virtual_function;
 use constant_placement::hoisting::hold::with_constant;
 use constant_placement::hoisting::plan::{Constant, Plan};
 use constant_placement::sinking::known::Known;

@@ -1,6 +1,6 @@
 //! Location code whose lines change places.
+use crate::code_text::function::{located_function, located_text};
 use crate::lists::numbers;
-use code_text::function::{located_function, located_text};
 use il_ast::list::Seq;
 use scheduling::schedule::{apply, schedule};
 use std::alloc::{AllocError, Global};

@@ -1,0 +1,271 @@
+//! Code from text.
+use crate::code_text::names::{class_of, comparison_of, load_op, operation_of, store_size};
+use crate::code_text::place::Place;
+use crate::code_text::words::{Words, number_behind, signed};
+use il_ast::list::Seq;
+use il_ast::operation::Class;
+use il_ast::symbol::Symbol;
+use std::alloc::Global;
+use std::mem;
+use vcode::code::{Block, Code};
+use vcode::line::{Comparison, Jump, Line};
+use vcode::place::{Address, Argument, Destination, Extension, Operand, ReturnValue};
+
+fn operand<P: Place>(word: &str) -> Option<Operand<P>> {
+    if let Some(place) = P::read(word) {
+        return Some(Operand::At(place));
+    }
+    if let Some(global) = number_behind("$", word) {
+        return Some(Operand::Name(Symbol::at(global as usize)));
+    }
+    Some(Operand::Number(signed(word)?))
+}
+
+fn address<P: Place>(word: &str) -> Option<Address<P>> {
+    let (offset, base) = word.strip_suffix(')')?.split_once('(')?;
+    Some(Address::beyond(operand(base)?, signed(offset)?))
+}
+
+fn block_number(word: &str) -> Option<usize> {
+    Some(number_behind("@", word)? as usize)
+}
+
+/// A value, and whether it is claimed to stand extended.
+fn extended<P: Place>(words: &mut Words<'_>) -> Option<(Extension, Operand<P>)> {
+    let first = words.next();
+    if first == "claimed" {
+        return Some((Extension::Claimed, operand(words.next())?));
+    }
+    Some((Extension::Made, operand(first)?))
+}
+
+fn argument<P: Place>(text: &str) -> Option<Argument<P>> {
+    let mut words = Words::of(text);
+    let class = class_of(words.next())?;
+    let (extension, value) = extended(&mut words)?;
+    Some(Argument {
+        class,
+        value,
+        extension,
+    })
+}
+
+fn arguments<P: Place>(alloc: Global, list: &str) -> Option<Seq<Argument<P>>> {
+    let mut args = Seq::new(alloc);
+    if !list.is_empty() {
+        for part in list.split(',') {
+            args.push(argument(part)?).ok()?;
+        }
+    }
+    Some(args)
+}
+
+/// A call, from what stands behind the word for it.
+fn call<P: Place>(alloc: Global, to: Option<Destination<P>>, text: &str) -> Option<Line<P>> {
+    let (callee, list) = text.strip_suffix(')')?.split_once('(')?;
+    Some(Line::Call {
+        to,
+        callee: operand(callee)?,
+        args: arguments(alloc, list)?,
+    })
+}
+
+/// What a line without a result has behind its first word.
+fn effect<P: Place>(first: &str, mut words: Words<'_>) -> Option<Line<P>> {
+    match first {
+        "tick" => Some(Line::Tick {
+            weight: words.next().parse::<u32>().ok()?,
+            turn: words.next() == "turn",
+        }),
+        "alloc" => Some(Line::Alloc {
+            to: None,
+            size: signed(words.next())?,
+        }),
+        "blit" => Some(Line::Blit {
+            from: operand(words.next())?,
+            to: operand(words.next())?,
+            count: signed(words.next())?,
+        }),
+        _ => Some(Line::Store {
+            size: store_size(first)?,
+            value: operand(words.next())?,
+            at: address(words.next())?,
+        }),
+    }
+}
+
+/// What a place takes, from what stands behind the sign for that.
+fn assignment<P: Place>(to: P, mut words: Words<'_>) -> Option<Line<P>> {
+    let first = words.next();
+    if first == "alloc" {
+        return Some(Line::Alloc {
+            to: Some(to),
+            size: signed(words.next())?,
+        });
+    }
+    if let Some(op) = load_op(first) {
+        return Some(Line::Load {
+            to,
+            op,
+            at: address(words.next())?,
+        });
+    }
+    if let Some(operation) = operation_of(first) {
+        return Some(Line::Operate {
+            to,
+            operation,
+            left: operand(words.next())?,
+            right: operand(words.next())?,
+        });
+    }
+    Some(Line::Set {
+        to,
+        value: operand(first)?,
+    })
+}
+
+/// The place and the class of a call's result.
+fn wanted<P: Place>(text: &str) -> Option<Destination<P>> {
+    let (place, class) = text.trim_end().split_once(" =")?;
+    Some(Destination {
+        place: P::read(place)?,
+        class: class_of(class)?,
+    })
+}
+
+fn line<P: Place>(alloc: Global, text: &str) -> Option<Line<P>> {
+    if let Some((before, behind)) = text.split_once("call ") {
+        return call(alloc, wanted(before), behind);
+    }
+    let mut words = Words::of(text);
+    let first = words.next();
+    match P::read(first) {
+        Some(to) => {
+            let _sign = words.next();
+            assignment(to, words)
+        }
+        None => effect(first, words),
+    }
+}
+
+fn comparison<P: Place>(words: &mut Words<'_>) -> Option<Comparison<P>> {
+    let (condition, class) = comparison_of(words.next())?;
+    Some(Comparison {
+        condition,
+        class,
+        left: operand(words.next())?,
+        right: operand(words.next())?,
+    })
+}
+
+fn returned<P: Place>(mut words: Words<'_>) -> Option<ReturnValue<P>> {
+    let (extension, value) = extended(&mut words)?;
+    Some(ReturnValue { value, extension })
+}
+
+fn jump<P: Place>(text: &str) -> Option<Jump<P>> {
+    let mut words = Words::of(text);
+    match words.next() {
+        "goto" => Some(Jump::Goto(block_number(words.next())?)),
+        "branch" => Some(Jump::Branch {
+            on: comparison(&mut words)?,
+            met: block_number(words.next())?,
+            otherwise: block_number(words.next())?,
+        }),
+        "ret" => Some(Jump::Return(returned(words))),
+        "halt" => Some(Jump::Halt),
+        _ => None,
+    }
+}
+
+/// Blocks that are read: those that have ended, and the lines behind them.
+#[derive(Drop)]
+struct Body<P> {
+    alloc: Global,
+    ended: Seq<Block<P>>,
+    lines: Seq<Line<P>>,
+}
+
+impl<P: Place> Body<P> {
+    /// Takes a line of text.
+    fn take(&mut self, text: &str) -> Option<()> {
+        if text.starts_with('@') {
+            return Some(());
+        }
+        match jump(text) {
+            Some(jump) => {
+                let lines = mem::replace(&mut self.lines, Seq::new(self.alloc));
+                self.ended.push(Block { lines, jump }).ok()
+            }
+            None => self.lines.push(line(self.alloc, text)?).ok(),
+        }
+    }
+}
+
+fn blocks<P: Place>(alloc: Global, text: &str) -> Option<Seq<Block<P>>> {
+    let mut body = Body {
+        alloc,
+        ended: Seq::new(alloc),
+        lines: Seq::new(alloc),
+    };
+    for part in text.lines() {
+        body.take(part.trim())?;
+    }
+    Some(body.ended)
+}
+
+fn parameter<P: Place>(text: &str) -> Option<Destination<P>> {
+    let mut words = Words::of(text);
+    Some(Destination {
+        class: class_of(words.next())?,
+        place: P::read(words.next())?,
+    })
+}
+
+fn parameters<P: Place>(alloc: Global, list: &str) -> Option<Seq<Destination<P>>> {
+    let mut params = Seq::new(alloc);
+    if !list.is_empty() {
+        for part in list.split(',') {
+            params.push(parameter(part)?).ok()?;
+        }
+    }
+    Some(params)
+}
+
+/// What the first line of a function says.
+#[derive(Clone, Copy)]
+struct FirstLine<'a> {
+    result: Option<Class>,
+    params: &'a str,
+    count: u32,
+}
+
+fn header(text: &str) -> Option<FirstLine<'_>> {
+    let (before, behind) = text.split_once('(')?;
+    let (params, counted) = behind.split_once(')')?;
+    let mut words = Words::of(before);
+    let _function = words.next();
+    let result = class_of(words.next());
+    let mut words = Words::of(counted);
+    let _name = words.next();
+    Some(FirstLine {
+        result,
+        params,
+        count: words.next().parse::<u32>().ok()?,
+    })
+}
+
+fn code<P: Place>(alloc: Global, header: FirstLine<'_>, text: &str) -> Option<Code<P>> {
+    Some(Code {
+        result: header.result,
+        params: parameters(alloc, header.params)?,
+        blocks: blocks(alloc, text)?,
+    })
+}
+
+/// The code of a text, and how many registers or slots it has.
+pub(crate) fn read<P: Place>(alloc: Global, text: &str) -> Option<(u32, Code<P>)> {
+    let (first, rest) = text.split_once('\n').unwrap_or((text, ""));
+    let header = header(first)?;
+    Some((header.count, code(alloc, header, rest)?))
+}
