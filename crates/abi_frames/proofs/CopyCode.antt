@@ -10,7 +10,7 @@ use Rattle.rv_isa.specs.declared.instruction.LoadOp.TheVariants.{Ld, Lwu, Lhu, L
 use Rattle.rv_isa.specs.declared.instruction.StoreOp.TheVariants.{Sb, Sh, Sw, Sd}
 use Rattle.rv_isa.proofs.MemoryLemmas.{stored_below, stored_above}
 use Rattle.operation_code.specs.Fields.{reg, add_low}
-use Rattle.abi_frames.specs.Emission.{into, fetch, source, copy_at, copy_eights, copy_rest, copy_bytes, copy_part, copy_parts, near_blit, far_blit, blit_items}
+use Rattle.abi_frames.specs.Emission.{into, fetch, source, copy_at, copy_pair, copy_pairs, copy_rest, copy_bytes, copy_part, copy_parts, near_blit, far_blit, blit_items}
 use Rattle.operation_code.proofs.ConstantNumbers.{near_moves}
 use Rattle.operation_code.proofs.Leading.{Site, Leads, leads_nowhere, Sets, IsReg, register_reg, in_register, in_register_small, same_in_register}
 use Rattle.abi_frames.proofs.Leads.{leads_on, leads_as}
@@ -80,14 +80,21 @@ read_byte f a (suc n) (suc k) small h =
     let high_part : (f a + 256 * rest) / 256 ≡ rest = omega (arith, byte) in
     sym (byte_later k (f a + 256 * rest)) ∙ (ap (byte_at k) high_part ∙ (read_byte f (a + 1) n k small (omega (arith, h)) ∙ ap f next))
 
--- n bytes were copied; of the registers only x30 may have changed
+-- n bytes were copied; of the registers only x30 and x31 may have changed
 pub record Piece (s : State) (n from to : ℕ) (u : State) : Type 0 where
   pub bytes : CopiedBytes s.bytes u.bytes n from to
-  pub registers : (m : ℕ) → m ≢ 30 → u.registers m ≡ s.registers m
+  pub registers : (m : ℕ) → m < 30 → u.registers m ≡ s.registers m
   pub output : u.output ≡ s.output
 
 is_30 : IsReg 30
 is_30 = record { some = lit< tt; small = lit< tt }
+
+is_31 : IsReg 31
+is_31 = record { some = lit< tt; small = lit< tt }
+
+-- a register below x30 isn't one of these two
+not_through : (m d : ℕ) → 30 ≤ d → m < 30 → m ≢ d
+not_through m d h lo e = absurd (omega (arith, h, lo, e))
 
 -- a load and a store of one size, of which the load is read without a sign
 pub record Alike (load : LoadOp) (store : StoreOp) (n : ℕ) : Type 0 where
@@ -110,23 +117,48 @@ written_copied s t u n from to v small value same is = record {
     elsewhere x (inl below) = stored_below t.bytes to n v x below
     elsewhere x (inr above) = stored_above t.bytes to n v x above
 
--- the addresses to copy from and to are in two registers, and not in the one that the bytes go through
+-- m bytes more were written, that stood behind those that were copied
+written_behind : (f g h : ℕ → ℕ) (n m from to v : ℕ) → ((x : ℕ) → f x < 256) → CopiedBytes f g n from to → v ≡ number_at f (from + n) m → h ≡ stored g (to + n) m v
+    → CopiedBytes f h (n + m) from to
+written_behind f g h n m from to v small one value is = record {
+  inside = λ k few. by_test k few (nat_lt k n) refl;
+  outside = λ x out. elim out [
+    | inl below ↦ at x ∙ (stored_below g (to + n) m v x (omega (arith, below)) ∙ one.outside x (inl below))
+    | inr above ↦ at x ∙ (stored_above g (to + n) m v x (omega (arith, above)) ∙ one.outside x (inr (omega (arith, above))))
+  ];
+}
+  where
+    at : (x : ℕ) → h x ≡ stored g (to + n) m v x
+    at x = ap (λ (b : ℕ → ℕ). b x) is
+
+    by_test : (k : ℕ) → k < n + m → (b : Bool) → nat_lt k n ≡ b → h (to + k) ≡ f (from + k)
+    by_test k few true e =
+        let lo : k < n = grind (arith, nat_tests) in
+        at (to + k) ∙ (stored_below g (to + n) m v (to + k) (omega (arith, lo)) ∙ one.inside k lo)
+    by_test k few false e =
+        let hi : n ≤ k = grind (arith, nat_tests) in
+        let j : ℕ = k - n in
+        let less : j < m = omega (arith, few, hi) in
+        let there : to + k ≡ to + n + j = omega (arith, hi) in
+        let here : from + n + j ≡ from + k = omega (arith, hi) in
+        ap h there ∙ (at (to + n + j) ∙ (stored_byte g (to + n) m v j less ∙ (ap (byte_at j) value ∙ (read_byte f (from + n) m j small less ∙ ap f here))))
+
+-- the addresses to copy from and to are in two registers, and not in those that the bytes go through
 record Bases (s : State) (a b from to : ℕ) : Type 0 where
-  from_small : a < 32
-  from_other : a ≢ 30
+  from_low : a < 30
   from_at : in_register s a ≡ from % 2 ^ 64
-  to_small : b < 32
-  to_other : b ≢ 30
+  to_low : b < 30
   to_at : in_register s b ≡ to % 2 ^ 64
 
-bases_stay : (s u : State) (a b from to : ℕ) → ((m : ℕ) → m ≢ 30 → u.registers m ≡ s.registers m) → Bases s a b from to → Bases u a b from to
+below_32 : (a : ℕ) → a < 30 → a < 32
+below_32 a h = omega (arith, h)
+
+bases_stay : (s u : State) (a b from to : ℕ) → ((m : ℕ) → m < 30 → u.registers m ≡ s.registers m) → Bases s a b from to → Bases u a b from to
 bases_stay s u a b from to same h = record {
-  from_small = h.from_small;
-  from_other = h.from_other;
-  from_at = same_in_register s u a h.from_small (same a h.from_other) ∙ h.from_at;
-  to_small = h.to_small;
-  to_other = h.to_other;
-  to_at = same_in_register s u b h.to_small (same b h.to_other) ∙ h.to_at;
+  from_low = h.from_low;
+  from_at = same_in_register s u a (below_32 a h.from_low) (same a h.from_low) ∙ h.from_at;
+  to_low = h.to_low;
+  to_at = same_in_register s u b (below_32 b h.to_low) (same b h.to_low) ∙ h.to_at;
 }
 
 offset_address : (x a o b : ℕ) → x ≡ a % 2 ^ 64 → o < 2048 → b ≡ a + o → b < 2 ^ 64 → moved x (low o).value ≡ b
@@ -144,13 +176,13 @@ leads_copy_at c s load store a b n o from to p q alike fixed bases near is_p is_
     leads_on (leads_load_at c s load 30 a (low o) p is_30 fixed (offset_address (in_register s a) from o p bases.from_at near is_p small_p)
     (subst (UsableFrom c.ground p) (sym alike.loads) usable_p))
     (λ t f one.
-    let moved_on = bases_stay s t a b from to one.others bases in
+    let moved_on = bases_stay s t a b from to (λ m lo. one.others m (not_through m 30 (omega arith) lo)) bases in
     leads_as (leads_store_any_in c t store 30 b (low o) q f (offset_address (in_register t b) to o q moved_on.to_at near is_q small_q)
     (subst (UsableFrom c.ground q) (sym alike.stores) usable_q))
     (λ u g two. record {
       bytes = written_copied s t u n p q (in_register t 30) fixed.small (register_reg t 30 is_30 ∙ (one.value ∙ value)) one.bytes
           (two.bytes ∙ ap (λ x. stored t.bytes q x (in_register t 30)) alike.stores);
-      registers = λ x other. two.registers x ∙ one.others x other;
+      registers = λ m lo. two.registers m ∙ one.others m (not_through m 30 (omega arith) lo);
       output = two.output ∙ one.output;
     }))
 
@@ -184,7 +216,7 @@ usable_part g a n b m usable behind before x lo hi = usable x (omega (arith, lo,
 piece_on : (s u w : State) (n m from to : ℕ) → Apart (n + m) from to → Piece s n from to u → Piece u m (from + n) (to + n) w → Piece s (n + m) from to w
 piece_on s u w n m from to apart one two = record {
   bytes = copied_then s.bytes u.bytes w.bytes n m from to apart one.bytes two.bytes;
-  registers = λ q other. two.registers q other ∙ one.registers q other;
+  registers = λ m lo. two.registers m lo ∙ one.registers m lo;
   output = two.output ∙ one.output;
 }
 
@@ -195,20 +227,55 @@ no_piece s n from to none = record {
   output = refl;
 }
 
-leads_eights : (c : Site) (s : State) (a b o k n from to p q : ℕ) → n ≡ 8 * k → o + n ≤ 2048 → p ≡ from + o → q ≡ to + o → Apart n p q → Fixed c.ground s
-    → Bases s a b from to → UsableFrom c.ground p n → UsableFrom c.ground q n → Leads c (copy_eights a b o k) s (Piece s n p q)
-leads_eights c s a b o zero n from to p q is near is_p is_q apart fixed bases usable_p usable_q =
+leads_pair : (c : Site) (s : State) (a b o from to p q : ℕ) → Fixed c.ground s → Bases s a b from to → o + 16 ≤ 2048 → p ≡ from + o → q ≡ to + o
+    → UsableFrom c.ground p 16 → UsableFrom c.ground q 16 → Leads c (copy_pair a b o) s (Piece s 16 p q)
+leads_pair c s a b o from to p q fixed bases near is_p is_q usable_p usable_q =
+    let small_p = (usable_p (p + 8) (omega arith) (omega arith)).small in
+    let small_q = (usable_q (q + 8) (omega arith) (omega arith)).small in
+    leads_on (leads_load_at c s Ld 30 a (low o) p is_30 fixed (offset_address (in_register s a) from o p bases.from_at (omega (arith, near)) is_p (omega (arith, small_p)))
+    (usable_part c.ground p 16 p 8 usable_p (omega arith) (omega arith)))
+    (λ t f one.
+    let at_t = bases_stay s t a b from to (λ m lo. one.others m (not_through m 30 (omega arith) lo)) bases in
+    leads_on (leads_load_at c t Ld 31 a (low (o + 8)) (p + 8) is_31 f
+    (offset_address (in_register t a) from (o + 8) (p + 8) at_t.from_at (omega (arith, near)) (omega (arith, is_p)) small_p)
+    (usable_part c.ground p 16 (p + 8) 8 usable_p (omega arith) (omega arith)))
+    (λ u g two.
+    let at_u = bases_stay t u a b from to (λ m lo. two.others m (not_through m 31 (omega arith) lo)) at_t in
+    leads_on (leads_store_any_in c u Sd 30 b (low o) q g (offset_address (in_register u b) to o q at_u.to_at (omega (arith, near)) is_q (omega (arith, small_q)))
+    (usable_part c.ground q 16 q 8 usable_q (omega arith) (omega arith)))
+    (λ v h three.
+    let at_v = bases_stay u v a b from to (λ m lo. three.registers m) at_u in
+    leads_as (leads_store_any_in c v Sd 31 b (low (o + 8)) (q + 8) h
+    (offset_address (in_register v b) to (o + 8) (q + 8) at_v.to_at (omega (arith, near)) (omega (arith, is_q)) small_q)
+    (usable_part c.ground q 16 (q + 8) 8 usable_q (omega arith) (omega arith)))
+    (λ w k four.
+    let first : in_register u 30 ≡ number_at s.bytes p 8 =
+    register_reg u 30 is_30 ∙ (two.others 30 (λ e. absurd (omega (arith, e))) ∙ (one.value ∙ longs.plain (number_at s.bytes p 8))) in
+    let second : in_register v 31 ≡ number_at s.bytes (p + 8) 8 =
+    register_reg v 31 is_31
+    ∙ (three.registers 31 ∙ (two.value ∙ (longs.plain (number_at t.bytes (p + 8) 8) ∙ ap (λ (m : ℕ → ℕ). number_at m (p + 8) 8) one.bytes))) in
+    record {
+      bytes = written_behind s.bytes v.bytes w.bytes 8 8 p q (in_register v 31) fixed.small
+          (written_copied s u v 8 p q (in_register u 30) fixed.small first (two.bytes ∙ one.bytes) three.bytes) second four.bytes;
+      registers = λ m lo.
+          four.registers m ∙ (three.registers m ∙ (two.others m (not_through m 31 (omega arith) lo) ∙ one.others m (not_through m 30 (omega arith) lo)));
+      output = four.output ∙ (three.output ∙ (two.output ∙ one.output));
+    }))))
+
+leads_pairs : (c : Site) (s : State) (a b o k n from to p q : ℕ) → n ≡ 16 * k → o + n ≤ 2048 → p ≡ from + o → q ≡ to + o → Apart n p q → Fixed c.ground s
+    → Bases s a b from to → UsableFrom c.ground p n → UsableFrom c.ground q n → Leads c (copy_pairs a b o k) s (Piece s n p q)
+leads_pairs c s a b o zero n from to p q is near is_p is_q apart fixed bases usable_p usable_q =
     leads_nowhere c s (Piece s n p q) (no_piece s n p q (omega (arith, is)))
-leads_eights c s a b o (suc k) n from to p q is near is_p is_q apart fixed bases usable_p usable_q =
-    let whole : n ≡ 8 + 8 * k = omega (arith, is) in
-    let apart_n : Apart (8 + 8 * k) p q = subst (λ n. Apart n p q) whole apart in
-    leads_on (leads_copy_at c s Ld Sd a b 8 o from to p q longs fixed bases (omega (arith, near, whole)) is_p is_q
-    (usable_part c.ground p n p 8 usable_p (omega arith) (omega (arith, whole))) (usable_part c.ground q n q 8 usable_q (omega arith) (omega (arith, whole))))
+leads_pairs c s a b o (suc k) n from to p q is near is_p is_q apart fixed bases usable_p usable_q =
+    let whole : n ≡ 16 + 16 * k = omega (arith, is) in
+    let apart_n : Apart (16 + 16 * k) p q = subst (λ n. Apart n p q) whole apart in
+    leads_on (leads_pair c s a b o from to p q fixed bases (omega (arith, near, whole)) is_p is_q
+    (usable_part c.ground p n p 16 usable_p (omega arith) (omega (arith, whole))) (usable_part c.ground q n q 16 usable_q (omega arith) (omega (arith, whole))))
     (λ u f one.
-    leads_as (leads_eights c u a b (o + 8) k (8 * k) from to (p + 8) (q + 8) refl (omega (arith, near, whole)) (omega (arith, is_p)) (omega (arith, is_q))
-    (apart_after 8 (8 * k) p q apart_n) f (bases_stay s u a b from to one.registers bases)
-    (usable_part c.ground p n (p + 8) (8 * k) usable_p (omega arith) (omega (arith, whole))) (usable_part c.ground q n (q + 8) (8 * k) usable_q (omega arith) (omega (arith, whole))))
-    (λ w g two. subst (λ n. Piece s n p q w) (sym whole) (piece_on s u w 8 (8 * k) p q apart_n one two)))
+    leads_as (leads_pairs c u a b (o + 16) k (16 * k) from to (p + 16) (q + 16) refl (omega (arith, near, whole)) (omega (arith, is_p)) (omega (arith, is_q))
+    (apart_after 16 (16 * k) p q apart_n) f (bases_stay s u a b from to one.registers bases)
+    (usable_part c.ground p n (p + 16) (16 * k) usable_p (omega arith) (omega (arith, whole))) (usable_part c.ground q n (q + 16) (16 * k) usable_q (omega arith) (omega (arith, whole))))
+    (λ w g two. subst (λ n. Piece s n p q w) (sym whole) (piece_on s u w 16 (16 * k) p q apart_n one two)))
 
 -- ---- fewer than eight bytes
 
@@ -233,6 +300,9 @@ two_of n = (λ e. grind (arith, nat_tests), λ e. grind (arith, nat_tests))
 
 one_of : (n : ℕ) → (nat_lt (n % 2) 1 ≡ true → n % 2 ≡ 0) × (nat_lt (n % 2) 1 ≡ false → n % 2 ≡ 1)
 one_of n = (λ e. grind (arith, nat_tests), λ e. grind (arith, nat_tests))
+
+eight_of : (n : ℕ) → (nat_lt (n % 16) 8 ≡ true → n % 16 / 8 * 8 ≡ 0) × (nat_lt (n % 16) 8 ≡ false → n % 16 / 8 * 8 ≡ 8)
+eight_of n = (λ e. grind (arith, nat_tests), λ e. grind (arith, nat_tests))
 
 leads_rest : (c : Site) (s : State) (a b o n from to p q : ℕ) → n < 8 → o + n ≤ 2048 → p ≡ from + o → q ≡ to + o → Apart n p q → Fixed c.ground s
     → Bases s a b from to → UsableFrom c.ground p n → UsableFrom c.ground q n → Leads c (copy_rest a b o n) s (Piece s n p q)
@@ -265,17 +335,26 @@ leads_rest c s a b o n from to p q few near is_p is_q apart fixed bases usable_p
 leads_bytes : (c : Site) (s : State) (a b n from to : ℕ) → n < 2048 → Apart n from to → Fixed c.ground s → Bases s a b from to
     → UsableFrom c.ground from n → UsableFrom c.ground to n → Leads c (copy_bytes a b n) s (Piece s n from to)
 leads_bytes c s a b n from to near apart fixed bases usable_from usable_to =
-    let k : ℕ = 8 * (n / 8) in
+    let k : ℕ = 16 * (n / 16) in
+    let m : ℕ = n % 16 / 8 * 8 in
     let r : ℕ = n % 8 in
-    let whole : n ≡ k + r = omega arith in
-    let apart_n : Apart (k + r) from to = subst (λ x. Apart x from to) whole apart in
-    leads_on (leads_eights c s a b 0 (n / 8) k from to from to refl (omega (arith, near, whole)) (omega arith) (omega arith) (apart_before k r from to apart_n) fixed bases
+    let whole : n ≡ k + (m + r) = omega arith in
+    let both : k + m ≡ n / 8 * 8 = omega arith in
+    let eights = eight_of n in
+    let apart_n : Apart (k + (m + r)) from to = subst (λ x. Apart x from to) whole apart in
+    let later = apart_after k (m + r) from to apart_n in
+    leads_on (leads_pairs c s a b 0 (n / 16) k from to from to refl (omega (arith, near, whole)) (omega arith) (omega arith) (apart_before k (m + r) from to apart_n) fixed bases
     (usable_part c.ground from n from k usable_from (omega arith) (omega (arith, whole))) (usable_part c.ground to n to k usable_to (omega arith) (omega (arith, whole))))
     (λ u f one.
-    leads_as (leads_rest c u a b (n / 8 * 8) r from to (from + k) (to + k) (omega arith) (omega (arith, near)) (omega arith) (omega arith) (apart_after k r from to apart_n) f
-    (bases_stay s u a b from to one.registers bases)
-    (usable_part c.ground from n (from + k) r usable_from (omega arith) (omega (arith, whole))) (usable_part c.ground to n (to + k) r usable_to (omega arith) (omega (arith, whole))))
-    (λ w g two. subst (λ x. Piece s x from to w) (sym whole) (piece_on s u w k r from to apart_n one two)))
+    let in_u = bases_stay s u a b from to one.registers bases in
+    leads_on (leads_piece c u Ld Sd a b 8 (n / 16 * 16) from to (from + k) (to + k) m (nat_lt (n % 16) 8) longs eights.0 eights.1 f in_u (omega (arith, near, whole)) (omega arith) (omega arith)
+    (usable_part c.ground from n (from + k) m usable_from (omega arith) (omega (arith, whole))) (usable_part c.ground to n (to + k) m usable_to (omega arith) (omega (arith, whole))))
+    (λ v g two.
+    leads_as (leads_rest c v a b (n / 8 * 8) r from to (from + k + m) (to + k + m) (omega arith) (omega (arith, near)) (omega (arith, both)) (omega (arith, both)) (apart_after m r (from + k) (to + k) later) g
+    (bases_stay u v a b from to two.registers in_u)
+    (usable_part c.ground from n (from + k + m) r usable_from (omega arith) (omega (arith, whole))) (usable_part c.ground to n (to + k + m) r usable_to (omega arith) (omega (arith, whole))))
+    (λ w h three. subst (λ x. Piece s x from to w) (sym whole)
+    (piece_on s u w k (m + r) from to apart_n one (piece_on u v w m r (from + k) (to + k) later two three)))))
 
 -- ---- many bytes
 
@@ -295,7 +374,7 @@ not_scratch : (m d : ℕ) → 28 ≤ d → m < 28 → m ≢ d
 not_scratch m d h lo e = absurd (omega (arith, h, lo, e))
 
 piece_copied : (s u : State) (n from to : ℕ) → Piece s n from to u → Copied s n from to u
-piece_copied s u n from to h = record { bytes = h.bytes; registers = λ m lo. h.registers m (not_scratch m 30 (omega arith) lo); output = h.output }
+piece_copied s u n from to h = record { bytes = h.bytes; registers = λ m lo. h.registers m (omega (arith, lo)); output = h.output }
 
 copied_on : (s u w : State) (n m from to : ℕ) → Apart (n + m) from to → Copied s n from to u → Copied u m (from + n) (to + n) w → Copied s (n + m) from to w
 copied_on s u w n m from to apart one two = record {
@@ -306,11 +385,9 @@ copied_on s u w n m from to apart one two = record {
 
 in_scratch : (s : State) (from to : ℕ) → s.registers 28 ≡ from % 2 ^ 64 → s.registers 29 ≡ to % 2 ^ 64 → Bases s 28 29 from to
 in_scratch s from to at_from at_to = record {
-  from_small = lit< tt;
-  from_other = λ e. absurd (omega (arith, e));
+  from_low = lit< tt;
   from_at = register_reg s 28 is_28 ∙ at_from;
-  to_small = lit< tt;
-  to_other = λ e. absurd (omega (arith, e));
+  to_low = lit< tt;
   to_at = register_reg s 29 is_29 ∙ at_to;
 }
 
@@ -322,17 +399,17 @@ leads_next : (c : Site) (s t : State) (n from to : ℕ) → n < 2048 → Fixed c
     → Leads c (add_low 28 28 n ∷ add_low 29 29 n ∷ []) t (Onward s n from to)
 leads_next c s t n from to near f at_from at_to one =
     leads_on (leads_add_low c t 28 28 n (t.registers 28) ((from + n) % 2 ^ 64) is_28 (register_reg t 28 is_28)
-    (next_address (t.registers 28) from n (one.registers 28 (λ e. absurd (omega (arith, e))) ∙ at_from) near))
+    (next_address (t.registers 28) from n (one.registers 28 (lit< tt) ∙ at_from) near))
     (λ u g two.
     leads_as (leads_add_low c u 29 29 n (u.registers 29) ((to + n) % 2 ^ 64) is_29 (register_reg u 29 is_29)
     (next_address (u.registers 29) to n
-    (two.others 29 (λ e. absurd (omega (arith, e))) ∙ (one.registers 29 (λ e. absurd (omega (arith, e))) ∙ at_to)) near))
+    (two.others 29 (λ e. absurd (omega (arith, e))) ∙ (one.registers 29 (lit< tt) ∙ at_to)) near))
     (λ w h three. record {
       copied = record {
         bytes = subst (λ (b : ℕ → ℕ). CopiedBytes s.bytes b n from to) (sym (three.bytes ∙ two.bytes)) one.bytes;
         registers = λ m lo.
             three.others m (not_scratch m 29 (omega arith) lo)
-            ∙ (two.others m (not_scratch m 28 (omega arith) lo) ∙ one.registers m (not_scratch m 30 (omega arith) lo));
+            ∙ (two.others m (not_scratch m 28 (omega arith) lo) ∙ one.registers m (omega (arith, lo)));
         output = three.output ∙ (two.output ∙ one.output);
       };
       from_at = three.others 28 (λ e. absurd (omega (arith, e))) ∙ two.value;
@@ -445,11 +522,11 @@ leads_sources c is s from to pointer known_from known_to =
       same = scratched_on s u w same (fetched_scratched c u 29 to w (omega arith) two);
     }))
 
-source_not_30 : (slots d : ℕ) (a : Operand Location) → d ≢ 30 → operand_keeps (is_place slots) a ≡ true → source d a ≢ 30
-source_not_30 slots d (At (InRegister r)) other good e = let hi = (place_is slots r good).to_27 in absurd (omega (arith, e, hi))
-source_not_30 slots d (At (Slot i)) other good e = other e
-source_not_30 slots d (Number n) other good e = source_number d n (λ x. x ≢ 30) (λ h. absurd (omega (arith, h))) other e
-source_not_30 slots d (Name g) other good e = other e
+source_low : (slots d : ℕ) (a : Operand Location) → d < 30 → operand_keeps (is_place slots) a ≡ true → source d a < 30
+source_low slots d (At (InRegister r)) low good = let hi = (place_is slots r good).to_27 in omega (arith, hi)
+source_low slots d (At (Slot i)) low good = low
+source_low slots d (Number n) low good = source_number d n (λ x. x < 30) (lit< tt) low
+source_low slots d (Name g) low good = low
 
 whole_address : (x : ℕ) (y : ℕ) → y < 2 ^ 64 → y ≡ x → y ≡ x % 2 ^ 64
 whole_address x y small e = omega (arith, small, e)
@@ -469,11 +546,9 @@ leads_near_blit c is s from to count near pointer known_from known_to apart usab
     (λ u f one.
     leads_as (leads_bytes (site c) u a b count p q near apart f
     (record {
-      from_small = source_small c.slots 28 from (lit< tt) known_from;
-      from_other = source_not_30 c.slots 28 from (λ e. absurd (omega (arith, e))) known_from;
+      from_low = source_low c.slots 28 from (lit< tt) known_from;
       from_at = whole_address p (in_register u a) (in_register_small (site c).ground u a f) one.from_at;
-      to_small = source_small c.slots 29 to (lit< tt) known_to;
-      to_other = source_not_30 c.slots 29 to (λ e. absurd (omega (arith, e))) known_to;
+      to_low = source_low c.slots 29 to (lit< tt) known_to;
       to_at = whole_address q (in_register u b) (in_register_small (site c).ground u b f) one.to_at;
     })
     usable_from usable_to)

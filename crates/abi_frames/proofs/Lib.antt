@@ -30,7 +30,7 @@ pub mod Accesses
 pub mod MemoryChanges
 pub mod Storing
 pub mod Making
-pub mod Eights
+pub mod Pairs
 pub mod CopyCode
 pub mod Copying
 pub mod MovingUp

@@ -29,7 +29,7 @@ use Rattle.operation_code.specs.declared.immediate.Form.TheVariants.{Immediate a
 use Rattle.operation_code.proofs.FormNumbers.{word_low, word_is_small}
 use Rattle.operation_code.proofs.ConstantNumbers.{word_by_bits}
 use Rattle.abi_frames.proofs.Branching.{branch_size}
-use Rattle.abi_frames.specs.Emission.{far_store, load_slot, store_slot, slot_offset, into, fetch, source, word_into, word_fetch, target, deliver, set_items, operand_into, operand_source, on_registers, by_form, operate_by, operate_items, base_items, load_by, load_items, store_by, store_op, store_items, line_items, lines_items, move_pointer, lower_pointer, raise_pointer, save_all, restore_all, prologue, epilogue, result_items, goto_items, branch_when, inverted, ways_items, compared_into, compared_source, branch_items, leave_items, left_by, left_behind, raise_most, end_most, copies_end, left_by_value, jump_items, end_items, body_items, blocks_items, passed_class, pass_into, stack_items, stack_all, register_items, register_all, passed_items, callee_items, prepare_items, call_through, receive_items, call_items, copy_at, copy_eights, copy_rest, copy_bytes, copy_part, copy_parts, near_blit, far_blit, blit_items, address_at, alloc_items}
+use Rattle.abi_frames.specs.Emission.{far_store, load_slot, store_slot, slot_offset, into, fetch, source, word_into, word_fetch, target, deliver, set_items, operand_into, operand_source, on_registers, by_form, operate_by, operate_items, base_items, load_by, load_items, store_by, store_op, store_items, line_items, lines_items, move_pointer, lower_pointer, raise_pointer, save_all, restore_all, prologue, epilogue, result_items, goto_items, branch_when, inverted, ways_items, compared_into, compared_source, branch_items, leave_items, left_by, left_behind, raise_most, end_most, copies_end, left_by_value, jump_items, end_items, body_items, blocks_items, passed_class, pass_into, stack_items, stack_all, register_items, register_all, passed_items, callee_items, prepare_items, call_through, receive_items, call_items, copy_at, copy_pair, copy_pairs, copy_rest, copy_bytes, copy_part, copy_parts, near_blit, far_blit, blit_items, address_at, alloc_items}
 use Rattle.operation_code.specs.Operations.{compare_items, operation_items}
 use Rattle.abi_frames.specs.Moves.{operand_exchanged, argument_exchanged, exchange, is_read, settled, arrived, earlier_at, move_up, moves_up, moved_up, all_move_up, all_moved_up}
 use Rattle.abi_frames.proofs.MovingUp.{moved_length}
@@ -371,9 +371,9 @@ alloc_size : (y : Layout) (used : ℕ) (to : Option Location) → Instructions (
 alloc_size y used None = nothing
 alloc_size y used (Some to) = joined (address_size (target to) (y.area + used)) (deliver_size y to)
 
-eights_size : (a b o k : ℕ) → Instructions (2 * k) (copy_eights a b o k)
-eights_size a b o zero = nothing
-eights_size a b o (suc k) = fits (joined (short {n = 2} {is = copy_at Ld Sd a b o} refl refl) (eights_size a b (o + 8) k)) (omega arith)
+pairs_size : (a b o k : ℕ) → Instructions (4 * k) (copy_pairs a b o k)
+pairs_size a b o zero = nothing
+pairs_size a b o (suc k) = fits (joined (short {n = 4} {is = copy_pair a b o} refl refl) (pairs_size a b (o + 16) k)) (omega arith)
 
 -- each part copies some byte
 piece_size : (load : LoadOp) (store : StoreOp) (a b o : ℕ) (t : Bool) → Instructions (if t then 0 else 2) (if t then [] else copy_at load store a b o)
@@ -388,8 +388,13 @@ rest_size a b o n =
     joined (piece_size Lwu Sw a b o (nat_lt n 4))
     (joined (piece_size Lhu Sh a b (o + n / 4 * 4) (nat_lt (n % 4) 2)) (piece_size Lbu Sb a b (o + n / 2 * 2) (nat_lt (n % 2) 1)))
 
+eight_most : (n : ℕ) → 4 * (n / 16) + (if nat_lt (n % 16) 8 then 0 else 2) ≤ 2 * (n / 8)
+eight_most n = grind (arith, nat_tests)
+
 bytes_size : (a b n : ℕ) → Instructions (2 * (n / 8) + rest_most (n % 8)) (copy_bytes a b n)
-bytes_size a b n = joined (eights_size a b 0 (n / 8)) (rest_size a b (n / 8 * 8) (n % 8))
+bytes_size a b n =
+    let most = eight_most n in
+    fits (joined (pairs_size a b 0 (n / 16)) (joined (piece_size Ld Sd a b (n / 16 * 16) (nat_lt (n % 16) 8)) (rest_size a b (n / 8 * 8) (n % 8)))) (omega (arith, most))
 
 part_size : Instructions 512 copy_part
 part_size =

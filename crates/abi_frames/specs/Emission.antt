@@ -1,7 +1,7 @@
 -- The machine code of each line and jump. x2 is the stack pointer; x28 to x30 hold operands and
 -- addresses for a moment.
 use Rattle.std.specs.Prelude.{ℕ, zero, suc, ◌+◌, ◌-◌, ◌*◌, ◌/◌, ◌%◌, ◌^◌, Bool, not, ◌&&◌, nat_eq, nat_lt, nat_le, if◌then◌else◌, List, [], ◌∷◌, ◌++◌, length, Option, Some, None}
-use Rattle.rv_isa.specs.declared.abi.TheConstants.{ZERO, RETURN_ADDRESS, STACK_POINTER, FIRST_ARGUMENT, LAST_ARGUMENT, ARGUMENT_REGISTERS, RESULT, FIRST_SCRATCH, SECOND_SCRATCH, THIRD_SCRATCH}
+use Rattle.rv_isa.specs.declared.abi.TheConstants.{ZERO, RETURN_ADDRESS, STACK_POINTER, FIRST_ARGUMENT, LAST_ARGUMENT, ARGUMENT_REGISTERS, RESULT, FIRST_SCRATCH, SECOND_SCRATCH, THIRD_SCRATCH, JUMP_SCRATCH}
 use Rattle.il_ast.specs.declared.operation.Class.{Class}
 use Rattle.il_ast.specs.declared.operation.Class.TheVariants.{W, L}
 use Rattle.il_ast.specs.declared.operation.Size.{Size}
@@ -267,10 +267,17 @@ abbrev pub copy_at : LoadOp → StoreOp → (from to offset : ℕ) → List Item
 copy_at load store from to o =
     Plain (Load load (reg THIRD_SCRATCH) (reg from) (low o)) ∷ store_at store THIRD_SCRATCH to o ∷ []
 
--- so many times eight bytes, from this offset on
-abbrev pub copy_eights : (from to offset : ℕ) → (eights : ℕ) → List Item
-copy_eights from to o zero = []
-copy_eights from to o (suc n) = copy_at Ld Sd from to o ++ copy_eights from to (o + 8) n
+-- sixteen bytes, both halves of which are loaded before the first is stored: so no store waits
+abbrev pub copy_pair : (from to offset : ℕ) → List Item
+copy_pair from to o =
+    Plain (Load Ld (reg THIRD_SCRATCH) (reg from) (low o))
+    ∷ (Plain (Load Ld (reg JUMP_SCRATCH) (reg from) (low (o + 8)))
+    ∷ (store_at Sd THIRD_SCRATCH to o ∷ (store_at Sd JUMP_SCRATCH to (o + 8) ∷ [])))
+
+-- so many times sixteen bytes, from this offset on
+abbrev pub copy_pairs : (from to offset : ℕ) → (pairs : ℕ) → List Item
+copy_pairs from to o zero = []
+copy_pairs from to o (suc n) = copy_pair from to o ++ copy_pairs from to (o + 16) n
 
 -- fewer than eight bytes, from this offset on: four, two and one
 abbrev pub copy_rest : (from to offset : ℕ) → (bytes : ℕ) → List Item
@@ -281,7 +288,10 @@ copy_rest from to o n =
 
 -- so few bytes that the offsets fit the instructions
 abbrev pub copy_bytes : (from to : ℕ) → (bytes : ℕ) → List Item
-copy_bytes from to n = copy_eights from to 0 (n / 8) ++ copy_rest from to (n / 8 * 8) (n % 8)
+copy_bytes from to n =
+    copy_pairs from to 0 (n / 16)
+    ++ ((if nat_lt (n % 16) 8 then [] else copy_at Ld Sd from to (n / 16 * 16))
+    ++ copy_rest from to (n / 8 * 8) (n % 8))
 
 -- 2,040 bytes, behind which the addresses in x28 and x29 move on; and so many times that
 abbrev pub next_part : List Item

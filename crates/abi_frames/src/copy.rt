@@ -1,7 +1,7 @@
 //! The machine code that copies bytes.
 ghost use Rattle.std.specs.Prelude.{◌≡◌, ◌<◌, ◌≤◌, [], ◌∷◌, ◌++◌, OnOk};
 ghost use Rattle.operation_code.specs.Fields.{add_low};
-ghost use Rattle.abi_frames.specs.Emission.{blit_items, copy_at, copy_bytes, copy_eights, copy_part, copy_parts, copy_rest, far_blit, near_blit, next_part};
+ghost use Rattle.abi_frames.specs.Emission.{blit_items, copy_at, copy_bytes, copy_pair, copy_pairs, copy_part, copy_parts, copy_rest, far_blit, near_blit, next_part};
 
 use crate::layout::Layout;
 use crate::operand::{push_fetch, push_operand, source_of};
@@ -31,12 +31,24 @@ fn push_copy(
     Ok(())
 }
 
-fn push_eights(items: &mut Vec<Item>, from: u8, to: u8, eights: u64) -> Result<(), AllocError>
-    requires { eights ≤ 256 }
-    ensures { OnOk result (items.new.items ≡ items.old.items ++ copy_eights from to 0 eights) }
+/// Sixteen bytes, both halves of which are loaded before the first is stored.
+fn push_pair(items: &mut Vec<Item>, from: u8, to: u8, offset: u64) -> Result<(), AllocError>
+    requires { offset ≤ 2048 }
+    ensures { OnOk result (items.new.items ≡ items.old.items ++ copy_pair from to offset) }
 {
-    for done in 0..eights {
-        push_copy(items, LoadOp::Ld, StoreOp::Sd, from, to, 8 * done)?;
+    items.push(load_at(LoadOp::Ld, abi::THIRD_SCRATCH, from, offset))?;
+    items.push(load_at(LoadOp::Ld, abi::JUMP_SCRATCH, from, offset + 8))?;
+    items.push(store_at(StoreOp::Sd, abi::THIRD_SCRATCH, to, offset))?;
+    items.push(store_at(StoreOp::Sd, abi::JUMP_SCRATCH, to, offset + 8))?;
+    Ok(())
+}
+
+fn push_pairs(items: &mut Vec<Item>, from: u8, to: u8, pairs: u64) -> Result<(), AllocError>
+    requires { pairs ≤ 128 }
+    ensures { OnOk result (items.new.items ≡ items.old.items ++ copy_pairs from to 0 pairs) }
+{
+    for done in 0..pairs {
+        push_pair(items, from, to, 16 * done)?;
     }
     Ok(())
 }
@@ -84,7 +96,10 @@ fn push_bytes(items: &mut Vec<Item>, from: u8, to: u8, bytes: u64) -> Result<(),
     requires { bytes < 2048 }
     ensures { OnOk result (items.new.items ≡ items.old.items ++ copy_bytes from to bytes) }
 {
-    push_eights(items, from, to, bytes / 8)?;
+    push_pairs(items, from, to, bytes / 16)?;
+    if bytes % 16 >= 8 {
+        push_copy(items, LoadOp::Ld, StoreOp::Sd, from, to, bytes / 16 * 16)?;
+    }
     push_rest(items, from, to, bytes / 8 * 8, bytes % 8)
 }
 

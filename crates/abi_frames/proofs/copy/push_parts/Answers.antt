@@ -1,6 +1,6 @@
 use Rattle.std.proofs.Common.{arith}
 use Rattle.std.proofs.lemmas.Bool.Decides.{nat_tests}
-use Rattle.abi_frames.proofs.Eights.{part_more}
+use Rattle.abi_frames.proofs.Pairs.{part_more}
 use Rattle.abi_frames.proofs.copy.push_parts.Goals as goal
 
 pub loop-preserved : goal.loop-preserved

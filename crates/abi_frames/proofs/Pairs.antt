@@ -1,9 +1,7 @@
 -- The code of so many pieces, one after another.
 use Rattle.std.proofs.Common.{◌≡◌, ℕ, zero, suc, ◌+◌, ◌-◌, ◌*◌, ◌<◌, List, ◌++◌, sym, ◌∙◌, ap, arith, append_assoc}
 use Rattle.rv_isa.specs.declared.labelled.Item.{Item}
-use Rattle.rv_isa.specs.declared.instruction.LoadOp.TheVariants.{Ld}
-use Rattle.rv_isa.specs.declared.instruction.StoreOp.TheVariants.{Sd}
-use Rattle.abi_frames.specs.Emission.{copy_at, copy_eights, copy_part, copy_parts}
+use Rattle.abi_frames.specs.Emission.{copy_pair, copy_pairs, copy_part, copy_parts}
 
 -- a piece that is made is one less to make
 one_more : (is js ks piece less more : List Item) → more ≡ piece ++ less → ks ≡ is ++ piece → is ++ more ≡ js → ks ++ less ≡ js
@@ -15,11 +13,11 @@ part_more is js ks n i h made all =
     let more : n - i ≡ suc (n - (i + 1)) = omega (arith, h) in
     one_more is js ks copy_part (copy_parts (n - (i + 1))) (copy_parts (n - i)) (ap copy_parts more) made all
 
-pub eight_more : (is js ks : List Item) (from to n i : ℕ) → i < n → ks ≡ is ++ copy_at Ld Sd from to (8 * i) → is ++ copy_eights from to (8 * i) (n - i) ≡ js
-    → ks ++ copy_eights from to (8 * (i + 1)) (n - (i + 1)) ≡ js
-eight_more is js ks from to n i h made all =
+pub pair_more : (is js ks : List Item) (from to n i : ℕ) → i < n → ks ≡ is ++ copy_pair from to (16 * i) → is ++ copy_pairs from to (16 * i) (n - i) ≡ js
+    → ks ++ copy_pairs from to (16 * (i + 1)) (n - (i + 1)) ≡ js
+pair_more is js ks from to n i h made all =
     let more : n - i ≡ suc (n - (i + 1)) = omega (arith, h) in
-    let further : 8 * i + 8 ≡ 8 * (i + 1) = omega arith in
-    let piece : List Item = copy_at Ld Sd from to (8 * i) in
-    one_more is js ks piece (copy_eights from to (8 * (i + 1)) (n - (i + 1))) (copy_eights from to (8 * i) (n - i))
-    (ap (copy_eights from to (8 * i)) more ∙ ap (λ o. piece ++ copy_eights from to o (n - (i + 1))) further) made all
+    let further : 16 * i + 16 ≡ 16 * (i + 1) = omega arith in
+    let piece : List Item = copy_pair from to (16 * i) in
+    one_more is js ks piece (copy_pairs from to (16 * (i + 1)) (n - (i + 1))) (copy_pairs from to (16 * i) (n - i))
+    (ap (copy_pairs from to (16 * i)) more ∙ ap (λ o. piece ++ copy_pairs from to o (n - (i + 1))) further) made all

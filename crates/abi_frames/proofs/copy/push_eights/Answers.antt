@@ -1,9 +1,0 @@
-use Rattle.std.proofs.Common.{arith}
-use Rattle.std.proofs.lemmas.Bool.Decides.{nat_tests}
-use Rattle.abi_frames.proofs.Eights.{eight_more}
-use Rattle.abi_frames.proofs.copy.push_eights.Goals as goal
-
-pub loop-done-preserved : goal.loop-done-preserved
-loop-done-preserved c =
-    let test = c.loop-done-test.true in
-    eight_more c.loop-done.items.items _ c.push_copy.new.items.items c.args.from c.args.to c.args.eights c.loop-done.done (grind (arith, nat_tests)) c.in_ok-push_copy.ensures c.loop-done.invariant
