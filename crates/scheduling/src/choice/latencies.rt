@@ -18,7 +18,7 @@ const NARROW_LOAD: u32 = 3;
 /// Products.
 const PRODUCT: u32 = 5;
 
-/// Quotients and remainders take from 3 cycles to 65, by their operands.
+/// Quotients and remainders take from 3 cycles to 65, by their operands, and nothing else begins in that time.
 const QUOTIENT: u32 = 6;
 
 /// Is it a number of which the product is a shift?
@@ -41,9 +41,18 @@ fn of_operation(operation: &Operation, left: &Operand<Location>, right: &Operand
     match operation {
         Operation::Reg(RegOp::Mul) | Operation::RegW(RegWOp::Mulw) => of_product(left, right),
         Operation::Reg(RegOp::Mulh | RegOp::Mulhsu | RegOp::Mulhu) => PRODUCT,
-        Operation::Reg(RegOp::Div | RegOp::Divu | RegOp::Rem | RegOp::Remu) => QUOTIENT,
-        Operation::RegW(RegWOp::Divw | RegWOp::Divuw | RegWOp::Remw | RegWOp::Remuw) => QUOTIENT,
         _ => NEXT,
+    }
+}
+
+/// The cycles in which nothing else begins.
+fn held_up(operation: &Operation) -> u32 {
+    match operation {
+        Operation::Reg(RegOp::Div | RegOp::Divu | RegOp::Rem | RegOp::Remu)
+        | Operation::RegW(RegWOp::Divw | RegWOp::Divuw | RegWOp::Remw | RegWOp::Remuw) => {
+            QUOTIENT - 1
+        }
+        _ => 0,
     }
 }
 
@@ -107,7 +116,9 @@ pub fn times_of(line: &Line<Location>) -> Times {
             right,
         } => delivered(
             *to,
-            of_operand(left).saturating_add(of_operand(right)),
+            of_operand(left)
+                .saturating_add(of_operand(right))
+                .saturating_add(held_up(operation)),
             of_operation(operation, left, right),
         ),
         Line::Load { to, op, at } => delivered(*to, of_operand(&at.base) / 2, of_load(*op)),
