@@ -1,15 +1,15 @@
 //! Plans for computations in front of loops.
 use crate::choice::candidates::may_plan;
 use crate::choice::credit::credit;
-use crate::choice::growing::{Linear, find_growth, plan_steps, product_of};
+use crate::choice::dominators::Dominator;
+use crate::choice::growing::{Linear, product_of};
 use crate::choice::halves::plan_halves;
+use crate::choice::nests::plan_nests;
 use crate::choice::offsets::plan_offsets;
 use crate::choice::reads::count_reads;
 use crate::choice::written::{Spot, Written};
 use crate::plan::{BlockPlan, Computation, Plan};
-use flow::loops::{Loop, find_loops, largest_first};
 use rv_isa::instruction::RegOp;
-use sign_extensions::marks::whole_registers;
 use std::alloc::{AllocError, Global};
 use vcode::code::Block;
 use vcode::cost::line_cost;
@@ -27,13 +27,22 @@ pub(crate) struct Plans {
     pub(crate) list: Vec<Computation>,
 
     /// the first one of this loop
-    first: usize,
+    pub(crate) first: usize,
 
     /// the next register that the function doesn't have
     pub(crate) next: u32,
 
     /// of each block, what its ticks still leave
     pub(crate) credits: Vec<u128>,
+
+    /// where computations for this loop may stand besides, the furthest from it first
+    pub(crate) dominators: Vec<Dominator>,
+
+    /// how much of the computations for this loop the block in front of it can't pay
+    pub(crate) owed: u128,
+
+    /// whether that block couldn't pay for one
+    pub(crate) is_short: bool,
 
     /// sums with products of registers that grow, in this loop
     pub(crate) sums: Vec<Linear>,
@@ -77,17 +86,58 @@ pub(crate) fn pay(credits: &mut [u128], block: usize, line: &Line<u32>) -> bool 
     }
 }
 
+/// The block that computes the operand for this loop, if one does.
+fn maker(plans: &Plans, operand: &Operand<u32>) -> Option<usize> {
+    let Operand::At(register) = operand else {
+        return None;
+    };
+    let made = plans.list.iter().skip(plans.first);
+    for plan in made {
+        if plan.register == *register {
+            return Some(plan.block);
+        }
+    }
+    None
+}
+
+/// The furthest block that dominates the loop, has both operands and can pay for the computation, where the block in front of the loop can't pay for all.
+fn further(plans: &Plans, plan: &Computation, cost: u128) -> Option<usize> {
+    if plans.owed == 0 {
+        return None;
+    }
+    let (mut left, mut right) = (maker(plans, &plan.left), maker(plans, &plan.right));
+    for dominator in plans.dominators.iter() {
+        left = left.filter(|block: &usize| *block != dominator.block);
+        right = right.filter(|block: &usize| *block != dominator.block);
+        let is_there = left.is_none()
+            && right.is_none()
+            && dominator.keeps(&plan.left)
+            && dominator.keeps(&plan.right);
+        let credit = plans.credits.get(dominator.block).copied();
+        if is_there && cost <= credit.unwrap_or(0) {
+            return Some(dominator.block);
+        }
+    }
+    None
+}
+
 /// One plan more, if there are few and the block pays for it; answers its register.
 fn push_plan(plans: &mut Plans, plan: Computation) -> Result<Option<u32>, AllocError> {
     let made = plans.list.len().saturating_sub(plans.first);
     if made >= MOST || plan.register >= PLACES - 1 {
         return Ok(None);
     }
-    if !pay(plans.credits.as_mut_slice(), plan.block, &plan.line()) {
+    let line = plan.line();
+    let block = further(plans, &plan, line_cost(&line)).unwrap_or(plan.block);
+    if !pay(plans.credits.as_mut_slice(), block, &line) {
+        plans.is_short = true;
         return Ok(None);
     }
+    if block != plan.block {
+        plans.owed = plans.owed.saturating_sub(line_cost(&line));
+    }
     plans.next = plan.register.saturating_add(1);
-    plans.list.push(plan)?;
+    plans.list.push(Computation { block, ..plan })?;
     Ok(Some(plan.register))
 }
 
@@ -380,7 +430,12 @@ fn plan_line(
     }
 }
 
-fn plan_block(
+/// Plans for the lines of a block of a loop.
+///
+/// # Errors
+///
+/// Only where memory was refused.
+pub(crate) fn plan_block(
     plans: &mut Plans,
     written: &mut Written,
     before: usize,
@@ -395,62 +450,6 @@ fn plan_block(
         plan_line(plans, written, Place { before, at }, item)?;
     }
     Ok(())
-}
-
-fn count_writes(written: &mut Written, blocks: &[Block<u32>], nest: &Loop) {
-    written.begin();
-    for number in nest.blocks.iter() {
-        if let Some(block) = blocks.get(*number) {
-            written.count(block.lines.as_slice());
-        }
-    }
-}
-
-fn plan_nest(
-    plans: &mut Plans,
-    written: &mut Written,
-    marks: &[bool],
-    blocks: &[Block<u32>],
-    nest: &Loop,
-) -> Result<(), AllocError> {
-    count_writes(written, blocks, nest);
-    find_growth(written, marks, blocks, nest)?;
-    plans.first = plans.list.len();
-    plans.sums.clear();
-    for number in nest.blocks.iter() {
-        if let Some(block) = blocks.get(*number) {
-            plan_block(plans, written, nest.before, *number, block)?;
-        }
-    }
-    plan_steps(plans, written, nest)
-}
-
-/// Plans for these loops, the outer ones before the inner ones.
-fn plan_in_order(
-    alloc: Global,
-    plans: &mut Plans,
-    function: &VFunc,
-    nests: &[Loop],
-) -> Result<(), AllocError> {
-    let blocks = function.code.blocks.as_slice();
-    let marks = whole_registers(alloc, &function.code, function.registers)?;
-    let mut written = Written::new(alloc, function.registers, blocks)?;
-    for (_, number) in largest_first(alloc, nests)?.iter() {
-        if let Some(nest) = nests.get(*number) {
-            plan_nest(plans, &mut written, marks.as_slice(), blocks, nest)?;
-        }
-    }
-    Ok(())
-}
-
-fn plan_nests(alloc: Global, plans: &mut Plans, function: &VFunc) -> Result<(), AllocError> {
-    let mut nests = Vec::new(alloc);
-    find_loops(alloc, &mut nests, function.code.blocks.as_slice())?;
-    if nests.is_empty() {
-        Ok(())
-    } else {
-        plan_in_order(alloc, plans, function, nests.as_slice())
-    }
 }
 
 fn credits(alloc: Global, blocks: &[Block<u32>]) -> Result<Vec<u128>, AllocError> {
@@ -515,6 +514,9 @@ fn no_plans(alloc: Global, function: &VFunc) -> Result<Plans, AllocError> {
         next: function.registers,
         credits: credits(alloc, function.code.blocks.as_slice())?,
         sums: Vec::new(alloc),
+        dominators: Vec::new(alloc),
+        owed: 0,
+        is_short: false,
     })
 }
 
