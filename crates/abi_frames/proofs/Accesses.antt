@@ -2,7 +2,7 @@
 use Rattle.std.proofs.Common.{◌≡◌, ℕ, zero, suc, ◌+◌, ◌-◌, ◌/◌, ◌%◌, ◌^◌, ◌<◌, ◌≤◌, Bool, true, [], ◌∷◌, refl, sym, ◌∙◌, ap, subst, arith, lit<}
 use Rattle.std.specs.Prelude.{nat_le, Ok}
 use Rattle.std.specs.Int.{byte_at}
-use Rattle.abi_frames.proofs.Shared.{State, Immediate, StoreOp, and_from, nat_tests, stored, moved, low}
+use Rattle.abi_frames.proofs.Shared.{State, Immediate, StoreOp, and_from, nat_tests, stored, moved}
 use Rattle.rv_isa.specs.Memory.{each_of, allowed, can_write}
 use Rattle.rv_isa.specs.Step.{act, store, store_size}
 use Rattle.rv_isa.specs.Labelled.{Ground, Fixed}
@@ -11,8 +11,8 @@ use Rattle.rv_isa.specs.declared.instruction.Instr.TheVariants.{Store}
 use Rattle.rv_isa.specs.declared.instruction.StoreOp.TheVariants.{Sb, Sh, Sw, Sd}
 use Rattle.rv_isa.proofs.MemoryLemmas.{updated_here, updated_elsewhere, each_from, stored_avoids}
 use Rattle.operation_code.specs.Fields.{reg}
-use Rattle.operation_code.specs.Fields.{store_from, store_at}
-use Rattle.operation_code.proofs.Leading.{Site, Leads, leads_by, IsReg, register_reg, in_register}
+use Rattle.operation_code.specs.Fields.{store_from}
+use Rattle.operation_code.proofs.Leading.{Site, Leads, leads_by, in_register}
 use Rattle.abi_frames.proofs.StackAccesses.{UsableFrom}
 use Rattle.flat_code.proofs.Storing.{byte_later}
 
@@ -52,13 +52,6 @@ leads_store_any_in c s op v base offset a fixed there usable =
     leads_by c s t (Store op (reg base) (reg v) offset) (Written s a n x) acts refl refl
     (λ y h. stored_avoids p s.bytes a n x y each h)
     (record { bytes = refl; registers = λ m. refl; output = refl })
-
-pub leads_store_any : (c : Site) (s : State) (op : StoreOp) (v base o a : ℕ) → IsReg v → IsReg base → Fixed c.ground s
-    → moved (s.registers base) (low o).value ≡ a → UsableFrom c.ground a (store_size op)
-    → Leads c (store_at op v base o ∷ []) s (Written s a (store_size op) (s.registers v))
-leads_store_any c s op v base o a is is_base fixed there usable =
-    subst (λ x. Leads c (store_at op v base o ∷ []) s (Written s a (store_size op) x)) (register_reg s v is)
-    (leads_store_any_in c s op v base (low o) a fixed (ap (λ x. moved x (low o).value) (register_reg s base is_base) ∙ there) usable)
 
 -- ---- the bytes that are stored
 

@@ -164,9 +164,6 @@ leads_prepared c is s callee args pointer known good fits =
 
 -- ---- the jump to the callee
 
-is_1 : IsReg 1
-is_1 = record { some = lit< tt; small = lit< tt }
-
 abbrev gone_to : State → ℕ → State
 gone_to s to = record s { pc = to; registers = written s.registers (reg 1) ((s.pc + 4) % 2 ^ 64) }
 

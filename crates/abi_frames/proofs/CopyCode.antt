@@ -2,14 +2,13 @@
 use Rattle.std.proofs.Common.{inl, inr, ◌≡◌, ◌≢◌, ℕ, zero, suc, ◌+◌, ◌-◌, ◌*◌, ◌/◌, ◌%◌, ◌^◌, ◌<◌, ◌≤◌, ◌⊎◌, Bool, true, false, List, [], ◌∷◌, ◌++◌, refl, sym, ◌∙◌, ap, subst, arith, lit<, append_assoc}
 use Rattle.std.specs.Prelude.{nat_lt, if◌then◌else◌}
 use Rattle.std.specs.Int.{byte_at}
-use Rattle.abi_frames.proofs.Shared.{State, LoadOp, StoreOp, Item, Plain, Location, InRegister, Slot, Operand, At, Number, Name, nat_tests, number_at, stored, moved, is_place, operand_keeps, low}
+use Rattle.abi_frames.proofs.Shared.{State, LoadOp, StoreOp, Item, Location, InRegister, Slot, Operand, At, Number, Name, nat_tests, number_at, stored, moved, is_place, operand_keeps, low}
 use Rattle.rv_isa.specs.Step.{load, load_size, load_value, store_size}
 use Rattle.rv_isa.specs.Labelled.{Ground, Fixed}
-use Rattle.rv_isa.specs.declared.instruction.Instr.TheVariants.{Load}
 use Rattle.rv_isa.specs.declared.instruction.LoadOp.TheVariants.{Ld, Lwu, Lhu, Lbu}
 use Rattle.rv_isa.specs.declared.instruction.StoreOp.TheVariants.{Sb, Sh, Sw, Sd}
 use Rattle.rv_isa.proofs.MemoryLemmas.{stored_below, stored_above}
-use Rattle.operation_code.specs.Fields.{reg, add_low}
+use Rattle.operation_code.specs.Fields.{add_low}
 use Rattle.abi_frames.specs.Emission.{into, fetch, source, copy_at, copy_pair, copy_pairs, copy_rest, copy_bytes, copy_part, copy_parts, near_blit, far_blit, blit_items}
 use Rattle.operation_code.proofs.ConstantNumbers.{near_moves}
 use Rattle.operation_code.proofs.Leading.{Site, Leads, leads_nowhere, Sets, IsReg, register_reg, in_register, in_register_small, same_in_register}

@@ -297,9 +297,6 @@ not_among n (r ∷ rs) never good =
     by_test one rest true e = absurd (not_both (can_save n) (ap can_save (eqb-true n r e) ∙ one) never)
     by_test one rest false e = rest
 
-sum_back : (b n : ℕ) → b + n < 2 ^ 64 → (b + n) % 2 ^ 64 ≡ b + n
-sum_back b n h = omega (arith, h)
-
 -- the end of a frame: the registers are as at its begin, and the machine is back at its caller
 pub ends_frame : (c : Setting) → IsSetting c → (s : State) → s.registers 2 ≡ bottom c → c.start.registers 2 ≡ c.sp → c.start.registers 1 % 4 ≡ 0
     → ((k r : ℕ) → slice_get c.saved k ≡ Some r → number_at s.bytes (save_at c k) 8 ≡ c.start.registers r)

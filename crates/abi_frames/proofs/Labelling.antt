@@ -1,7 +1,7 @@
 -- The labelled code of a function keeps the invariants of such code.
 use Rattle.std.proofs.Common.{suc, ◌≡◌, ℕ, ◌+◌, ◌^◌, ◌<◌, ◌≤◌, Bool, true, false, List, [], ◌∷◌, ◌++◌, refl, sym, subst, arith, lit≤, zero-add}
-use Rattle.std.specs.Prelude.{◌&&◌, not, nat_eq, nat_le, nat_lt, if◌then◌else◌, length, Option, Some, None}
-use Rattle.abi_frames.proofs.Shared.{Condition, Item, Plain, Label, Location, ReturnValue, Destination, Comparison, Jump, Block, Code, Layout, EarlyReturn, list_all, and_parts, and_from, leb-true, lt-ltb, all_append, longest_size, nat_tests}
+use Rattle.std.specs.Prelude.{◌&&◌, not, nat_eq, nat_le, nat_lt, if◌then◌else◌, length, Some, None}
+use Rattle.abi_frames.proofs.Shared.{Condition, Item, Plain, Label, Location, Destination, Comparison, Jump, Block, Code, Layout, list_all, and_parts, and_from, leb-true, lt-ltb, all_append, longest_size, nat_tests}
 use Rattle.rv_isa.specs.Labels.{IsLabelled, times_labelled, has_label_below}
 use Rattle.rv_isa.specs.declared.instruction.Instr.TheVariants.{Ebreak}
 use Rattle.rv_isa.specs.declared.labelled.Item.TheVariants.{Branch as BranchTo, Goto as GoTo, Call as CallTo, Relocated}
@@ -10,7 +10,6 @@ use Rattle.vcode.specs.Regular.{leads_inside, is_target}
 use Rattle.abi_frames.specs.Layout.{layout, saved_registers}
 use Rattle.abi_frames.specs.Emission.{lines_items, raise_pointer, restore_all, go_back, prologue, epilogue, goto_items, branch_when, inverted, ways_items, branch_items, compared_source, leave_items, left_behind, copies_end, left_by_value, jump_items, body_items, rows, blocks_items}
 use Rattle.abi_frames.specs.Functions.{entry_items, function_items}
-use Rattle.abi_frames.specs.EarlyReturns.{no_frame, quick_label, begin_label, test_items, quick_items, early_items}
 use Rattle.abi_frames.specs.Laws.{IsCode}
 use Rattle.operation_code.proofs.Leading.{longest-append}
 use Rattle.abi_frames.proofs.Saving.{few_saved_registers}
@@ -196,42 +195,10 @@ some_function y rs params blocks =
 
 pub function_labelled : (f : Code Location) (slots : ℕ) → IsCode f slots
     → longest_size (function_items (layout f slots) (saved_registers f) f.params f.blocks) < 2 ^ 28
-    → IsLabelled (record { items = function_items (layout f slots) (saved_registers f) f.params f.blocks; labels = length f.blocks + 3 })
+    → IsLabelled (record { items = function_items (layout f slots) (saved_registers f) f.params f.blocks; labels = length f.blocks + 2 })
 function_labelled f slots is near =
-    let whole = at_most (one (length f.blocks)) (itself_labelled (length f.blocks + 3) f slots is (omega arith)) in
+    let whole = at_most (one (length f.blocks)) (itself_labelled (length f.blocks + 2) f slots is (omega arith)) in
     record { labels = whole.labels; once = whole.once; not_empty = some_function (layout f slots) (saved_registers f) f.params f.blocks; near = near }
   where
     one : (n l : ℕ) → itself n l ≤ 1
-    one n l = grind (arith, nat_tests)
-
--- ---- functions that return early
-
-quick_labelled : (n : ℕ) (y : Layout) (v : Option (ReturnValue Location)) → Labelled n none (quick_items y v)
-quick_labelled n y None = alone_labelled n (go_back ∷ []) refl
-quick_labelled n y (Some a) = plainly (instructions_labelled (result_size (no_frame y) y.result a)) (alone_labelled n (go_back ∷ []) refl)
-
-test_labelled : (n : ℕ) (y : Layout) (e : EarlyReturn) → y.leave + 2 < n → Labelled n none (test_items y e)
-test_labelled n y e few =
-    branch_labelled n (no_frame y) (begin_label y) e.on (if e.when_met then quick_label y else begin_label y) (if e.when_met then begin_label y else quick_label y)
-    (one_of e.when_met (quick_label y) (begin_label y) (omega (arith, few)) few) (one_of e.when_met (begin_label y) (quick_label y) few (omega (arith, few)))
-  where
-    one_of : (t : Bool) (a b : ℕ) → a < n → b < n → (if t then a else b) < n
-    one_of true a b h k = h
-    one_of false a b h k = k
-
-pub early_labelled : (f : Code Location) (slots : ℕ) (e : EarlyReturn) → IsCode f slots
-    → longest_size (early_items (layout f slots) (saved_registers f) f.params f.blocks e) < 2 ^ 28
-    → IsLabelled (record { items = early_items (layout f slots) (saved_registers f) f.params f.blocks e; labels = length f.blocks + 3 })
-early_labelled f slots e is near =
-    let y : Layout = layout f slots in
-    let n : ℕ = length f.blocks in
-    let some = some_function y (saved_registers f) f.params f.blocks in
-    let size = longest-append (function_items y (saved_registers f) f.params f.blocks) (Label (quick_label y) ∷ quick_items y e.value) in
-    let whole = at_most (one n)
-    (plainly (test_labelled (n + 3) y e (omega arith))
-    (labelled_then (label_then {l = begin_label y} (omega arith) no_items)
-    (labelled_then (itself_labelled (n + 3) f slots is (omega arith)) (label_then {l = quick_label y} (omega arith) (quick_labelled (n + 3) y e.value))))) in
-    record { labels = whole.labels; once = whole.once; not_empty = some_behind (test_items y e) _ (omega (arith, some, size)); near = near }
-  where
-    one : (n l : ℕ) → only (n + 2) l + (itself n l + only (n + 1) l) ≤ 1
     one n l = grind (arith, nat_tests)

@@ -35,10 +35,6 @@ pub mod CopyCode
 pub mod Copying
 pub mod MovingUp
 pub mod Walking
-pub mod EarlyOrigins
-pub mod EarlyFacts
-pub mod EarlyWays
-pub mod EarlyPerforms
 pub mod Bare
 pub mod MarkedLabelling
 pub mod MarkedPerforms

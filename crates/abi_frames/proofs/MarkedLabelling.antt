@@ -25,12 +25,12 @@ part_labelled n f slots Framed k b room inside =
     body_labelled n (layout f slots) (saved_registers f) (length f.blocks) k b (few_saved_registers f) (omega (arith, room)) (omega (arith, room)) inside
 
 pub marked_labelled : (f : Code Location) (slots : ℕ) (marks : List Mark) → IsMarked f slots marks → longest_size (marked_code f slots marks) < 2 ^ 28
-    → IsLabelled (record { items = marked_code f slots marks; labels = length f.blocks + 3 })
+    → IsLabelled (record { items = marked_code f slots marks; labels = length f.blocks + 2 })
 marked_labelled f slots marks is near =
     let y : Layout = layout f slots in
     let rs : List ℕ = saved_registers f in
     let n : ℕ = length f.blocks in
-    let m : ℕ = n + 3 in
+    let m : ℕ = n + 2 in
     let entry = instructions_labelled (entry_size (outer_layout y) f.params (lit< tt) (leb-true (length f.params) 64 is.few_params) is.near) in
     let blocks = rows_labelled m (marked_body y rs marks) n 0 f.blocks (omega arith) is.inside (λ k b inside. part_labelled m f slots (mark_at marks k) k b (omega arith) inside) in
     let ends = labelled_then (label_then {n = m} {l = n} (omega arith) (epilogue_labelled m f y))

@@ -1,5 +1,5 @@
 -- The code of so many pieces, one after another.
-use Rattle.std.proofs.Common.{◌≡◌, ℕ, zero, suc, ◌+◌, ◌-◌, ◌*◌, ◌<◌, List, ◌++◌, sym, ◌∙◌, ap, arith, append_assoc}
+use Rattle.std.proofs.Common.{◌≡◌, ℕ, suc, ◌+◌, ◌-◌, ◌*◌, ◌<◌, List, ◌++◌, sym, ◌∙◌, ap, arith, append_assoc}
 use Rattle.rv_isa.specs.declared.labelled.Item.{Item}
 use Rattle.abi_frames.specs.Emission.{copy_pair, copy_pairs, copy_part, copy_parts}
 

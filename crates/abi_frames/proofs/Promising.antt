@@ -1,13 +1,12 @@
 -- The laws of the code of frames.
-use Rattle.std.proofs.Common.{◌≡◌, ℕ, ◌+◌, ◌-◌, ◌*◌, ◌^◌, ◌<◌, ◌≤◌, List, refl, subst, arith}
-use Rattle.std.specs.Prelude.{length, slice_get, Option, Some, None}
+use Rattle.std.proofs.Common.{◌≡◌, ℕ, ◌-◌, ◌^◌, ◌<◌, List, subst, arith}
+use Rattle.std.specs.Prelude.{slice_get, Option, Some}
 use Rattle.il_ast.specs.declared.limits.TheConstants.{FUNCTION_WEIGHT}
 use Rattle.il_ast.specs.declared.value.End.TheVariants.{Exit, Halt, Undefined, Stack, Turns}
 use Rattle.il_ast.specs.Run.{one_call}
 use Rattle.il_ast.specs.Logged.{Logged}
-use Rattle.rv_isa.specs.Labels.{IsLabelled}
 use Rattle.rv_isa.specs.Labelled.{Stand}
-use Rattle.abi_frames.proofs.Shared.{Class, Location, Code, EarlyReturn, Item, leb-true, longest_size}
+use Rattle.abi_frames.proofs.Shared.{Class, Location, Code, Item, leb-true}
 use Rattle.vcode.specs.declared.function.LFunc.{LFunc}
 use Rattle.vcode.specs.Regular.{area, code_weight}
 use Rattle.vcode.specs.Coded.{classes_in}
@@ -15,48 +14,33 @@ use Rattle.flat_code.specs.Flat.{FlatOutcome, FlatReturned, FlatEnded, flat_afte
 use Rattle.flat_code.specs.Step.{flat_begin, flat_step}
 use Rattle.abi_frames.specs.Calls.{World, IsWorld}
 use Rattle.abi_frames.specs.Performs.{Performs, KeepsFrame}
-use Rattle.abi_frames.specs.Layout.{layout, saved_registers, frame_bound, frame_size}
-use Rattle.abi_frames.specs.EarlyReturns.{early_return, early_items, items_by}
+use Rattle.abi_frames.specs.Layout.{frame_bound, frame_size}
 use Rattle.abi_frames.specs.Frames.{IsFrameOf}
-use Rattle.abi_frames.specs.Functions.{function_items}
+use Rattle.abi_frames.specs.Functions.{frame_items}
 use Rattle.abi_frames.specs.Parts.{marked_code}
 use Rattle.abi_frames.specs.Laws.{IsCode, FramesAreLabelled, FramesAreSmall, FramesPerform, MarkedAreLabelled, MarkedPerform}
 use Rattle.frame_ways.specs.Keeping.{FlatFine, KeepsBytes}
 use Rattle.abi_frames.proofs.MarkedPerforms.{marked_fits, performs_marked}
 use Rattle.abi_frames.proofs.MarkedLabelling.{marked_labelled}
-use Rattle.abi_frames.proofs.Sizes.{function_small, early_size}
-use Rattle.abi_frames.proofs.Labelling.{function_labelled, early_labelled}
+use Rattle.abi_frames.proofs.Sizes.{function_small}
+use Rattle.abi_frames.proofs.Labelling.{function_labelled}
 use Rattle.abi_frames.proofs.Starting.{frame_fits, performs}
-use Rattle.abi_frames.proofs.EarlyFacts.{IsEarly, early_is}
-use Rattle.abi_frames.proofs.EarlyPerforms.{value_short, test_fits, performs_early}
 
 -- a function in location code
 pub code_of : (l : LFunc) → IsCode l.code l.slots
 code_of l =
     record { few = l.few; regular = l.regular; known = l.known; near = l.near; apart = l.apart; light = l.light }
 
--- ---- sizes
-
-early_small : (f : Code Location) (slots : ℕ) (e : EarlyReturn) → IsEarly f e → IsCode f slots
-    → longest_size (early_items (layout f slots) (saved_registers f) f.params f.blocks e) ≤ 32 * code_weight f + 256
-early_small f slots e early is = early_size f slots e is (test_fits f (layout f slots) e early) (value_short f e early)
+-- ---- sizes and labels
 
 pub frames_are_small : FramesAreSmall
-frames_are_small f slots is = by_return (early_return f slots) refl
-  where
-    by_return : (o : Option EarlyReturn) → early_return f slots ≡ o → longest_size (items_by (layout f slots) (saved_registers f) f.params f.blocks o) ≤ 32 * code_weight f + 256
-    by_return None h = let size = function_small f slots is in omega (arith, size)
-    by_return (Some e) h = early_small f slots e (early_is f slots e h) is
-
--- ---- labels
+frames_are_small f slots is = let size = function_small f slots is in omega (arith, size)
 
 pub frames_are_labelled : FramesAreLabelled
-frames_are_labelled f slots is = by_return (early_return f slots) (let size = frames_are_small f slots is in let light = leb-true (code_weight f) FUNCTION_WEIGHT is.light in omega (arith, size, light))
-  where
-    by_return : (o : Option EarlyReturn) → longest_size (items_by (layout f slots) (saved_registers f) f.params f.blocks o) < 2 ^ 28
-        → IsLabelled (record { items = items_by (layout f slots) (saved_registers f) f.params f.blocks o; labels = length f.blocks + 3 })
-    by_return None near = function_labelled f slots is near
-    by_return (Some e) near = early_labelled f slots e is near
+frames_are_labelled f slots is =
+    let size = function_small f slots is in
+    let light = leb-true (code_weight f) FUNCTION_WEIGHT is.light in
+    function_labelled f slots is (omega (arith, size, light))
 
 -- ---- the promise
 
@@ -77,15 +61,8 @@ is_frame f slots items is performs =
     }
 
 pub frames_perform : FramesPerform
-frames_perform f slots is = by_return (early_return f slots) refl
-  where
-    by_return : (o : Option EarlyReturn) → early_return f slots ≡ o → IsFrameOf f slots (items_by (layout f slots) (saved_registers f) f.params f.blocks o)
-    by_return None h =
-        is_frame f slots (function_items (layout f slots) (saved_registers f) f.params f.blocks) is
-        (λ w at label global addresses world globals near stands. performs w at label global addresses f slots is world globals near stands)
-    by_return (Some e) h =
-        is_frame f slots (early_items (layout f slots) (saved_registers f) f.params f.blocks e) is
-        (λ w at label global addresses world globals near stands. performs_early w at label global addresses f slots e (early_is f slots e h) is world globals near stands)
+frames_perform f slots is =
+    is_frame f slots (frame_items f slots) is (λ w at label global addresses world globals near stands. performs w at label global addresses f slots is world globals near stands)
 
 -- ---- code with marks
 

@@ -22,7 +22,6 @@ pub use Rattle.vcode.specs.declared.line.Jump.{Jump}
 pub use Rattle.vcode.specs.declared.code.Block.{Block}
 pub use Rattle.vcode.specs.declared.code.Code.{Code}
 pub use Rattle.abi_frames.specs.declared.layout.Layout.{Layout}
-pub use Rattle.abi_frames.specs.declared.early.EarlyReturn.{EarlyReturn}
 pub use Rattle.frame_ways.specs.declared.mark.Mark.{Mark}
 pub use Rattle.std.specs.List.{list_all, list_any, sum_by}
 pub use Rattle.std.proofs.lemmas.Bool.{and_parts, and_from, leb-true, lt-ltb, ltb-true, eqb-true, eqb-false, not-true, both_ways, or_parts}

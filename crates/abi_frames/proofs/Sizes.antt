@@ -2,7 +2,7 @@
 use Rattle.std.proofs.Common.{suc, zero, ◌/◌, ◌≡◌, ℕ, ◌+◌, ◌-◌, ◌*◌, ◌%◌, ◌^◌, ◌<◌, ◌≤◌, Bool, true, false, List, [], ◌∷◌, ◌++◌, refl, sym, ◌∙◌, ap, subst, arith, lit≤}
 use Rattle.bits.specs.Words.{sign_extended}
 use Rattle.std.specs.Prelude.{◌&&◌, not, nat_eq, nat_le, nat_lt, if◌then◌else◌, length, Option, Some, None}
-use Rattle.abi_frames.proofs.Shared.{Condition, Class, W, L, Immediate, LoadOp, StoreOp, Item, Plain, Label, Location, InRegister, Slot, Operand, ReturnValue, Argument, Destination, At, Number, Name, Operation, Line, Comparison, Jump, Block, Code, EarlyReturn, Layout, list_all, sum_by, and_parts, and_from, leb-true, longest_size, all_append, not_both, equals_itself, nat_tests, sum_by-cons, low}
+use Rattle.abi_frames.proofs.Shared.{Condition, Class, W, L, Immediate, LoadOp, StoreOp, Item, Plain, Label, Location, InRegister, Slot, Operand, ReturnValue, Argument, Destination, At, Number, Name, Operation, Line, Comparison, Jump, Block, Code, Layout, list_all, sum_by, and_parts, and_from, leb-true, longest_size, all_append, not_both, nat_tests, sum_by-cons, low}
 use Rattle.il_ast.specs.declared.operation.Condition.TheVariants.{Equal, NotEqual, SignedLessEqual, SignedLess, SignedGreaterEqual, SignedGreater, UnsignedLessEqual, UnsignedLess, UnsignedGreaterEqual, UnsignedGreater}
 use Rattle.il_ast.specs.declared.operation.Size.{Size}
 use Rattle.rv_isa.specs.declared.instruction.LoadOp.TheVariants.{Ld, Lwu, Lhu, Lbu}
@@ -20,14 +20,12 @@ use Rattle.vcode.specs.Named.{is_near, are_near}
 use Rattle.abi_frames.specs.Layout.{layout, saved_registers}
 use Rattle.abi_frames.proofs.Saving.{few_saved_registers}
 use Rattle.abi_frames.specs.Laws.{IsCode}
-use Rattle.abi_frames.specs.EarlyReturns.{is_bare, is_short, no_frame, quick_label, begin_label, test_items, quick_items, early_items}
 use Rattle.operation_code.specs.Fields.{reg, high, add_low, extend, sum_to, load_8, store_8}
 use Rattle.operation_code.specs.Constants.{zeros_of, left_of, is_near_number, near_constant, is_made, added, shifted_by, made_constant, long_constant, word, is_word, word_constant, constant}
 use Rattle.operation_code.specs.Immediates.{right_form, left_form, compare_number, form_items}
 use Rattle.operation_code.specs.declared.immediate.Form.{Form}
 use Rattle.operation_code.specs.declared.immediate.Form.TheVariants.{Immediate as ByImmediate, AddWord, Shift as ByShift, ShiftWord, Compare as ByComparison}
 use Rattle.operation_code.proofs.FormNumbers.{word_low, word_is_small}
-use Rattle.operation_code.proofs.ConstantNumbers.{word_by_bits}
 use Rattle.abi_frames.proofs.Branching.{branch_size}
 use Rattle.abi_frames.specs.Emission.{far_store, load_slot, store_slot, slot_offset, into, fetch, source, word_into, word_fetch, target, deliver, set_items, operand_into, operand_source, on_registers, by_form, operate_by, operate_items, base_items, load_by, load_items, store_by, store_op, store_items, line_items, lines_items, move_pointer, lower_pointer, raise_pointer, save_all, restore_all, prologue, epilogue, result_items, goto_items, branch_when, inverted, ways_items, compared_into, compared_source, branch_items, leave_items, left_by, left_behind, raise_most, end_most, copies_end, left_by_value, jump_items, end_items, body_items, blocks_items, passed_class, pass_into, stack_items, stack_all, register_items, register_all, passed_items, callee_items, prepare_items, call_through, receive_items, call_items, copy_at, copy_pair, copy_pairs, copy_rest, copy_bytes, copy_part, copy_parts, near_blit, far_blit, blit_items, address_at, alloc_items}
 use Rattle.operation_code.specs.Operations.{compare_items, operation_items}
@@ -762,110 +760,8 @@ function_size y rs params blocks saved few at_most near good =
     let three = blocks_size y rs 0 blocks good in
     omega (arith, all, entry, more, one, between, two, three)
 
--- ---- an early return
-
-small_number : (n : ℕ) → nat_lt n 2048 ≡ true → is_immediate n ≡ true
-small_number n h = grind (arith, nat_tests)
-
-number_word : (n : ℕ) → nat_lt n 2048 ≡ true → is_immediate (word n) ≡ true
-number_word n h =
-    let few : n < 2048 = grind (arith, nat_tests) in
-    let same : n % 2 ^ 32 ≡ n = omega (arith, few) in
-    let is = word_by_bits n (omega (arith, few)) in
-    ap (λ m. is_immediate (sign_extended m)) same ∙ grind (arith, nat_tests)
-
-immediate_size : (d n : ℕ) → is_immediate n ≡ true → Instructions 1 (constant d n)
-immediate_size d n h = subst (λ (t : Bool). Instructions (if t then 1 else 9) (constant d n)) h (constant_size d n)
-
--- an operand that is short takes one at most
-short_fetch : (y : Layout) (d : ℕ) (a : Operand Location) → is_bare a ≡ true → is_short a ≡ true → Instructions 1 (fetch y d a)
-short_fetch y d (At (InRegister r)) bare is = nothing
-short_fetch y d (At (Slot i)) bare is = let below : i < 0 = grind (arith, nat_tests) in absurd (omega (arith, below))
-short_fetch y d (Number n) bare is = either (nat_eq n 0) nothing (immediate_size d n (small_number n is))
-short_fetch y d (Name g) bare is = absurd (let no : ⊥ = cc in no)
-
-short_into : (y : Layout) (d : ℕ) (a : Operand Location) → is_bare a ≡ true → is_short a ≡ true → Instructions 1 (into y d a)
-short_into y d (At (InRegister r)) bare is = either (nat_eq d r) nothing (short refl refl)
-short_into y d (At (Slot i)) bare is = let below : i < 0 = grind (arith, nat_tests) in absurd (omega (arith, below))
-short_into y d (Number n) bare is = immediate_size d n (small_number n is)
-short_into y d (Name g) bare is = absurd (let no : ⊥ = cc in no)
-
-short_word : (y : Layout) (d : ℕ) (a : Operand Location) → is_bare a ≡ true → is_short a ≡ true → Instructions 1 (word_into y d a)
-short_word y d (At (InRegister r)) bare is = short refl refl
-short_word y d (At (Slot i)) bare is = let below : i < 0 = grind (arith, nat_tests) in absurd (omega (arith, below))
-short_word y d (Number n) bare is = immediate_size d (word n) (number_word n is)
-short_word y d (Name g) bare is = absurd (let no : ⊥ = cc in no)
-
-short_compared : (y : Layout) (on : Condition) (k : Class) (d : ℕ) (a : Operand Location) → is_bare a ≡ true → is_short a ≡ true
-    → Instructions 1 (operand_into y (Compare on k) d a)
-short_compared y on W d (At p) bare is = short_word y d (At p) bare is
-short_compared y on W d (Number n) bare is = either (nat_eq (word n) 0) nothing (immediate_size d (word n) (number_word n is))
-short_compared y on W d (Name g) bare is = short_word y d (Name g) bare is
-short_compared y on L d a bare is = short_fetch y d a bare is
-
-short_passed : (y : Layout) (k : Class) (a : Operand Location) → is_bare a ≡ true → is_short a ≡ true → Instructions 1 (pass_into y 10 k a)
-short_passed y L a bare is = short_into y 10 a bare is
-short_passed y W a bare is = short_word y 10 a bare is
-
-short_result : (y : Layout) (k : Option Class) (a : ReturnValue Location) → is_bare a.value ≡ true → is_short a.value ≡ true → Instructions 1 (result_items y k a)
-short_result y None a bare is = nothing
-short_result y (Some k) a bare is = short_passed y (passed_class a.extension k) a.value bare is
-
--- a value that one instruction has in a register
-abbrev pub ValueShort : Option (ReturnValue Location) → Type 0
-ValueShort None = Unit {0}
-ValueShort (Some a) = (is_bare a.value ≡ true) × (is_short a.value ≡ true)
-
-pub quick_size : (y : Layout) (v : Option (ReturnValue Location)) → ValueShort v → Instructions 2 (quick_items y v)
-quick_size y None is = short refl refl
-quick_size y (Some a) is = joined (short_result (no_frame y) y.result a is.0 is.1) (short {n = 1} refl refl)
-
--- one of the two labels stands next
-test_ways : (y : Layout) (on : Condition) (v w q b : ℕ) (met : Bool)
-    → longest_size (ways_items (no_frame y) b on v w (if met then q else b) (if met then b else q)) ≤ 3
-test_ways y on v w q b true = by_test (nat_eq q b) (nat_eq b b) refl
-  where
-    by_test : (s t : Bool) → nat_eq b b ≡ t
-        → longest_size (if s then branch_when (inverted on) v w b ∷ [] else branch_when on v w q ∷ (if t then [] else GoTo b ∷ [])) ≤ 3
-    by_test true t e = let size = branch_size (inverted on) v w b [] in omega (arith, size)
-    by_test false true e = let size = branch_size on v w q [] in omega (arith, size)
-    by_test false false e = absurd (not_both (nat_eq b b) (equals_itself b) e)
-test_ways y on v w q b false = by_test (nat_eq b b) refl
-  where
-    by_test : (t : Bool) → nat_eq b b ≡ t
-        → longest_size (if t then branch_when (inverted on) v w q ∷ [] else branch_when on v w b ∷ goto_items (no_frame y) b q) ≤ 3
-    by_test true e = let size = branch_size (inverted on) v w q [] in omega (arith, size)
-    by_test false e = absurd (not_both (nat_eq b b) (equals_itself b) e)
-
-pub test_size : (y : Layout) (e : EarlyReturn) → is_bare e.on.left ≡ true → is_short e.on.left ≡ true → is_bare e.on.right ≡ true → is_short e.on.right ≡ true
-    → longest_size (test_items y e) ≤ 5
-test_size y e bare_a short_a bare_b short_b =
-    let z = no_frame y in
-    let a : List Item = compared_into z e.on 28 e.on.left in
-    let b : List Item = compared_into z e.on 29 e.on.right in
-    let ways : List Item = ways_items z (begin_label y) e.on.condition (compared_source e.on 28 e.on.left) (compared_source e.on 29 e.on.right)
-    (if e.when_met then quick_label y else begin_label y) (if e.when_met then begin_label y else quick_label y) in
-    let all = longest-append a (b ++ ways) in
-    let more = longest-append b ways in
-    let one = (short_compared z e.on.condition e.on.class 28 e.on.left bare_a short_a).few in
-    let two = (short_compared z e.on.condition e.on.class 29 e.on.right bare_b short_b).few in
-    let three = test_ways y e.on.condition (compared_source e.on 28 e.on.left) (compared_source e.on 29 e.on.right) (quick_label y) (begin_label y) e.when_met in
-    omega (arith, all, more, one, two, three)
-
 pub function_small : (f : Code Location) (slots : ℕ) → IsCode f slots
     → longest_size (function_items (layout f slots) (saved_registers f) f.params f.blocks) ≤ 32 * code_weight f + 249
 function_small f slots is =
     let at_most = leb-true (length f.params) 64 is.regular.few_params in
     function_size (layout f slots) (saved_registers f) f.params f.blocks (few_saved_registers f) (slots_near f is.regular) at_most is.near is.regular.paid
-
-pub early_size : (f : Code Location) (slots : ℕ) (e : EarlyReturn) → IsCode f slots → longest_size (test_items (layout f slots) e) ≤ 5 → ValueShort e.value
-    → longest_size (early_items (layout f slots) (saved_registers f) f.params f.blocks e) ≤ 32 * code_weight f + 256
-early_size f slots e is test short =
-    let y : Layout = layout f slots in
-    let whole : List Item = function_items y (saved_registers f) f.params f.blocks in
-    let p_quick : List Item = Label (quick_label y) ∷ quick_items y e.value in
-    let all = longest-append (test_items y e) (Label (begin_label y) ∷ (whole ++ p_quick)) in
-    let more = longest-append whole p_quick in
-    let size = function_small f slots is in
-    let quick = (quick_size y e.value short).few in
-    omega (arith, all, more, size, quick, test)

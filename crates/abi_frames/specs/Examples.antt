@@ -20,7 +20,7 @@ use Rattle.vcode.specs.declared.code.Code.{Code}
 use Rattle.vcode.specs.Addresses.{at_once}
 use Rattle.vcode.specs.ExampleCodes.{block, code, destination, returned}
 use Rattle.abi_frames.specs.Laws.{IsCode}
-use Rattle.abi_frames.specs.EarlyReturns.{frame_items}
+use Rattle.abi_frames.specs.Functions.{frame_items}
 
 abbrev argument : Class → Operand Location → Argument Location
 argument k a = record { class = k; value = a; extension = Made }

@@ -12,7 +12,9 @@ use Rattle.vcode.specs.declared.place.Extension.TheVariants.{Made}
 use Rattle.vcode.specs.declared.place.Operand.TheVariants.{At}
 use Rattle.il_ast.specs.declared.operation.Class.TheVariants.{L}
 use Rattle.vcode.specs.declared.code.Block.{Block}
-use Rattle.abi_frames.specs.Layout.{is_register}
+use Rattle.vcode.specs.declared.code.Code.{Code}
+use Rattle.vcode.specs.Regular.{code_weight}
+use Rattle.abi_frames.specs.Layout.{is_register, layout, saved_registers}
 use Rattle.abi_frames.specs.declared.layout.Layout.{Layout}
 use Rattle.operation_code.specs.Fields.{add_low, sum_to, load_8}
 use Rattle.operation_code.specs.Constants.{constant}
@@ -92,3 +94,10 @@ abbrev pub function_items : Layout → (saved : List ℕ) → List (Destination 
 function_items y rs params blocks =
     prologue y rs ++ (entry_items y params ++ (blocks_items y rs 0 blocks
     ++ (Label y.leave ∷ epilogue y rs)))
+
+abbrev pub frame_items : Code Location → (slots : ℕ) → List Item
+frame_items f slots = function_items (layout f slots) (saved_registers f) f.params f.blocks
+
+-- the words that the code may have
+abbrev pub price : Code Location → ℕ
+price f = 32 * code_weight f + 256

@@ -9,7 +9,7 @@ use Rattle.vcode.specs.Places.{located}
 use Rattle.vcode.specs.Named.{keeps_places, is_place, are_near, are_distinct}
 use Rattle.vcode.specs.Regular.{IsRegular, code_weight}
 use Rattle.abi_frames.specs.Frames.{IsFrameOf}
-use Rattle.abi_frames.specs.EarlyReturns.{frame_items}
+use Rattle.abi_frames.specs.Functions.{frame_items}
 use Rattle.abi_frames.specs.Layout.{frame_size}
 use Rattle.abi_frames.specs.Parts.{marked_code}
 use Rattle.frame_ways.specs.declared.mark.Mark.{Mark}
@@ -29,7 +29,7 @@ pub record IsCode (f : Code Location) (slots : ℕ) : Type 0 where
 abbrev pub FramesAreLabelled : Type 0
 FramesAreLabelled =
     (f : Code Location) (slots : ℕ) → IsCode f slots
-    → IsLabelled (record { items = frame_items f slots; labels = length f.blocks + 3 })
+    → IsLabelled (record { items = frame_items f slots; labels = length f.blocks + 2 })
 
 abbrev pub FramesAreSmall : Type 0
 FramesAreSmall =
@@ -49,7 +49,7 @@ MarkedAreLabelled =
     (f : Code Location) (slots : ℕ) (marks : List Mark) → IsMarked f slots marks
     → longest_size (marked_code f slots marks) < 2 ^ 28
     → IsLabelled
-    (record { items = marked_code f slots marks; labels = length f.blocks + 3 })
+    (record { items = marked_code f slots marks; labels = length f.blocks + 2 })
 
 -- what was made of f performs what f runs, in a frame as large
 abbrev pub MarkedPerform : Type 0

@@ -8,6 +8,5 @@ pub mod Functions
 pub mod Laws
 pub mod Examples
 pub mod Frames
-pub mod EarlyReturns
 pub mod Parts
 pub mod Marked

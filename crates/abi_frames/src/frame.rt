@@ -1,13 +1,12 @@
 //! Functions with their frames.
 ghost use Rattle.il_ast.specs.declared.limits.TheConstants.{ALLOC_BYTES};
-ghost use Rattle.std.specs.Prelude.{◌≡◌, ◌+◌, ◌*◌, ◌^◌, ◌<◌, ◌≤◌, IsTrue, [], ◌∷◌, ◌++◌, None, false, true, length, nat_le, OnOk, IfOk, IfSome};
+ghost use Rattle.std.specs.Prelude.{◌≡◌, ◌+◌, ◌*◌, ◌^◌, ◌<◌, ◌≤◌, IsTrue, ◌∷◌, ◌++◌, length, nat_le, OnOk, IfOk, IfSome};
 ghost use Rattle.rv_isa.specs.Labels.{longest_size};
 ghost use Rattle.std.specs.List.{list_all, sum_by};
 ghost use Rattle.vcode.specs.Regular.{area, alloc_bytes, turns_of, passes_few, code_weight};
 ghost use Rattle.abi_frames.specs.Layout.{layout, outgoing, saved_registers, frame_size, frame_bound};
 ghost use Rattle.abi_frames.specs.Emission.{left_behind, lines_items, jump_items, epilogue, block_items, blocks_items};
-ghost use Rattle.abi_frames.specs.Functions.{function_items};
-ghost use Rattle.abi_frames.specs.EarlyReturns.{test_items, quick_items, early_items, items_by, early_by};
+ghost use Rattle.abi_frames.specs.Functions.{function_items, frame_items};
 ghost use Rattle.rv_isa.specs.declared.labelled.Item.TheVariants.{Label};
 ghost use Rattle.vcode.specs.declared.limits.TheConstants.{PLACES};
 ghost use Rattle.abi_frames.specs.declared.pace.TheConstants.{TURN_BOUND};
@@ -16,7 +15,6 @@ ghost use Rattle.frame_ways.specs.Marks.{IsMarked};
 ghost use Rattle.frame_ways.specs.Keeping.{IsMarkedOf};
 ghost use Rattle.abi_frames.specs.Frames.{IsFrameOf};
 
-use crate::early::{EarlyReturn, early_return, push_quick, push_test};
 use crate::ends::{push_epilogue, push_prologue};
 use crate::entry::push_entry;
 use crate::jump::push_jump;
@@ -121,77 +119,6 @@ fn push_function(
     Ok(())
 }
 
-/// The test of a function that returns early, and the label of its frame's begin.
-fn push_test_and_label(
-    items: &mut Vec<Item>,
-    layout: &Layout,
-    early: &EarlyReturn,
-) -> Result<(), AllocError>
-    requires small { layout.now.leave < 2 ^ 63 }
-    ensures { OnOk result (items.new.items ≡ items.old.items ++ (test_items layout.now early.now ++ (Label (layout.now.leave + 2) ∷ []))) }
-{
-    push_test(items, layout, early)?;
-    items.push(Item::Label(layout.leave + 2))?;
-    Ok(())
-}
-
-/// An early return, behind its label.
-fn push_early_end(
-    items: &mut Vec<Item>,
-    layout: &Layout,
-    early: &EarlyReturn,
-) -> Result<(), AllocError>
-    requires small { layout.now.leave < 2 ^ 63 }
-    ensures { OnOk result (items.new.items ≡ items.old.items ++ (Label (layout.now.leave + 1) ∷ quick_items layout.now early.now.value)) }
-{
-    items.push(Item::Label(layout.leave + 1))?;
-    push_quick(items, layout, &early.value)
-}
-
-/// The code of a function that returns early on one way.
-fn push_early(
-    items: &mut Vec<Item>,
-    layout: &Layout,
-    saved: &[u8],
-    params: &[Destination<Location>],
-    blocks: &[Block<Location>],
-    early: &EarlyReturn,
-) -> Result<(), AllocError>
-    requires room { sum_by (λ b. sum_by alloc_bytes b.lines) blocks.now ≤ ALLOC_BYTES }
-    requires calls { IsTrue (list_all (λ b. list_all passes_few b.lines) blocks.now) }
-    requires few { length params.now ≤ 64 }
-    requires few_saved { length saved.now ≤ 13 }
-    requires small { layout.now.leave < 2 ^ 63 }
-    ensures { OnOk result (items.new.items ≡ items.old.items ++ early_items layout.now saved.now params.now blocks.now early.now) }
-{
-    push_test_and_label(items, layout, early)?;
-    push_function(items, layout, saved, params, blocks)?;
-    push_early_end(items, layout, early)?;
-    Ok(())
-}
-
-/// The code of a function, which returns early on one way or on none.
-fn push_frame(
-    items: &mut Vec<Item>,
-    layout: &Layout,
-    saved: &[u8],
-    params: &[Destination<Location>],
-    blocks: &[Block<Location>],
-    early: &Option<EarlyReturn>,
-) -> Result<(), AllocError>
-    requires room { sum_by (λ b. sum_by alloc_bytes b.lines) blocks.now ≤ ALLOC_BYTES }
-    requires calls { IsTrue (list_all (λ b. list_all passes_few b.lines) blocks.now) }
-    requires few { length params.now ≤ 64 }
-    requires few_saved { length saved.now ≤ 13 }
-    requires small { layout.now.leave < 2 ^ 63 }
-    ensures { OnOk result (items.new.items ≡ items.old.items ++ items_by layout.now saved.now params.now blocks.now early.now) }
-{
-    match early {
-        Some(early) => push_early(items, layout, saved, params, blocks, early),
-        None => push_function(items, layout, saved, params, blocks),
-    }
-}
-
 #[tactic(auto, using(crate::proofs::Saving::few_saved_registers))]
 fn layout_of(code: &Code<Location>, slots: u32, saved: &[u8]) -> Layout
     requires registers { saved.now ≡ saved_registers code.now }
@@ -227,48 +154,43 @@ pub fn frame_bound(function: &FlatFunc) -> u64
     (area_of(code) + 8 * words + 15) / 16 * 16
 }
 
-/// The code of a function, which returns early on one way or on none.
+/// The code of a function that begins its frame at once.
 fn frame_items(
     alloc: Global,
     function: &FlatFunc,
     saved: &[u8],
     shared: &Layout,
-    early: &Option<EarlyReturn>,
 ) -> Result<Vec<Item>, AllocError>
     requires registers { saved.now ≡ saved_registers function.now.located.code }
     requires plan { shared.now ≡ layout function.now.located.code function.now.located.slots }
-    requires small { length function.now.located.code.blocks < 2 ^ 63 }
-    ensures { IfOk result (λ v. v.items ≡ items_by (layout function.now.located.code function.now.located.slots) (saved_registers function.now.located.code) function.now.located.code.params function.now.located.code.blocks early.now) }
+    ensures { IfOk result (λ v. v.items ≡ frame_items function.now.located.code function.now.located.slots) }
 {
     let mut items = Vec::new(alloc);
-    push_frame(
+    push_function(
         &mut items,
         shared,
         saved,
         function.located.code.params.as_slice(),
         function.located.code.blocks.as_slice(),
-        early,
     )?;
     Ok(items)
 }
 
-/// The code of a function that begins its frame at once, or returns early on one way.
+/// The code of a function that begins its frame at once, with its labels.
 fn usual_frame(
     alloc: Global,
     function: &FlatFunc,
     saved: &[u8],
     shared: &Layout,
-    early: &Option<EarlyReturn>,
 ) -> Result<LabelledCode, AllocError>
     requires registers { saved.now ≡ saved_registers function.now.located.code }
     requires plan { shared.now ≡ layout function.now.located.code function.now.located.slots }
-    requires early { early.now ≡ early_by function.now.located.code shared.now.size }
     ensures promise { IfOk result (λ c. IsFrameOf function.now.located.code function.now.located.slots c.items) }
     ensures size { IfOk result (λ c. longest_size c.items ≤ 32 * code_weight function.now.located.code + 256) }
 {
     let blocks = function.located.code.blocks.as_slice();
-    let items = frame_items(alloc, function, saved, shared, early)?;
-    Ok(LabelledCode::new(items, blocks.len() + 3))
+    let items = frame_items(alloc, function, saved, shared)?;
+    Ok(LabelledCode::new(items, blocks.len() + 2))
 }
 
 /// The code of code with marks.
@@ -316,7 +238,7 @@ fn marked_within(
     let items = marked_items(alloc, function.located.slots, marked, saved, shared)?;
     let most = price(&function.located.code);
     if is_within(items.as_slice(), most) {
-        Ok(Some(LabelledCode::new(items, blocks.len() + 3)))
+        Ok(Some(LabelledCode::new(items, blocks.len() + 2)))
     } else {
         Ok(None)
     }
@@ -362,25 +284,6 @@ fn marked_frame(
     }
 }
 
-/// The code of a function without an early return.
-fn late_frame(
-    alloc: Global,
-    function: &FlatFunc,
-    saved: &[u8],
-    shared: &Layout,
-) -> Result<LabelledCode, AllocError>
-    requires registers { saved.now ≡ saved_registers function.now.located.code }
-    requires plan { shared.now ≡ layout function.now.located.code function.now.located.slots }
-    requires late { None ≡ early_by function.now.located.code shared.now.size }
-    ensures promise { IfOk result (λ c. IsFrameOf function.now.located.code function.now.located.slots c.items) }
-    ensures size { IfOk result (λ c. longest_size c.items ≤ 32 * code_weight function.now.located.code + 256) }
-{
-    match marked_frame(alloc, function, shared.size)? {
-        Some(code) => Ok(code),
-        None => usual_frame(alloc, function, saved, shared, &None),
-    }
-}
-
 /// The machine code of a function, with at most 32 words for each unit of its weight, and 256. Wherever it stands, it performs what the
 /// function's code on bytes runs.
 ///
@@ -395,9 +298,8 @@ pub fn frame(alloc: Global, function: &FlatFunc) -> Result<LabelledCode, AllocEr
     let code = &function.located.code;
     let saved = saved_registers(alloc, code)?;
     let shared = layout_of(code, function.located.slots, saved.as_slice());
-    let early = early_return(code, shared.size);
-    match early {
-        Some(_) => usual_frame(alloc, function, saved.as_slice(), &shared, &early),
-        None => late_frame(alloc, function, saved.as_slice(), &shared),
+    match marked_frame(alloc, function, shared.size)? {
+        Some(code) => Ok(code),
+        None => usual_frame(alloc, function, saved.as_slice(), &shared),
     }
 }

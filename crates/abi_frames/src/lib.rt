@@ -13,9 +13,6 @@
 //! the frame, behind the last block, which may fall into it. Where that end restores no more than four registers, each other return has a copy of it in place of a
 //! jump, if the ticks of its block leave enough to pay for that (`jump`).
 //!
-//! Where the first block does nothing but test what was passed, and copy, and one of its ways does nothing but return, that way needs no frame (`early`,
-//! `specs/EarlyReturns.antt`): the test stands once more before the frame's begin and reads registers of arguments, and the early return behind the frame's end.
-//!
 //! Where ways through a function need no frame, its code is made of parts with marks (crate `frame_ways`), and machine code of those (`marks`, `specs/Parts.antt`): bare parts
 //! have no frame and return where they stand, and where one leads to a framed part the frame begins. Whether the code is then within its price is found by
 //! making it.
@@ -36,7 +33,6 @@
 
 mod call;
 mod copy;
-mod early;
 mod ends;
 mod entry;
 pub mod frame;

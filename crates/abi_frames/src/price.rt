@@ -5,7 +5,7 @@ ghost use Rattle.std.specs.List.{sum_by};
 ghost use Rattle.rv_isa.specs.Labels.{longest, longest_size};
 ghost use Rattle.vcode.specs.Regular.{weight_of, code_weight};
 ghost use Rattle.abi_frames.specs.Emission.{left_by, left_behind};
-ghost use Rattle.abi_frames.specs.EarlyReturns.{price};
+ghost use Rattle.abi_frames.specs.Functions.{price};
 
 use rv_isa::labelled::Item;
 use vcode::code::{Block, Code};

@@ -52,7 +52,7 @@ fn writes(line: &Line<Location>, number: u8) -> bool
 }
 
 /// Registers that places may be, numbers and names.
-pub fn is_bare(operand: &Operand<Location>) -> bool
+fn is_bare(operand: &Operand<Location>) -> bool
     ensures { result ≡ operand_keeps (is_place 0) operand.now }
 {
     match operand {

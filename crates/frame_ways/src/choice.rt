@@ -29,6 +29,15 @@ struct Standing {
     front: Front,
     /// whether it stands behind the frame's begin
     kept: bool,
+    /// whether one that stands there leads to it
+    entered: bool,
+}
+
+impl Standing {
+    /// Whether it is come to from the frame's begin alone, which then stands right in front of it.
+    fn is_begun(&self) -> bool {
+        self.kept && !self.entered && self.front == Front::Begin
+    }
 }
 
 /// The block that a jump leads to first or second.
@@ -186,6 +195,20 @@ fn keep(
     }
 }
 
+/// A block behind the frame's begin leads to the target.
+fn lead(
+    parts: &mut [Standing],
+    waiting: &mut Vec<usize>,
+    target: Option<usize>,
+) -> Result<(), AllocError> {
+    if let Some(block) = target {
+        if block < parts.len() {
+            parts[block].entered = true;
+        }
+    }
+    keep(parts, waiting, target)
+}
+
 fn keep_targets(
     parts: &mut [Standing],
     waiting: &mut Vec<usize>,
@@ -193,8 +216,8 @@ fn keep_targets(
 ) -> Result<(), AllocError> {
     match block {
         Some(block) => {
-            keep(parts, waiting, target(&block.jump, false))?;
-            keep(parts, waiting, target(&block.jump, true))
+            lead(parts, waiting, target(&block.jump, false))?;
+            lead(parts, waiting, target(&block.jump, true))
         }
         None => Ok(()),
     }
@@ -274,26 +297,40 @@ fn place_fronts(
     to: usize,
 ) -> Result<(), AllocError> {
     for block in from..to {
-        place_front(order, parts, block)?;
+        match parts.get(block) {
+            Some(part) if !part.is_begun() => place_front(order, parts, block)?,
+            _ => {}
+        }
     }
+    Ok(())
+}
+
+/// What stands behind the frame's begin for the block stands next, where the frame begins for it alone behind that.
+fn place_behind(order: &mut Order, parts: &[Standing], block: usize) -> Result<(), AllocError> {
+    match parts.get(block) {
+        Some(part) if part.is_begun() => place_front(order, parts, block)?,
+        _ => {}
+    }
+    let number = order.parts.len();
+    put_number(order.behind.as_mut_slice(), block, number);
+    order.parts.push(Part {
+        block,
+        mark: Mark::Framed,
+    })?;
     Ok(())
 }
 
 fn place_kept(order: &mut Order, parts: &[Standing]) -> Result<(), AllocError> {
     for (block, part) in parts.iter().enumerate() {
         if part.kept {
-            let number = order.parts.len();
-            put_number(order.behind.as_mut_slice(), block, number);
-            order.parts.push(Part {
-                block,
-                mark: Mark::Framed,
-            })?;
+            place_behind(order, parts, block)?;
         }
     }
     Ok(())
 }
 
-/// What stands in front for the blocks up to the first that is kept, those that are kept, and what stands in front for the others.
+/// What stands in front for the blocks up to the first that is kept, those that are kept, and what stands in front for the others. Where the frame begins for a block
+/// that is come to in no other way, that stands right before it.
 fn place(order: &mut Order, parts: &[Standing], enter: usize) -> Result<(), AllocError> {
     let next = enter.saturating_add(1);
     place_fronts(order, parts, 0, next)?;
@@ -324,6 +361,7 @@ pub(crate) fn choose(
     let none = Standing {
         front: Front::Nothing,
         kept: false,
+        entered: false,
     };
     let mut parts = vec![in alloc; none; blocks.len()]?;
     if !find_fronts(alloc, parts.as_mut_slice(), blocks)? {

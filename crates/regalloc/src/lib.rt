@@ -12,6 +12,7 @@
 //! | `places` | which of them gets which register of the machine, or which spill slot |
 //! | `parts` | the parts of a live interval, which of them one register of the machine serves together, and what that saves |
 //! | `splitting` | which parts of what has a slot stand in a register of the machine, and the moves for that |
+//! | `bare_ways` | where values stand that live over a call, on ways on which none is made |
 //! | `linear_scan` | the place of each register, by all of these |
 //! | `written` | the certificate of the places and the moves |
 //!
@@ -26,6 +27,7 @@
 //! (`end_to_end`) names them by this crate.
 #![tactic(auto)]
 
+mod bare_ways;
 mod intervals;
 pub mod linear_scan;
 mod lists;

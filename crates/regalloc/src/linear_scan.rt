@@ -5,6 +5,7 @@ ghost use Rattle.std.specs.List.{list_all};
 ghost use Rattle.vcode.specs.Named.{is_place};
 ghost use Rattle.regalloc.specs.Scanned.{IsScanned};
 
+use crate::bare_ways::keep_bare;
 use crate::intervals::accesses::Accesses;
 use crate::intervals::coalescing::{Group, groups_of};
 use crate::intervals::facts::facts_of;
@@ -304,6 +305,7 @@ fn place_and_split(
     let mut rooms = Rooms::new(alloc, ground.facts.text.points())?;
     let mut splitter = Splitter::new(alloc, accesses);
     place_registers(alloc, list, registers, &mut rooms, &mut splitter, ground)?;
+    keep_bare(alloc, &mut splitter, list, ground)?;
     splitter.finish()
 }
 

@@ -3,6 +3,7 @@ use crate::intervals::positions::Range;
 use crate::parts::balance::Balance;
 use crate::places::candidates::Candidate;
 use std::alloc::{AllocError, Global};
+use vcode::place::Location;
 
 /// How many registers of the machine there are: the first eight are those of arguments, the last argument's first.
 pub(crate) const ROOMS: usize = 23;
@@ -117,7 +118,7 @@ impl Rooms {
     }
 
     /// Whether the k-th register is free at all positions of the ranges.
-    fn is_free(&self, k: usize, ranges: &[Range]) -> bool {
+    pub(crate) fn is_free(&self, k: usize, ranges: &[Range]) -> bool {
         for range in ranges {
             if !self.is_free_at(k, *range) {
                 return false;
@@ -161,8 +162,46 @@ fn may_hold(k: usize, over_call: bool) -> bool {
     SCRATCH <= k || !over_call
 }
 
+/// The number of the register of the machine that the list has for the register, if callees needn't keep it.
+pub(crate) fn scratch_room(list: &[Location], register: u32) -> Option<usize> {
+    match list.get(register as usize) {
+        Some(Location::Register(number)) => {
+            let number = usize::from(*number);
+            if 10 <= number {
+                17usize.checked_sub(number)
+            } else if number < 8 {
+                Some(number.saturating_add(3))
+            } else {
+                None
+            }
+        }
+        _ => None,
+    }
+}
+
+/// The first of these registers that is free and that callees needn't keep, or else another one, those of arguments last.
+pub(crate) fn free_scratch(
+    rooms: &Rooms,
+    wishes: &[Option<usize>],
+    ranges: &[Range],
+) -> Option<usize> {
+    for wish in wishes {
+        match wish {
+            Some(k) if *k < SCRATCH && rooms.is_free(*k, ranges) => return Some(*k),
+            _ => {}
+        }
+    }
+    for back in 0..SCRATCH {
+        let k = SCRATCH - 1 - back;
+        if rooms.is_free(k, ranges) {
+            return Some(k);
+        }
+    }
+    None
+}
+
 /// The register that saves moves, by the number of its argument; the one behind those of arguments for what is called.
-fn hinted(hint: u8) -> usize {
+pub(crate) fn hinted(hint: u8) -> usize {
     let hint = usize::from(hint);
     7usize.checked_sub(hint).unwrap_or(hint)
 }

@@ -157,6 +157,11 @@ impl Credit {
         }
     }
 
+    /// Whether nothing was found yet that pays.
+    pub(crate) fn is_none(&self) -> bool {
+        self.moves.is_empty()
+    }
+
     /// A point before this one that may pay for something; the way there is shortened.
     fn step(&mut self, point: usize) -> Option<usize> {
         let before = self.before.get(point).copied().flatten()?;

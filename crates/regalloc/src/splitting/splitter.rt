@@ -21,8 +21,8 @@ pub(crate) struct Splitter {
     /// the accesses of all registers, found where they are first asked for
     accesses: Accesses,
 
-    credit: Credit,
-    splits: Splits,
+    pub(crate) credit: Credit,
+    pub(crate) splits: Splits,
 }
 
 impl Splitter {

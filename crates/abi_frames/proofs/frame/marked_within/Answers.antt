@@ -4,7 +4,7 @@ use Rattle.il_ast.specs.declared.limits.TheConstants.{FUNCTION_WEIGHT}
 use Rattle.rv_isa.specs.Labels.{IsLabelled, longest_size}
 use Rattle.vcode.specs.Regular.{code_weight}
 use Rattle.abi_frames.proofs.Shared.{Item, Location, Block, leb-true}
-use Rattle.abi_frames.specs.EarlyReturns.{price}
+use Rattle.abi_frames.specs.Functions.{price}
 use Rattle.abi_frames.specs.Parts.{marked_code}
 use Rattle.abi_frames.specs.Frames.{IsFrameOf}
 use Rattle.abi_frames.proofs.Promising.{code_of, marked_are_labelled, marked_perform}
@@ -20,8 +20,8 @@ new-requires c =
     ∙ (ap (λ (n : ℕ). nat_le (longest_size c.as_slice.result.now) n) (sym c.price-most.ensures) ∙ (sym c.is_within.ensures ∙ c.if-is_within.true)) in
     let size = leb-true (longest_size (marked_code g l.slots marks)) (price l.code) test in
     let light = leb-true (code_weight l.code) FUNCTION_WEIGHT l.light in
-    let labels : length g.blocks + 3 ≡ length c.as_slice-blocks.result.now + 3 = ap (λ (bs : List (Block Location)). length bs + 3) (sym c.as_slice-blocks.ensures) in
-    subst (λ (is : List Item). IsLabelled (record { items = is; labels = length c.as_slice-blocks.result.now + 3 })) (sym c.in_ok-items.ensures)
+    let labels : length g.blocks + 2 ≡ length c.as_slice-blocks.result.now + 2 = ap (λ (bs : List (Block Location)). length bs + 2) (sym c.as_slice-blocks.ensures) in
+    subst (λ (is : List Item). IsLabelled (record { items = is; labels = length c.as_slice-blocks.result.now + 2 })) (sym c.in_ok-items.ensures)
     (subst (λ (n : ℕ). IsLabelled (record { items = marked_code g l.slots marks; labels = n })) labels
     (marked_are_labelled g l.slots marks c.requires.made.marked (omega (arith, size, light))))
 

@@ -1,10 +1,9 @@
 use Rattle.std.proofs.Common.{refl, lit<}
 use Rattle.abi_frames.specs.Layout.{saved_registers}
-use Rattle.abi_frames.specs.EarlyReturns.{early_return}
 use Rattle.abi_frames.proofs.laws.example_is_code.Goals as goal
 
 pub returns : goal.returns
-unfolding saved_registers early_return
+unfolding saved_registers
 returns c = record {
   is_code = record {
     few = lit< tt;

@@ -1,0 +1,277 @@
+//! Registers of the machine for what has a value in front of all calls.
+use crate::bare_ways::fronts::Fronts;
+use crate::intervals::live_intervals::ranges_of;
+use crate::intervals::positions::Range;
+use crate::lists::set;
+use crate::places::candidates::Ground;
+use crate::places::rooms::{Rooms, free_scratch, hinted, scratch_room};
+use crate::splitting::splits::Begin;
+use cfg_live::uses::line_writes;
+use std::alloc::{AllocError, Global};
+use vcode::code::Block;
+use vcode::place::Location;
+
+/// More ranges of a register aren't looked at.
+const MOST_RANGES: usize = 64;
+
+/// The registers that have values in front of all calls, and where.
+#[derive(Drop)]
+pub(crate) struct Holders {
+    /// each once, the parameters first
+    registers: Vec<u32>,
+
+    /// of each register whether it is among them
+    is_found: Vec<bool>,
+
+    /// for each register the one of the machine that it has there, where its own place is in a frame
+    rooms: Vec<Option<usize>>,
+
+    /// for each register the one of the machine that it has where a block behind begins
+    behind: Vec<Option<usize>>,
+}
+
+impl Holders {
+    /// The register of the machine that the register has in front of all calls, if its own place is in a frame.
+    pub(crate) fn room(&self, register: u32) -> Option<usize> {
+        self.rooms.get(register as usize).copied().flatten()
+    }
+}
+
+fn find(holders: &mut Holders, register: u32) -> Result<(), AllocError> {
+    match holders.is_found.get_mut(register as usize) {
+        Some(found) if !*found => {
+            *found = true;
+            holders.registers.push(register)?;
+            Ok(())
+        }
+        _ => Ok(()),
+    }
+}
+
+fn find_written(holders: &mut Holders, block: &Block<u32>) -> Result<(), AllocError> {
+    for line in block.lines.as_slice() {
+        match line_writes(line) {
+            Some(register) => find(holders, register)?,
+            None => {}
+        }
+    }
+    Ok(())
+}
+
+/// Finds what is live where the block begins, and what it writes.
+fn find_in(holders: &mut Holders, ground: Ground, number: usize) -> Result<(), AllocError> {
+    for register in ground.facts.starts.of(number) {
+        find(holders, *register)?;
+    }
+    match ground.function.code.blocks.as_slice().get(number) {
+        Some(block) => find_written(holders, block),
+        None => Ok(()),
+    }
+}
+
+fn found(alloc: Global, ground: Ground, fronts: &Fronts) -> Result<Holders, AllocError> {
+    let registers = ground.function.registers as usize;
+    let mut holders = Holders {
+        registers: Vec::new(alloc),
+        is_found: vec![in alloc; false; registers]?,
+        rooms: vec![in alloc; None; registers]?,
+        behind: vec![in alloc; None; registers]?,
+    };
+    for param in ground.function.code.params.as_slice() {
+        find(&mut holders, param.place)?;
+    }
+    for number in fronts.inside.iter() {
+        find_in(&mut holders, ground, *number)?;
+    }
+    Ok(holders)
+}
+
+/// The positions of the range that are in one of the zones.
+fn clip(ranges: &mut Vec<Range>, range: Range, zones: &[Range]) -> Result<(), AllocError> {
+    for zone in zones {
+        let start = range.start.max(zone.start);
+        let end = range.end.min(zone.end);
+        if start <= end {
+            ranges.push(Range { start, end })?;
+        }
+    }
+    Ok(())
+}
+
+/// Where the register has a value in the zones; none where that takes too long to find.
+fn clipped(
+    alloc: Global,
+    ground: Ground,
+    fronts: &Fronts,
+    register: u32,
+) -> Result<Option<Vec<Range>>, AllocError> {
+    let all = ranges_of(ground.facts.intervals.as_slice(), register);
+    if MOST_RANGES < all.len() || ground.facts.starts.is_throughout(register) {
+        return Ok(None);
+    }
+    let mut ranges = Vec::new(alloc);
+    for range in all {
+        clip(&mut ranges, *range, fronts.zones.as_slice())?;
+    }
+    Ok(Some(ranges))
+}
+
+/// Takes the register's own place, if that isn't in a frame; false where that takes too long.
+fn stay(
+    alloc: Global,
+    rooms: &mut Rooms,
+    list: &[Location],
+    ground: Ground,
+    fronts: &Fronts,
+    register: u32,
+) -> Result<bool, AllocError> {
+    match scratch_room(list, register) {
+        Some(room) => match clipped(alloc, ground, fronts, register)? {
+            Some(ranges) => {
+                rooms.take(room, ranges.as_slice());
+                Ok(true)
+            }
+            None => Ok(false),
+        },
+        None => Ok(true),
+    }
+}
+
+fn stay_all(
+    alloc: Global,
+    rooms: &mut Rooms,
+    holders: &Holders,
+    list: &[Location],
+    ground: Ground,
+    fronts: &Fronts,
+) -> Result<bool, AllocError> {
+    for register in holders.registers.iter() {
+        if !stay(alloc, rooms, list, ground, fronts, *register)? {
+            return Ok(false);
+        }
+    }
+    Ok(true)
+}
+
+/// Notes where splitting has registers at the begins of blocks that stand behind.
+fn note_behind(holders: &mut Holders, fronts: &Fronts, begins: &[Begin]) {
+    for begin in begins {
+        for head in fronts.heads.iter() {
+            if *head == begin.block {
+                set(
+                    holders.behind.as_mut_slice(),
+                    begin.register as usize,
+                    Some(begin.room),
+                );
+            }
+        }
+    }
+}
+
+/// The register of the machine in which the parameter comes.
+fn comes_in(ground: Ground, register: u32) -> Option<usize> {
+    for (argument, param) in ground.function.code.params.as_slice().iter().enumerate() {
+        if param.place == register && argument < 8 {
+            return Some(hinted(argument as u8));
+        }
+    }
+    None
+}
+
+fn is_same(one: Option<&Location>, other: Option<&Location>) -> bool {
+    match (one, other) {
+        (Some(Location::Register(one)), Some(Location::Register(other))) => one == other,
+        (Some(Location::Slot(one)), Some(Location::Slot(other))) => one == other,
+        _ => false,
+    }
+}
+
+/// The register of the machine that another one has whose own place is the same.
+fn shared(holders: &Holders, list: &[Location], register: u32) -> Option<usize> {
+    for other in holders.registers.iter() {
+        if is_same(list.get(*other as usize), list.get(register as usize)) {
+            match holders.room(*other) {
+                Some(room) => return Some(room),
+                None => {}
+            }
+        }
+    }
+    None
+}
+
+/// Gives the register one of the machine that callees needn't keep; false where none is free.
+fn hold(
+    alloc: Global,
+    rooms: &mut Rooms,
+    holders: &mut Holders,
+    list: &[Location],
+    ground: Ground,
+    fronts: &Fronts,
+    register: u32,
+) -> Result<bool, AllocError> {
+    let Some(ranges) = clipped(alloc, ground, fronts, register)? else {
+        return Ok(false);
+    };
+    let wishes = [
+        comes_in(ground, register),
+        shared(holders, list, register),
+        holders.behind.get(register as usize).copied().flatten(),
+    ];
+    match free_scratch(rooms, wishes.as_slice(), ranges.as_slice()) {
+        Some(room) => {
+            rooms.take(room, ranges.as_slice());
+            set(holders.rooms.as_mut_slice(), register as usize, Some(room));
+            Ok(true)
+        }
+        None => Ok(false),
+    }
+}
+
+/// Gives registers of the machine to all whose own place is in a frame; says whether there are some, and each has one.
+fn hold_all(
+    alloc: Global,
+    rooms: &mut Rooms,
+    holders: &mut Holders,
+    list: &[Location],
+    ground: Ground,
+    fronts: &Fronts,
+) -> Result<bool, AllocError> {
+    let mut some = false;
+    for number in 0..holders.registers.len() {
+        match holders.registers.get(number).copied() {
+            Some(register) if scratch_room(list, register).is_none() => {
+                some = true;
+                if !hold(alloc, rooms, holders, list, ground, fronts, register)? {
+                    return Ok(false);
+                }
+            }
+            _ => {}
+        }
+    }
+    Ok(some)
+}
+
+/// Registers of the machine for what has a value in front of all calls and its own place in a frame; none where there is nothing of that, or not enough for all.
+///
+/// # Errors
+///
+/// Only where memory was refused.
+pub(crate) fn holders_of(
+    alloc: Global,
+    list: &[Location],
+    ground: Ground,
+    fronts: &Fronts,
+    begins: &[Begin],
+) -> Result<Option<Holders>, AllocError> {
+    let mut holders = found(alloc, ground, fronts)?;
+    let mut rooms = Rooms::new(alloc, ground.facts.text.points())?;
+    if !stay_all(alloc, &mut rooms, &holders, list, ground, fronts)? {
+        return Ok(None);
+    }
+    note_behind(&mut holders, fronts, begins);
+    if hold_all(alloc, &mut rooms, &mut holders, list, ground, fronts)? {
+        Ok(Some(holders))
+    } else {
+        Ok(None)
+    }
+}
