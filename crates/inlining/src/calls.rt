@@ -77,7 +77,37 @@ fn as_it_is(alloc: Global, function: &VFunc, weight_left: u64) -> Result<Growth,
     })
 }
 
-/// The function with calls done in place in each block, also in those that come by that.
+/// The numbers of so many blocks.
+fn numbers(alloc: Global, count: usize) -> Result<Vec<usize>, AllocError> {
+    let mut numbers = Vec::with_capacity(alloc, count)?;
+    for number in 0..count {
+        numbers.push(number)?;
+    }
+    Ok(numbers)
+}
+
+/// The same; what is left of the block behind the call is a block that is due then.
+fn placed_at(
+    alloc: Global,
+    growth: Growth,
+    due: &mut Vec<usize>,
+    at: usize,
+    candidates: &[Option<VFunc>],
+) -> Result<Growth, AllocError>
+    ensures { IfOk result (λ g. (v : VFuncOf) → IsGrowth candidates.now v growth → IsGrowth candidates.now v g) }
+{
+    let count = growth.blocks.len();
+    if at >= count {
+        return Ok(growth);
+    }
+    let growth = with_call(alloc, growth, at, candidates)?;
+    if growth.blocks.len() > count {
+        due.push(count)?;
+    }
+    Ok(growth)
+}
+
+/// The function with calls done in place in each of its blocks, and not in those of candidates: so a function that calls itself stays short.
 fn all_placed(
     alloc: Global,
     growth: Growth,
@@ -86,11 +116,12 @@ fn all_placed(
     ensures { IfOk result (λ g. (v : VFuncOf) → IsGrowth candidates.now v growth → IsGrowth candidates.now v g) }
 {
     let mut growth = growth;
-    for at in 0..BLOCKS {
-        if at >= growth.blocks.len() {
-            break;
+    let mut due = numbers(alloc, growth.blocks.len())?;
+    for next in 0..BLOCKS {
+        match due.get(next).copied() {
+            Some(at) => growth = placed_at(alloc, growth, &mut due, at, candidates)?,
+            None => break,
         }
-        growth = with_call(alloc, growth, at, candidates)?;
     }
     Ok(growth)
 }
@@ -150,7 +181,7 @@ fn calls_any(function: &VFunc, candidates: &[Option<VFunc>]) -> bool {
 
 /// The function with calls of candidates done in place. `candidates` has, for each global name of the function's text, the candidate that a call of it goes as, if it has one.
 /// The candidates that may be called in place are small ones by the caller's choice: each call of one is done in place where a turn begins before it in its block and
-/// no block of memory is made behind it there, until the function has 2,000 lines more, or as many registers, blocks or as much weight as it may have. It takes
+/// no block of memory is made behind it there, until the function has 2,000 lines more, or as many registers, blocks or as much weight as it may have; calls that the candidates make stay. It takes
 /// time and memory as the function and the lines that come are long.
 ///
 /// # Errors

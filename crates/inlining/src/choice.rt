@@ -37,17 +37,11 @@ fn callee_of(targets: &[Target], inst: &Inst) -> Option<usize> {
 struct Candidate {
     /// how many instructions it has
     size: usize,
-    /// in how many places it is called by name
+    /// in how many places it is called by name, those in itself among them
     calls: u32,
-    /// whether one of these is in itself
-    is_recursive: bool,
 }
 
-const UNMEASURED: Candidate = Candidate {
-    size: 0,
-    calls: 0,
-    is_recursive: false,
-};
+const UNMEASURED: Candidate = Candidate { size: 0, calls: 0 };
 
 /// How many instructions the function has.
 fn size_of(function: &Func) -> usize {
@@ -58,41 +52,35 @@ fn size_of(function: &Func) -> usize {
     size
 }
 
-/// Counts what an instruction of the function with the number `caller` calls by name.
-fn count_call(candidates: &mut [Candidate], targets: &[Target], caller: usize, inst: &Inst) {
+/// Counts what an instruction calls by name.
+fn count_call(candidates: &mut [Candidate], targets: &[Target], inst: &Inst) {
     if let Some(number) = callee_of(targets, inst) {
         if let Some(candidate) = candidates.get_mut(number) {
             candidate.calls = candidate.calls.saturating_add(1);
-            candidate.is_recursive = candidate.is_recursive || number == caller;
         }
     }
 }
 
-fn count_in_block(candidates: &mut [Candidate], targets: &[Target], caller: usize, block: &Block) {
+fn count_in_block(candidates: &mut [Candidate], targets: &[Target], block: &Block) {
     for inst in block.insts.as_slice() {
-        count_call(candidates, targets, caller, &inst.item);
+        count_call(candidates, targets, &inst.item);
     }
 }
 
-fn count_in_function(
-    candidates: &mut [Candidate],
-    targets: &[Target],
-    caller: usize,
-    function: &Func,
-) {
+fn count_in_function(candidates: &mut [Candidate], targets: &[Target], function: &Func) {
     for block in function.blocks.as_slice() {
-        count_in_block(candidates, targets, caller, block);
+        count_in_block(candidates, targets, block);
     }
 }
 
 /// Measures all functions, and counts the calls by name in them.
 fn measure(candidates: &mut [Candidate], linked: &Linked<'_>) {
-    for (caller, function) in linked.functions.as_slice().iter().enumerate() {
-        if let Some(candidate) = candidates.get_mut(caller) {
+    for (number, function) in linked.functions.as_slice().iter().enumerate() {
+        if let Some(candidate) = candidates.get_mut(number) {
             candidate.size = size_of(function.item);
         }
         if let Some(targets) = linked.targets.as_slice().get(function.text) {
-            count_in_function(candidates, targets.as_slice(), caller, function.item);
+            count_in_function(candidates, targets.as_slice(), function.item);
         }
     }
 }
@@ -175,12 +163,12 @@ fn worthy_of(alloc: Global, candidates: &[Candidate]) -> Result<Vec<bool>, Alloc
     let limits = limits_of(alloc, candidates)?;
     let mut worthy = Vec::with_capacity(alloc, candidates.len())?;
     for candidate in candidates {
-        worthy.push(is_small(limits, candidate) && !candidate.is_recursive)?;
+        worthy.push(is_small(limits, candidate))?;
     }
     Ok(worthy)
 }
 
-/// For each function of a program, whether it is called by name, in so many places that not too many instructions come by that in all, and not by itself.
+/// For each function of a program, whether it is called by name, in so many places that not too many instructions come by that in all. One that calls itself is done in place in itself, too: so a recursion enters fewer calls.
 ///
 /// # Errors
 ///

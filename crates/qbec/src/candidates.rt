@@ -139,7 +139,7 @@ fn candidates_over(
 }
 
 /// For each text of a program and each name of the text, the candidate that it means, if it means one: a function of the same text that makes no block of memory and
-/// doesn't call itself, and that is short or called in one place alone. Calls of such functions are in place in it, at most one in another.
+/// that is short or called in one place alone. Calls of such functions are in place in it, its own among them, at most one in another.
 ///
 /// # Errors
 ///

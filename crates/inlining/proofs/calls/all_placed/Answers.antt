@@ -2,5 +2,5 @@ use Rattle.std.proofs.Common.{arith}
 use Rattle.std.proofs.lemmas.Grind.{common_steps}
 use Rattle.inlining.proofs.calls.all_placed.Goals as goal
 
-pub loop-at-preserved : goal.loop-at-preserved
-loop-at-preserved c = grind (arith, common_steps)
+pub loop-next-preserved : goal.loop-next-preserved
+loop-next-preserved c = grind (arith, common_steps)
