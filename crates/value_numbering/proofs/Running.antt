@@ -61,12 +61,11 @@ use Rattle.value_numbering.proofs.Narrowing.{narrow_same}
 use Rattle.value_numbering.specs.Extensions.{other_way}
 use Rattle.value_numbering.proofs.Extending.{itself_same, reloaded_same, gives_one}
 use Rattle.value_numbering.specs.Narrow.{IsNarrow}
-use Rattle.value_numbering.specs.Regrouped.{Adds, IsSum, InOrder, Turned, IsRegrouped}
-use Rattle.value_numbering.specs.Offsets.{IsOffset}
+use Rattle.value_numbering.specs.Regrouped.{is_sum, Adds, IsSum, InOrder, Turned, IsRegrouped}
 use Rattle.value_numbering.proofs.Regrouping.{turned as sum_turned, regrouped}
 use Rattle.value_numbering.specs.Shifts.{IsHalfway}
 use Rattle.value_numbering.proofs.Shifting.{less_back}
-use Rattle.value_numbering.specs.Reused.{Holds, Found, Already, Counted, Made, Itself, Copy, Narrow, FirstRegrouped, SecondRegrouped, FirstOffset, SecondOffset, Halfway, Reloaded, Again, claims_at, order_of, before, next, is_least, is_most, at_least, at_most, order_met, order_missed, IsKnown, Listed, OfCopies, Bounded, Above, holds_word, is_limit, limits, bounds, exceeds, AllKnown, LeadsWell, AreReused, AllReused}
+use Rattle.value_numbering.specs.Reused.{Holds, Found, Already, Counted, Made, Itself, Copy, Narrow, FirstRegrouped, SecondRegrouped, Halfway, Reloaded, Again, claims_at, order_of, before, next, is_least, is_most, at_least, at_most, order_met, order_missed, IsKnown, Listed, OfCopies, Bounded, Above, holds_word, is_limit, limits, bounds, exceeds, AllKnown, LeadsWell, AreReused, AllReused}
 use Rattle.il_ast.proofs.Truth.{equal_turned}
 
 -- ---- all facts are true
@@ -362,7 +361,7 @@ linear_same globals m values facts all (Operated (Reg Add) a b) l h = by (beyond
   where
     by : (o : Option Expression) → beyond a (product_of facts b) ≡ o → first_of o (beyond b (product_of facts a)) ≡ Some l → gives globals m values l ≡ gives globals m values (Operated (Reg Add) a b)
     by (Some k) e h = beyond_same globals m values facts all a b (product_of facts b) refl l (e ∙ h)
-    by None e h = beyond_same globals m values facts all b a (product_of facts a) refl l h ∙ ap Gives (sum_turned m (value_of globals values b) (value_of globals values a))
+    by None e h = beyond_same globals m values facts all b a (product_of facts a) refl l h ∙ ap Gives (sum_turned m (Reg Add) refl (value_of globals values b) (value_of globals values a))
 linear_same globals m values facts all (Operated (Reg Sub) a b) l h = absurd (let no : ⊥ = cc in no)
 linear_same globals m values facts all (Operated (Reg Sll) a b) l h = absurd (let no : ⊥ = cc in no)
 linear_same globals m values facts all (Operated (Reg Slt) a b) l h = absurd (let no : ⊥ = cc in no)
@@ -526,31 +525,25 @@ holds_true globals m values facts r e all (Counted {l = l} is found) =
     sym (linear_same globals m values facts all e l is) ∙ true_at globals m values facts found.0 (record { register = r; value = l }) all found.1
 
 -- a register that is known to hold a sum holds it
-adds_true : (globals : List Value) (m : Memory) (values : Values ℕ) (facts : List Fact) (r : ℕ) (a b : Operand ℕ) → AreTrue globals m values facts → Adds facts r a b → values r ≡ operated m (Reg Add) (value_of globals values a) (value_of globals values b)
-adds_true globals m values facts r a b all is =
-    gives_one (values r) (operated m (Reg Add) (value_of globals values a) (value_of globals values b)) (sym (true_at globals m values facts is.0 (record { register = r; value = Operated (Reg Add) a b }) all is.1))
+adds_true : (globals : List Value) (m : Memory) (values : Values ℕ) (facts : List Fact) (op : Operation) (r : ℕ) (a b : Operand ℕ) → AreTrue globals m values facts → Adds facts op r a b → values r ≡ operated m op (value_of globals values a) (value_of globals values b)
+adds_true globals m values facts op r a b all is =
+    gives_one (values r) (operated m op (value_of globals values a) (value_of globals values b)) (sym (true_at globals m values facts is.0 (record { register = r; value = Operated op a b }) all is.1))
 
-sum_true : (globals : List Value) (m : Memory) (values : Values ℕ) (facts : List Fact) (r : ℕ) (a b : Operand ℕ) → AreTrue globals m values facts → IsSum facts r a b → values r ≡ operated m (Reg Add) (value_of globals values a) (value_of globals values b)
-sum_true globals m values facts r a b all (InOrder is) = adds_true globals m values facts r a b all is
-sum_true globals m values facts r a b all (Turned is) = adds_true globals m values facts r b a all is ∙ sum_turned m (value_of globals values b) (value_of globals values a)
+sum_true : (globals : List Value) (m : Memory) (values : Values ℕ) (facts : List Fact) (op : Operation) (r : ℕ) (a b : Operand ℕ) → is_sum op ≡ true → AreTrue globals m values facts → IsSum facts op r a b → values r ≡ operated m op (value_of globals values a) (value_of globals values b)
+sum_true globals m values facts op r a b adds all (InOrder is) = adds_true globals m values facts op r a b all is
+sum_true globals m values facts op r a b adds all (Turned is) = adds_true globals m values facts op r b a all is ∙ sum_turned m op adds (value_of globals values b) (value_of globals values a)
 
 -- so a sum of three may be added in another order
-regrouped_true : (globals : List Value) (m : Memory) (values : Values ℕ) (n : ℕ) (facts : List Fact) (y added part rest : ℕ) → AreTrue globals m values facts → IsRegrouped n facts y added part rest
-    → operated m (Reg Add) (values part) (values rest) ≡ operated m (Reg Add) (values y) (values added)
-regrouped_true globals m values n facts y added part rest all is =
-    ap (λ (x : Option Value). operated m (Reg Add) x (values rest))
-    (sum_true globals m values facts part (At is.kept) (copied facts (At added)) all is.known ∙ ap (λ (x : Option Value). operated m (Reg Add) (values is.kept) x) (copied_same globals m values facts all (At added)))
-    ∙ regrouped m (values is.kept) (values added) (values rest)
-    ∙ ap (λ (x : Option Value). operated m (Reg Add) x (values added)) (sym (sum_true globals m values facts y (At is.kept) (At rest) all is.sum))
-
--- so a number may be added last
-offset_true : (globals : List Value) (m : Memory) (values : Values ℕ) (n : ℕ) (facts : List Fact) (y added part k : ℕ) → AreTrue globals m values facts → IsOffset n facts y added part k
-    → operated m (Reg Add) (values part) (number k) ≡ operated m (Reg Add) (values y) (values added)
-offset_true globals m values n facts y added part k all is =
-    ap (λ (x : Option Value). operated m (Reg Add) x (number k))
-    (sum_true globals m values facts part (At is.kept) (copied facts (At added)) all is.known ∙ ap (λ (x : Option Value). operated m (Reg Add) (values is.kept) x) (copied_same globals m values facts all (At added)))
-    ∙ regrouped m (values is.kept) (values added) (number k)
-    ∙ ap (λ (x : Option Value). operated m (Reg Add) x (values added)) (sym (adds_true globals m values facts y (At is.kept) (Number k) all is.sum))
+regrouped_true : (globals : List Value) (m : Memory) (values : Values ℕ) (n : ℕ) (facts : List Fact) (op : Operation) (y part : ℕ) (added rest : Operand ℕ) → AreTrue globals m values facts → IsRegrouped n facts op (source facts y) added part rest
+    → operated m op (values part) (value_of globals values rest) ≡ operated m op (values y) (value_of globals values added)
+regrouped_true globals m values n facts op y part added rest all is =
+    let a : Option Value = value_of globals values added in
+    let o : Option Value = value_of globals values rest in
+    let k : Option Value = value_of globals values is.kept in
+    ap (λ (x : Option Value). operated m op x o)
+    (sum_true globals m values facts op part is.kept (copied facts added) is.adds all is.known ∙ ap (λ (x : Option Value). operated m op k x) (copied_same globals m values facts all added))
+    ∙ regrouped m op is.adds k a o
+    ∙ ap (λ (x : Option Value). operated m op x a) (sym (sum_true globals m values facts op (source facts y) is.kept rest is.adds all is.sum) ∙ source_same globals m values facts all y)
 
 -- so an extension that is shifted to the left is what it was halfway, shifted back by less
 halfway_true : (globals : List Value) (m : Memory) (values : Values ℕ) (n : ℕ) (facts : List Fact) (y by whole rest : ℕ) → AreTrue globals m values facts → IsHalfway n facts (source facts y) by whole rest
@@ -571,17 +564,14 @@ halfway_true globals m values n facts y by whole rest all is =
 made_same : (globals : List Value) (m : Memory) (values : Values ℕ) (n : ℕ) (facts : List Fact) (l k : Line ℕ) → AreTrue globals m values facts → Made n facts l k
     → (act globals m values k ≡ act globals m values l) × (line_writes k ≡ line_writes l)
 made_same globals m values n facts l k all Itself = (refl, refl)
-made_same globals m values n facts l k all (Copy {f = f} {r = r} is dear low known) =
+made_same globals m values n facts l k all (Copy {f = f} {r = r} is low known) =
     let does = computes globals m values l f is in (
       sym (holds_true globals m values facts r (canonical facts f.value) all known) ∙ canonical_same globals m values facts all f.value ∙ sym does.0,
       sym does.1,
     )
-made_same globals m values n facts l k all (FirstRegrouped {y = y} {added = added} {part = part} {rest = rest} is) = (ap Gives (regrouped_true globals m values n facts y added part rest all is), refl)
-made_same globals m values n facts l k all (SecondRegrouped {y = y} {added = added} {part = part} {rest = rest} is) =
-    (ap Gives (regrouped_true globals m values n facts y added part rest all is ∙ sum_turned m (values y) (values added)), refl)
-made_same globals m values n facts l k all (FirstOffset {y = y} {added = added} {part = part} {number = j} is) = (ap Gives (offset_true globals m values n facts y added part j all is), refl)
-made_same globals m values n facts l k all (SecondOffset {y = y} {added = added} {part = part} {number = j} is) =
-    (ap Gives (offset_true globals m values n facts y added part j all is ∙ sum_turned m (values y) (values added)), refl)
+made_same globals m values n facts l k all (FirstRegrouped {op = op} {y = y} {part = part} {added = added} {rest = rest} is) = (ap Gives (regrouped_true globals m values n facts op y part added rest all is), refl)
+made_same globals m values n facts l k all (SecondRegrouped {op = op} {y = y} {part = part} {added = added} {rest = rest} is) =
+    (ap Gives (regrouped_true globals m values n facts op y part added rest all is ∙ sum_turned m op is.adds (values y) (value_of globals values added)), refl)
 made_same globals m values n facts l k all (Halfway {y = y} {by = by} {whole = whole} {rest = rest} is) = (ap Gives (halfway_true globals m values n facts y by whole rest all is), refl)
 made_same globals m values n facts l k all (Reloaded {to = to} {y = y} {k = number} {o = o} {op = op} {at = at} is) =
     let value : Expression = canonical facts (Operated o (At y) (Number number)) in (
@@ -999,12 +989,10 @@ writes_same n facts l k Itself = refl
 writes_same n facts l k (Narrow is low) = refl
 writes_same n facts l k (FirstRegrouped is) = refl
 writes_same n facts l k (SecondRegrouped is) = refl
-writes_same n facts l k (FirstOffset is) = refl
-writes_same n facts l k (SecondOffset is) = refl
 writes_same n facts l k (Halfway is) = refl
 writes_same n facts l k (Reloaded is) = refl
 writes_same n facts l k (Again {k = j} first second) = writes_same n facts j k second ∙ writes_same n facts l j first
-writes_same n facts l k (Copy {f = f} is dear low known) = sym (computes [] [] (λ r. None) l f is).1
+writes_same n facts l k (Copy {f = f} is low known) = sym (computes [] [] (λ r. None) l f is).1
 
 line_follows : (marks : List Bool) (claims : List (List Fact)) (n : ℕ) (facts : List Fact) (l k : Line ℕ) → keeps_marks marks l ≡ true → Made n facts l k → Alike (claimed (known marks claims)) facts (after k facts) l k
 line_follows marks claims n facts l k keeps made =
@@ -1308,7 +1296,7 @@ module _ (n : ℕ) (marks : List Bool) (claims : List (List Fact)) (v w : Code �
           refl,
           subst (λ (i : ℕ). Follows (claimed (known marks claims)) v w (claims_at claims i) b.lines b.jump c.lines c.jump) (let z : from ≡ from + 0 = omega arith in z)
               (subst (λ (x : Block ℕ). Follows (claimed (known marks claims)) v w (claims_at claims from) x.lines x.jump c.lines c.jump) same
-              (subst (λ (x : Jump ℕ). Follows (claimed (known marks claims)) v w (claims_at claims from) d.lines d.jump c.lines x) (sym all.0.0) (lines_follow (claims_at claims from) d.lines c.lines d.jump own.0 all.0.1))),
+              (subst (λ (x : Jump ℕ). Follows (claimed (known marks claims)) v w (claims_at claims from) d.lines d.jump c.lines x) (sym all.0.0) (lines_follow (claims_at claims from) d.lines c.lines d.jump own.0 all.0.1.1))),
         ),
       )
   block_follows from (d ∷ blocks) (c ∷ new) keep all (suc k) b e =

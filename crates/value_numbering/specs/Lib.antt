@@ -1,7 +1,6 @@
 pub mod Extensions
 pub mod Known
 pub mod Narrow
-pub mod Offsets
 pub mod Regrouped
 pub mod Reused
 pub mod Shifts

@@ -8,12 +8,13 @@ use Rattle.vcode.specs.declared.line.Line.TheVariants.{Set, Operate, Load, Store
 use Rattle.vcode.specs.declared.line.Operation.{Operation}
 use Rattle.vcode.specs.declared.line.Operation.TheVariants.{Reg}
 use Rattle.rv_isa.specs.declared.instruction.LoadOp.{LoadOp}
-use Rattle.rv_isa.specs.declared.instruction.RegOp.TheVariants.{Add, Sll, Srl}
+use Rattle.rv_isa.specs.declared.instruction.RegOp.TheVariants.{Sll, Srl}
 use Rattle.vcode.specs.declared.line.Jump.{Jump}
 use Rattle.vcode.specs.declared.line.Jump.TheVariants.{Goto, Branch, Return, Halt}
 use Rattle.vcode.specs.declared.code.Block.{Block}
+use Rattle.vcode.specs.Cost.{is_paid}
 use Rattle.value_numbering.specs.declared.fact.Expression.{Expression}
-use Rattle.value_numbering.specs.declared.fact.Expression.TheVariants.{Same, Operated, Extended, Loaded, Growing}
+use Rattle.value_numbering.specs.declared.fact.Expression.TheVariants.{Operated, Growing}
 use Rattle.value_numbering.specs.declared.fact.Fact.{Fact}
 use Rattle.il_ast.specs.declared.operation.Size.{Size}
 use Rattle.vcode.specs.declared.place.Address.{Address}
@@ -28,20 +29,7 @@ use Rattle.value_numbering.specs.Steps.{linear_in, stands, is_word, after}
 use Rattle.value_numbering.specs.Narrow.{IsNarrow}
 use Rattle.value_numbering.specs.Extensions.{IsItself, IsReloaded}
 use Rattle.value_numbering.specs.Regrouped.{IsRegrouped}
-use Rattle.value_numbering.specs.Offsets.{IsOffset}
 use Rattle.value_numbering.specs.Shifts.{IsHalfway}
-
-abbrev pub is_no_number : Operand ℕ → Bool
-is_no_number (Number n) = false
-is_no_number a = true
-
--- a copy costs no more than it does
-abbrev pub is_dear : Expression → Bool
-is_dear (Same a) = false
-is_dear (Operated op a b) = true
-is_dear (Extended op a n) = true
-is_dear (Loaded op a d) = is_no_number a
-is_dear e = false
 
 -- the register holds what the expression gives
 pub data Holds (facts : List Fact) (r : ℕ) (e : Expression) : Type 0 where
@@ -51,16 +39,14 @@ pub data Holds (facts : List Fact) (r : ℕ) (e : Expression) : Type 0 where
 
 -- a line itself; or a copy of a register of the function that holds what the line computes; or a
 -- store of a register that has the bits that are stored; or a sum of three, of which the sum of two
--- is known, or to which a number is added last; or an extension that is shifted to the left, as what
+-- is known; or an extension that is shifted to the left, as what
 -- it was halfway, shifted back by less; or an extension of what was loaded, as another load; or one of these in the place of another
 pub data Made (registers : ℕ) (facts : List Fact) : Line ℕ → Line ℕ → Type 0 where
   Itself : {l : Line ℕ} → Made registers facts l l
-  Copy : {l : Line ℕ} {f : Fact} {r : ℕ} → computed l ≡ Some f → is_dear f.value ≡ true → r < registers → Holds facts r (canonical facts f.value) → Made registers facts l (Set f.register (At r))
+  Copy : {l : Line ℕ} {f : Fact} {r : ℕ} → computed l ≡ Some f → r < registers → Holds facts r (canonical facts f.value) → Made registers facts l (Set f.register (At r))
   Narrow : {size : Size} {a : Operand ℕ} {at : Address ℕ} {q : ℕ} → IsNarrow facts size a q → q < registers → Made registers facts (Store size a at) (Store size (At q) at)
-  FirstRegrouped : {to y added part rest : ℕ} → IsRegrouped registers facts y added part rest → Made registers facts (Operate to (Reg Add) (At y) (At added)) (Operate to (Reg Add) (At part) (At rest))
-  SecondRegrouped : {to y added part rest : ℕ} → IsRegrouped registers facts y added part rest → Made registers facts (Operate to (Reg Add) (At added) (At y)) (Operate to (Reg Add) (At part) (At rest))
-  FirstOffset : {to y added part number : ℕ} → IsOffset registers facts y added part number → Made registers facts (Operate to (Reg Add) (At y) (At added)) (Operate to (Reg Add) (At part) (Number number))
-  SecondOffset : {to y added part number : ℕ} → IsOffset registers facts y added part number → Made registers facts (Operate to (Reg Add) (At added) (At y)) (Operate to (Reg Add) (At part) (Number number))
+  FirstRegrouped : {op : Operation} {to y part : ℕ} {added rest : Operand ℕ} → IsRegrouped registers facts op (source facts y) added part rest → Made registers facts (Operate to op (At y) added) (Operate to op (At part) rest)
+  SecondRegrouped : {op : Operation} {to y part : ℕ} {added rest : Operand ℕ} → IsRegrouped registers facts op (source facts y) added part rest → Made registers facts (Operate to op added (At y)) (Operate to op (At part) rest)
   Halfway : {to y by whole rest : ℕ} → IsHalfway registers facts (source facts y) by whole rest → Made registers facts (Operate to (Reg Sll) (At y) (Number by)) (Operate to (Reg Srl) (At whole) (Number rest))
   Reloaded : {to y k : ℕ} {o : Operation} {op : LoadOp} {at : Address ℕ} → IsReloaded registers facts (canonical facts (Operated o (At y) (Number k))) op at → Made registers facts (Operate to o (At y) (Number k)) (Load to op at)
   Again : {l k m : Line ℕ} → Made registers facts l k → Made registers facts k m → Made registers facts l m
@@ -177,11 +163,13 @@ AreReused registers marks claims facts (l ∷ lines) [] j = ⊥
 AreReused registers marks claims facts (l ∷ lines) (m ∷ new) j =
     Made registers facts l m × AreReused registers marks claims (after m facts) lines new j
 
--- a block before which what is claimed of it is known
+-- a block before which what is claimed of it is known, and which its ticks pay for
 abbrev pub IsReused : (registers : ℕ) → (marks : List Bool) → List (List Fact) → ℕ →
     (b d : Block ℕ) → Type 0
 IsReused registers marks claims k b d =
-    (d.jump ≡ b.jump) × AreReused registers marks claims (claims_at claims k) b.lines d.lines b.jump
+    (d.jump ≡ b.jump)
+    × ((is_paid d ≡ true)
+    × AreReused registers marks claims (claims_at claims k) b.lines d.lines b.jump)
 
 -- blocks from this one on
 abbrev pub AllReused : (registers : ℕ) → (marks : List Bool) → List (List Fact) → ℕ →

@@ -34,7 +34,7 @@ pub(crate) fn source(facts: &[Fact], register: u32) -> u32
     register
 }
 
-fn copied(facts: &[Fact], operand: Operand<u32>) -> Operand<u32>
+pub(crate) fn copied(facts: &[Fact], operand: Operand<u32>) -> Operand<u32>
     ensures { result ≡ copied facts.now operand }
 {
     match operand {

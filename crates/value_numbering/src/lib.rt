@@ -1,7 +1,7 @@
 //! # Value numbering
 //!
 //! A pass on virtual code. [`reuse::reuse_values`] walks over each block with what registers are known to hold: what another does, what an operation on registers and numbers gives, what a load
-//! gave (`specs/Known`). A line that computes what a register holds already becomes a copy of that register (`specs/Reused`). A sum of three registers is added in another order where the sum of two of them is known, as `code_motion` sets it in front of a loop (`specs/Regrouped`); and a number last where the sum of the two registers is known (`specs/Offsets`), so that it becomes the offset of an address. An extension by zeros that is shifted to the left is shifted back by less (`specs/Shifts`). An extension of what is extended so already is a copy, and one of what was loaded is another load (`specs/Extensions`). A store of a value that was masked or extended, no wider than that left it, stores what it was made of (`specs/Narrow`). A fact stays until a register that it names is written, or, if it asks memory, memory
+//! gave (`specs/Known`). A line that computes what a register holds already becomes a copy of that register (`specs/Reused`). A sum of three, of longs or of words, is added in another order where the sum of two of them is known (`specs/Regrouped`), as `code_motion` sets it in front of a loop; and a number last where the sum of the two registers is known, so that it becomes the offset of an address. A block whose ticks wouldn't pay for its new lines gets those alone that cost no more. An extension by zeros that is shifted to the left is shifted back by less (`specs/Shifts`). An extension of what is extended so already is a copy, and one of what was loaded is another load (`specs/Extensions`). A store of a value that was masked or extended, no wider than that left it, stores what it was made of (`specs/Narrow`). A fact stays until a register that it names is written, or, if it asks memory, memory
 //! is changed.
 //!
 //! What is linear in a register stays known where that register grows by a number, or the one that holds it (`specs/Steps`): with another offset. So a register that `code_motion` adds to, beside a
@@ -21,7 +21,6 @@ mod fact;
 mod known;
 mod lines;
 mod narrow;
-mod offsets;
 mod open;
 mod regroup;
 mod repeats;

@@ -3,24 +3,22 @@ ghost use Rattle.std.specs.Prelude.{◌≡◌, ◌<◌, ℕ, Bool, List, true, I
 ghost use Rattle.vcode.specs.declared.line.Jump.{Jump as AJump};
 ghost use Rattle.value_numbering.specs.declared.fact.Fact.{Fact as AFact};
 ghost use Rattle.value_numbering.specs.Known.{canonical};
-ghost use Rattle.value_numbering.specs.Reused.{is_dear, is_no_number, Holds, Made, LeadsWell, AreReused};
+ghost use Rattle.value_numbering.specs.Reused.{Holds, Made, LeadsWell, AreReused};
 
 use crate::extensions::{itself, reloaded_line};
 use crate::fact::{Expression, Fact, computed};
 use crate::known::{canonical, holder};
 use crate::narrow::narrow;
-use crate::offsets::offset_line;
 use crate::regroup::regrouped_line;
 use crate::shifts::halfway_line;
 use crate::steps::{linear_in, pass};
 use rv_isa::instruction::RegOp;
 use std::alloc::{AllocError, Global};
+use vcode::cost::line_cost;
 use vcode::line::{Line, Operation};
 use vcode::place::Operand;
 
-fn is_no_number(operand: Operand<u32>) -> bool
-    ensures { result ≡ is_no_number operand }
-{
+fn is_no_number(operand: Operand<u32>) -> bool {
     match operand {
         Operand::Number(_) => false,
         _ => true,
@@ -28,9 +26,7 @@ fn is_no_number(operand: Operand<u32>) -> bool
 }
 
 /// Whether a copy costs no more.
-pub(crate) fn is_dear(value: Expression) -> bool
-    ensures { result ≡ is_dear value }
-{
+pub(crate) fn is_dear(value: Expression) -> bool {
     match value {
         Expression::Same(_) => false,
         Expression::Operated(_, _, _) | Expression::Extended(_, _, _) => true,
@@ -98,7 +94,6 @@ fn held(facts: &[Fact], registers: u32, value: &Expression) -> Option<u32>
 
 /// The register that holds what a line computes, if it is to be copied.
 fn reused(facts: &[Fact], registers: u32, fact: &Fact) -> Option<u32>
-    ensures dear { IfSome result (λ r. is_dear fact.now.value ≡ true) }
     ensures low { IfSome result (λ r. r < registers) }
     ensures holds { IfSome result (λ r. Holds facts.now r (canonical facts.now fact.now.value)) }
 {
@@ -150,21 +145,11 @@ fn narrower(facts: &[Fact], registers: u32, line: &Line<u32>) -> Option<Line<u32
     }
 }
 
-/// A sum that is added otherwise.
-fn other_sum(facts: &[Fact], registers: u32, line: &Line<u32>) -> Option<Line<u32>>
-    ensures { IfSome result (λ m. Made registers facts.now line.now m) }
-{
-    match regrouped_line(facts, registers, line) {
-        Some(sum) => Some(sum),
-        None => offset_line(facts, registers, line),
-    }
-}
-
 /// A line that computes the same of other registers, or loads it.
 fn other(facts: &[Fact], registers: u32, line: &Line<u32>) -> Option<Line<u32>>
     ensures { IfSome result (λ m. Made registers facts.now line.now m) }
 {
-    match other_sum(facts, registers, line) {
+    match regrouped_line(facts, registers, line) {
         Some(sum) => Some(sum),
         None => match halfway_line(facts, registers, line) {
             Some(shift) => Some(shift),
@@ -202,16 +187,33 @@ pub(crate) fn changed(facts: &[Fact], registers: u32, line: &Line<u32>) -> Optio
     }
 }
 
+/// The line that may stand in the place of one; where that is to be thrifty, only if it costs no more.
+fn cheap(facts: &[Fact], registers: u32, is_thrifty: bool, line: &Line<u32>) -> Option<Line<u32>>
+    ensures { IfSome result (λ m. Made registers facts.now line.now m) }
+{
+    match changed(facts, registers, line) {
+        Some(changed) => {
+            if is_thrifty && line_cost(&changed) > line_cost(line) {
+                None
+            } else {
+                Some(changed)
+            }
+        }
+        None => None,
+    }
+}
+
 /// A line, or one in its place that does the same.
 fn made(
     alloc: Global,
     facts: &[Fact],
     registers: u32,
+    is_thrifty: bool,
     line: &Line<u32>,
 ) -> Result<Line<u32>, AllocError>
     ensures { IfOk result (λ m. Made registers facts.now line.now m) }
 {
-    match changed(facts, registers, line) {
+    match cheap(facts, registers, is_thrifty, line) {
         Some(changed) => Ok(changed),
         None => line.try_clone(alloc),
     }
@@ -222,13 +224,14 @@ pub(crate) fn lines(
     alloc: Global,
     facts: &mut Vec<Fact>,
     registers: u32,
+    is_thrifty: bool,
     from: &[Line<u32>],
 ) -> Result<Vec<Line<u32>>, AllocError>
     ensures { IfOk result (λ v. (marks : List Bool) (claims : List (List AFact)) (j : AJump ℕ) → LeadsWell marks claims facts.new.items j → AreReused registers marks claims facts.old.items from.now v.items j) }
 {
     let mut all = Vec::with_capacity(alloc, from.len())?;
     for line in from {
-        let made = made(alloc, facts.as_slice(), registers, line)?;
+        let made = made(alloc, facts.as_slice(), registers, is_thrifty, line)?;
         pass(alloc, facts, &made)?;
         all.push(made)?;
     }

@@ -60,7 +60,11 @@ impl Open {
     /// Whether a value reads one.
     fn is_read(self, value: &Expression) -> bool {
         match value {
-            Expression::Operated(Operation::Reg(RegOp::Add), left, right) => {
+            Expression::Operated(
+                Operation::Reg(RegOp::Add) | Operation::RegW(RegWOp::Addw),
+                left,
+                right,
+            ) => {
                 let registers = self.copies.joined(self.sums);
                 is_in(registers, left) || is_in(registers, right)
             }

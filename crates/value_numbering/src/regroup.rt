@@ -1,39 +1,66 @@
 //! Sums whose summands are added in another order, one of two of them being known already.
-ghost use Rattle.std.specs.Prelude.{◌≡◌, ◌<◌, IfSome};
-ghost use Rattle.rv_isa.specs.declared.instruction.RegOp.TheVariants.{Add};
+ghost use Rattle.std.specs.Prelude.{◌≡◌, ◌<◌, true, IfSome};
+ghost use Rattle.vcode.specs.Named.{operand_keeps, is_below};
 ghost use Rattle.vcode.specs.declared.line.Line.TheVariants.{Operate};
-ghost use Rattle.vcode.specs.declared.line.Operation.TheVariants.{Reg};
 ghost use Rattle.vcode.specs.declared.place.Operand.TheVariants.{At};
 ghost use Rattle.value_numbering.specs.declared.fact.Expression.TheVariants.{Operated};
 ghost use Rattle.value_numbering.specs.Known.{copied};
-ghost use Rattle.value_numbering.specs.Regrouped.{Adds, IsSum, IsRegrouped};
+ghost use Rattle.value_numbering.specs.Regrouped.{is_sum, Adds, IsSum, IsRegrouped};
 ghost use Rattle.value_numbering.specs.Reused.{Made};
 
 use crate::fact::{Expression, Fact};
-use crate::known::{holder, source};
-use rv_isa::instruction::RegOp;
+use crate::known::{copied, holder, source};
+use crate::same::same_operation;
+use rv_isa::instruction::{RegOp, RegWOp};
+use vcode::cost::is_immediate;
 use vcode::line::{Line, Operation};
 use vcode::place::Operand;
 
-/// The two registers whose sum a value is.
-fn summands_of(value: Expression) -> Option<(u32, u32)>
-    ensures { IfSome result (λ both. value ≡ Operated (Reg Add) (At both.0) (At both.1)) }
+/// A register, and what is added to it.
+#[derive(Clone, Copy)]
+struct Pair {
+    part: u32,
+    rest: Operand<u32>,
+}
+
+/// Whether the operation adds: longs, or words.
+fn is_sum(operation: Operation) -> bool
+    ensures { result ≡ is_sum operation }
+{
+    match operation {
+        Operation::Reg(RegOp::Add) => true,
+        Operation::RegW(RegWOp::Addw) => true,
+        _ => false,
+    }
+}
+
+/// The two operands of which the operation gives a value.
+fn operands_of(operation: Operation, value: Expression) -> Option<(Operand<u32>, Operand<u32>)>
+    ensures { IfSome result (λ both. value ≡ Operated operation both.0 both.1) }
 {
     match value {
-        Expression::Operated(Operation::Reg(RegOp::Add), Operand::At(left), Operand::At(right)) => {
-            Some((left, right))
+        Expression::Operated(by, left, right) => {
+            if same_operation(by, operation) {
+                Some((left, right))
+            } else {
+                None
+            }
         }
         _ => None,
     }
 }
 
-/// The two registers whose sum the register is first known to hold.
-fn summands(facts: &[Fact], register: u32) -> Option<(u32, u32)>
-    ensures { IfSome result (λ both. Adds facts.now register (At both.0) (At both.1)) }
+/// The two operands whose sum the register is first known to hold.
+fn summands(
+    facts: &[Fact],
+    operation: Operation,
+    register: u32,
+) -> Option<(Operand<u32>, Operand<u32>)>
+    ensures { IfSome result (λ both. Adds facts.now operation register both.0 both.1) }
 {
     for fact in facts {
         if fact.register == register {
-            if let Some(both) = summands_of(fact.value) {
+            if let Some(both) = operands_of(operation, fact.value) {
                 return Some(both);
             }
         }
@@ -41,86 +68,187 @@ fn summands(facts: &[Fact], register: u32) -> Option<(u32, u32)>
     None
 }
 
-fn sum(left: u32, right: u32) -> Expression
-    ensures { result ≡ Operated (Reg Add) (At left) (At right) }
-{
-    Expression::Operated(
-        Operation::Reg(RegOp::Add),
-        Operand::At(left),
-        Operand::At(right),
-    )
-}
-
 /// A register of the function that is known to hold the sum of these two, in this order.
-fn in_order(facts: &[Fact], registers: u32, left: u32, right: u32) -> Option<u32>
+fn in_order(
+    facts: &[Fact],
+    registers: u32,
+    operation: &Operation,
+    left: &Operand<u32>,
+    right: &Operand<u32>,
+) -> Option<u32>
     ensures low { IfSome result (λ r. r < registers) }
-    ensures holds { IfSome result (λ r. Adds facts.now r (At left) (At right)) }
+    ensures holds { IfSome result (λ r. Adds facts.now operation.now r left.now right.now) }
 {
-    let value = sum(left, right);
+    let value = Expression::Operated(*operation, *left, *right);
     holder(facts, registers, &value)
 }
 
 /// ... in either order.
-fn in_any_order(facts: &[Fact], registers: u32, left: u32, right: u32) -> Option<u32>
+fn in_any_order(
+    facts: &[Fact],
+    registers: u32,
+    operation: &Operation,
+    left: &Operand<u32>,
+    right: &Operand<u32>,
+) -> Option<u32>
     ensures low { IfSome result (λ r. r < registers) }
-    ensures holds { IfSome result (λ r. IsSum facts.now r (At left) (At right)) }
+    ensures holds { IfSome result (λ r. IsSum facts.now operation.now r left.now right.now) }
 {
-    match in_order(facts, registers, left, right) {
+    match in_order(facts, registers, operation, left, right) {
         Some(register) => Some(register),
-        None => in_order(facts, registers, right, left),
+        None => in_order(facts, registers, operation, right, left),
     }
 }
 
-/// A register that is known to hold the sum of one of two registers and of what is added.
-fn part(facts: &[Fact], registers: u32, kept: u32, added: u32) -> Option<u32>
+/// A register that is known to hold the sum of one of two summands and of what is added.
+fn part(
+    facts: &[Fact],
+    registers: u32,
+    operation: &Operation,
+    kept: &Operand<u32>,
+    added: &Operand<u32>,
+) -> Option<u32>
     ensures low { IfSome result (λ r. r < registers) }
-    ensures holds { IfSome result (λ r. IsSum facts.now r (At kept) (copied facts.now (At added))) }
+    ensures holds { IfSome result (λ r. IsSum facts.now operation.now r kept.now (copied facts.now added.now)) }
 {
-    let other = source(facts, added);
-    in_any_order(facts, registers, kept, other)
+    let other = copied(facts, *added);
+    in_any_order(facts, registers, operation, kept, &other)
 }
 
-/// Two registers whose sum is that of `register`, which is the sum of two, and of `added`.
-fn regrouped(facts: &[Fact], registers: u32, register: u32, added: u32) -> Option<(u32, u32)>
-    ensures { IfSome result (λ both. IsRegrouped registers facts.now register added both.0 both.1) }
+/// Whether the operand names only registers of the function.
+fn is_low(registers: u32, operand: &Operand<u32>) -> bool
+    ensures { result ≡ operand_keeps (is_below registers) operand.now }
 {
-    let (left, right) = match summands(facts, register) {
+    match operand {
+        Operand::At(register) => *register < registers,
+        _ => true,
+    }
+}
+
+fn is_register(operand: &Operand<u32>) -> bool {
+    match operand {
+        Operand::At(_) => true,
+        _ => false,
+    }
+}
+
+/// Whether it is worth to add one operand to a register that has the sum of two others: a sum of a long and a number is part of an address, and that number is added last.
+fn is_better(
+    operation: &Operation,
+    kept: &Operand<u32>,
+    rest: &Operand<u32>,
+    added: &Operand<u32>,
+) -> bool {
+    let is_short = match rest {
+        Operand::Number(number) => is_immediate(*number),
+        _ => true,
+    };
+    match operation {
+        Operation::Reg(_) => is_short && is_register(kept) && is_register(added),
+        _ => is_short,
+    }
+}
+
+/// A register and an operand whose sum is that of `register`, which is the sum of two, and of what is added.
+fn regrouped_by(
+    facts: &[Fact],
+    registers: u32,
+    operation: &Operation,
+    register: u32,
+    kept: &Operand<u32>,
+    rest: &Operand<u32>,
+    added: &Operand<u32>,
+) -> Option<Pair>
+    requires adds { is_sum operation.now ≡ true }
+    requires sum { IsSum facts.now operation.now register kept.now rest.now }
+    ensures { IfSome result (λ p. IsRegrouped registers facts.now operation.now register added.now p.part p.rest) }
+{
+    if !is_low(registers, rest) || !is_better(operation, kept, rest, added) {
+        return None;
+    }
+    match part(facts, registers, operation, kept, added) {
+        Some(part) => Some(Pair { part, rest: *rest }),
+        None => None,
+    }
+}
+
+/// The same by either of the two whose sum the register is.
+fn regrouped(
+    facts: &[Fact],
+    registers: u32,
+    operation: &Operation,
+    register: u32,
+    added: &Operand<u32>,
+) -> Option<Pair>
+    requires { is_sum operation.now ≡ true }
+    ensures { IfSome result (λ p. IsRegrouped registers facts.now operation.now register added.now p.part p.rest) }
+{
+    let (left, right) = match summands(facts, *operation, register) {
         Some(both) => both,
         None => return None,
     };
-    if left >= registers || right >= registers {
-        return None;
-    }
-    match part(facts, registers, left, added) {
-        Some(part) => Some((part, right)),
-        None => match part(facts, registers, right, added) {
-            Some(part) => Some((part, left)),
-            None => None,
-        },
+    match regrouped_by(facts, registers, operation, register, &left, &right, added) {
+        Some(pair) => Some(pair),
+        None => regrouped_by(facts, registers, operation, register, &right, &left, added),
     }
 }
 
-fn added(to: u32, left: u32, right: u32) -> Line<u32>
-    ensures { result ≡ Operate to (Reg Add) (At left) (At right) }
+fn added(to: u32, operation: Operation, pair: Pair) -> Line<u32>
+    ensures { result ≡ Operate to operation (At pair.part) pair.rest }
 {
     Line::Operate {
         to,
-        operation: Operation::Reg(RegOp::Add),
-        left: Operand::At(left),
-        right: Operand::At(right),
+        operation,
+        left: Operand::At(pair.part),
+        right: pair.rest,
     }
 }
 
-/// The line with another register added to another, where they are known to give the sum of these.
-fn sum_line(facts: &[Fact], registers: u32, to: u32, left: u32, right: u32) -> Option<Line<u32>>
-    ensures { IfSome result (λ m. Made registers facts.now (Operate to (Reg Add) (At left) (At right)) m) }
+/// A line that adds in another order, by what its left operand is the sum of.
+fn by_left(
+    facts: &[Fact],
+    registers: u32,
+    to: u32,
+    operation: Operation,
+    left: Operand<u32>,
+    right: Operand<u32>,
+) -> Option<Line<u32>>
+    requires { is_sum operation ≡ true }
+    ensures { IfSome result (λ m. Made registers facts.now (Operate to operation left right) m) }
 {
-    match regrouped(facts, registers, left, right) {
-        Some((part, rest)) => Some(added(to, part, rest)),
-        None => match regrouped(facts, registers, right, left) {
-            Some((part, rest)) => Some(added(to, part, rest)),
-            None => None,
-        },
+    match left {
+        Operand::At(register) => {
+            let sum = source(facts, register);
+            match regrouped(facts, registers, &operation, sum, &right) {
+                Some(pair) => Some(added(to, operation, pair)),
+                None => None,
+            }
+        }
+        _ => None,
+    }
+}
+
+/// The same by what its right operand is the sum of.
+fn by_right(
+    facts: &[Fact],
+    registers: u32,
+    to: u32,
+    operation: Operation,
+    left: Operand<u32>,
+    right: Operand<u32>,
+) -> Option<Line<u32>>
+    requires { is_sum operation ≡ true }
+    ensures { IfSome result (λ m. Made registers facts.now (Operate to operation left right) m) }
+{
+    match right {
+        Operand::At(register) => {
+            let sum = source(facts, register);
+            match regrouped(facts, registers, &operation, sum, &left) {
+                Some(pair) => Some(added(to, operation, pair)),
+                None => None,
+            }
+        }
+        _ => None,
     }
 }
 
@@ -131,10 +259,18 @@ pub(crate) fn regrouped_line(facts: &[Fact], registers: u32, line: &Line<u32>) -
     match line {
         Line::Operate {
             to,
-            operation: Operation::Reg(RegOp::Add),
-            left: Operand::At(left),
-            right: Operand::At(right),
-        } => sum_line(facts, registers, *to, *left, *right),
+            operation,
+            left,
+            right,
+        } => {
+            if !is_sum(*operation) {
+                return None;
+            }
+            match by_left(facts, registers, *to, *operation, *left, *right) {
+                Some(sum) => Some(sum),
+                None => by_right(facts, registers, *to, *operation, *left, *right),
+            }
+        }
         _ => None,
     }
 }

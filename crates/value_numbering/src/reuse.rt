@@ -3,6 +3,7 @@ ghost use Rattle.std.specs.Prelude.{◌≡◌, ◌+◌, ℕ, List, [], true, map
 ghost use Rattle.il_ast.specs.Passes.{Keeps};
 ghost use Rattle.vcode.specs.declared.code.Block.{Block as ABlock};
 ghost use Rattle.vcode.specs.Coded.{virtual_code};
+ghost use Rattle.vcode.specs.Cost.{is_paid};
 ghost use Rattle.sign_extensions.specs.Whole.{are_closed};
 ghost use Rattle.value_numbering.specs.Reused.{claims_at, LeadsWell, IsReused, AllReused};
 
@@ -15,6 +16,7 @@ use il_ast::list::Seq;
 use sign_extensions::marks::whole_registers;
 use std::alloc::{AllocError, Global};
 use vcode::code::Block;
+use vcode::cost::is_paid;
 use vcode::function::VFunc;
 use vcode::line::Jump;
 
@@ -47,7 +49,45 @@ fn leads_well(marks: &[bool], claims: &[Seq<Fact>], facts: &[Fact], jump: &Jump<
     }
 }
 
-/// A block with copies in the place of lines; none where the claims are not right.
+/// The block, if its ticks pay for it.
+fn if_paid(block: Block<u32>) -> Option<Block<u32>>
+    ensures { IfSome result (λ d. (d ≡ block) × (is_paid d ≡ true)) }
+{
+    if is_paid(&block) { Some(block) } else { None }
+}
+
+/// A block with copies in the place of lines, and other lines that do the same; none where the claims are not right, or its ticks don't pay for them.
+fn block_by(
+    alloc: Global,
+    marks: &[bool],
+    claims: &[Seq<Fact>],
+    registers: u32,
+    number: usize,
+    is_thrifty: bool,
+    from: &Block<u32>,
+) -> Result<Option<Block<u32>>, AllocError>
+    ensures { IfOk result (λ o. IfSome o (λ d. IsReused registers marks.now claims.now number from.now d)) }
+{
+    let known = claims_at(claims, number);
+    let mut facts = Vec::with_capacity(alloc, known.len().saturating_add(from.lines.len()))?;
+    facts.extend_from_slice(known)?;
+    let lines = lines(
+        alloc,
+        &mut facts,
+        registers,
+        is_thrifty,
+        from.lines.as_slice(),
+    )?;
+    if !leads_well(marks, claims, facts.as_slice(), &from.jump) {
+        return Ok(None);
+    }
+    Ok(if_paid(Block {
+        lines: Seq::from_vec(lines),
+        jump: from.jump,
+    }))
+}
+
+/// The same; where that is none, with such lines alone as cost no more.
 fn block(
     alloc: Global,
     marks: &[bool],
@@ -58,17 +98,10 @@ fn block(
 ) -> Result<Option<Block<u32>>, AllocError>
     ensures { IfOk result (λ o. IfSome o (λ d. IsReused registers marks.now claims.now number from.now d)) }
 {
-    let known = claims_at(claims, number);
-    let mut facts = Vec::with_capacity(alloc, known.len().saturating_add(from.lines.len()))?;
-    facts.extend_from_slice(known)?;
-    let lines = lines(alloc, &mut facts, registers, from.lines.as_slice())?;
-    if !leads_well(marks, claims, facts.as_slice(), &from.jump) {
-        return Ok(None);
+    match block_by(alloc, marks, claims, registers, number, false, from)? {
+        Some(made) => Ok(Some(made)),
+        None => block_by(alloc, marks, claims, registers, number, true, from),
     }
-    Ok(Some(Block {
-        lines: Seq::from_vec(lines),
-        jump: from.jump,
-    }))
 }
 
 fn blocks(

@@ -7,9 +7,9 @@ use crate::choice::halves::plan_halves;
 use crate::choice::nests::plan_nests;
 use crate::choice::offsets::plan_offsets;
 use crate::choice::reads::count_reads;
-use crate::choice::written::{Spot, Written};
+use crate::choice::written::{Spot, Sum, Written};
 use crate::plan::{BlockPlan, Computation, Plan};
-use rv_isa::instruction::RegOp;
+use rv_isa::instruction::{RegOp, RegWOp};
 use std::alloc::{AllocError, Global};
 use vcode::code::Block;
 use vcode::cost::line_cost;
@@ -214,33 +214,43 @@ fn unchanged(
     }
 }
 
+/// Whether to add two summands in front of a loop saves an addition in it: the sum of words isn't read but by the one that is added otherwise.
+fn saves(written: &Written, operation: Operation, sum: u32) -> bool {
+    match operation {
+        Operation::RegW(_) => written.reads(sum) == 1,
+        _ => true,
+    }
+}
+
 fn part_of_sum(
     register: u32,
     written: &Written,
     before: usize,
+    operation: Operation,
     sum: u32,
     added: Operand<u32>,
 ) -> Option<Part> {
-    let (left, right) = written.summands(sum)?;
-    let (one, rest) = unchanged(written, &left, &right);
+    let of = written.summands(sum)?;
+    if of.operation != operation || !saves(written, operation, sum) {
+        return None;
+    }
+    let (one, rest) = unchanged(written, &of.left, &of.right);
     let other = written.in_front(added);
-    let plan = plan_of(before, register, Operation::Reg(RegOp::Add), one, other)?;
+    let plan = plan_of(before, register, operation, one, other)?;
     Some(Part { plan, sum, rest })
 }
 
-fn wanted_part(
-    register: u32,
-    written: &Written,
-    before: usize,
-    left: &Operand<u32>,
-    right: &Operand<u32>,
-) -> Option<Part> {
-    match (left, right) {
-        (Operand::At(one), Operand::At(other)) => {
-            match part_of_sum(register, written, before, *one, *right) {
+/// The same by either of the two that are added; of longs both are registers.
+fn wanted_part(register: u32, written: &Written, before: usize, of: &Sum) -> Option<Part> {
+    match (of.operation, of.left, of.right) {
+        (_, Operand::At(one), Operand::At(other)) => {
+            match part_of_sum(register, written, before, of.operation, one, of.right) {
                 Some(part) => Some(part),
-                None => part_of_sum(register, written, before, *other, *left),
+                None => part_of_sum(register, written, before, of.operation, other, of.left),
             }
+        }
+        (Operation::RegW(_), Operand::At(one), _) => {
+            part_of_sum(register, written, before, of.operation, one, of.right)
         }
         _ => None,
     }
@@ -263,12 +273,13 @@ fn sum_in_front(
     let Operand::At(sum) = sum else {
         return None;
     };
-    match written.summands(*sum)? {
-        (left, Operand::Number(number)) => Some(Computation {
+    let of = written.summands(*sum)?;
+    match (of.operation, of.right) {
+        (Operation::Reg(RegOp::Add), Operand::Number(number)) => Some(Computation {
             block: before,
             register,
-            operation: Operation::Reg(RegOp::Add),
-            left: written.in_front(left)?,
+            operation: of.operation,
+            left: written.in_front(of.left)?,
             right: Operand::Number(number),
         }),
         _ => None,
@@ -372,21 +383,60 @@ fn push_linear(
     Ok(())
 }
 
+/// Notes the sum of longs if it has a product.
+fn plan_linear(
+    plans: &mut Plans,
+    written: &Written,
+    place: Place,
+    to: u32,
+    of: &Sum,
+) -> Result<(), AllocError> {
+    match of.operation {
+        Operation::Reg(_) => push_linear(plans, written, place, to, &of.left, &of.right),
+        _ => Ok(()),
+    }
+}
+
 /// Plans the part of a sum that doesn't change, and notes the sum if it has a product.
 fn plan_part(
     plans: &mut Plans,
     written: &Written,
     place: Place,
     to: u32,
-    left: &Operand<u32>,
-    right: &Operand<u32>,
+    of: &Sum,
 ) -> Result<(), AllocError> {
-    if let Some(part) = wanted_part(plans.next, written, place.before, left, right) {
+    if let Some(part) = wanted_part(plans.next, written, place.before, of) {
         if let Some(register) = put_plan(plans, part.plan)? {
-            return push_part(plans, written, place, to, &part, register);
+            return match of.operation {
+                Operation::Reg(_) => push_part(plans, written, place, to, &part, register),
+                _ => Ok(()),
+            };
         }
     }
-    push_linear(plans, written, place, to, left, right)
+    plan_linear(plans, written, place, to, of)
+}
+
+/// What a line adds, and the register that takes that.
+fn sum_in(line: &Line<u32>) -> Option<(u32, Sum)> {
+    match line {
+        Line::Operate {
+            to,
+            operation,
+            left,
+            right,
+        } => match operation {
+            Operation::Reg(RegOp::Add) | Operation::RegW(RegWOp::Addw) => {
+                let sum = Sum {
+                    operation: *operation,
+                    left: *left,
+                    right: *right,
+                };
+                Some((*to, sum))
+            }
+            _ => None,
+        },
+        _ => None,
+    }
 }
 
 /// Plans the part of a sum that doesn't change, and notes what the line adds or multiplies.
@@ -396,17 +446,12 @@ fn plan_sum(
     place: Place,
     line: &Line<u32>,
 ) -> Result<(), AllocError> {
-    match line {
-        Line::Operate {
-            to,
-            operation: Operation::Reg(RegOp::Add),
-            left,
-            right,
-        } => {
-            plan_part(plans, written, place, *to, left, right)?;
-            written.add(*to, *left, *right)
+    match sum_in(line) {
+        Some((to, sum)) => {
+            plan_part(plans, written, place, to, &sum)?;
+            written.add(to, sum)
         }
-        _ => match product_of(written, line) {
+        None => match product_of(written, line) {
             Some((to, product)) => written.multiply(to, product),
             None => Ok(()),
         },

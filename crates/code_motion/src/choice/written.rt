@@ -18,10 +18,17 @@ struct Writes {
 /// What more is known of a register that the loop writes once.
 #[derive(Clone, Copy)]
 struct More {
-    /// what it is the sum of
-    sum: Option<(Operand<u32>, Operand<u32>)>,
+    sum: Option<Sum>,
     growth: Option<Growth>,
     product: Option<Product>,
+}
+
+/// What a register is the sum of, as longs or words by the operation.
+#[derive(Clone, Copy)]
+pub(crate) struct Sum {
+    pub(crate) operation: Operation,
+    pub(crate) left: Operand<u32>,
+    pub(crate) right: Operand<u32>,
 }
 
 /// A register that a loop adds a number to, once.
@@ -164,19 +171,17 @@ impl Written {
         }
     }
 
-    /// The register that the loop writes once is the sum of these.
+    /// The register that the loop writes once is this sum, of others.
     ///
     /// # Errors
     ///
     /// Only where memory was refused.
-    pub(crate) fn add(
-        &mut self,
-        register: u32,
-        left: Operand<u32>,
-        right: Operand<u32>,
-    ) -> Result<(), AllocError> {
+    pub(crate) fn add(&mut self, register: u32, sum: Sum) -> Result<(), AllocError> {
+        if sum.left == Operand::At(register) || sum.right == Operand::At(register) {
+            return Ok(());
+        }
         let mut more = self.more(register);
-        more.sum = Some((left, right));
+        more.sum = Some(sum);
         self.set_more(register, more)
     }
 
@@ -224,7 +229,7 @@ impl Written {
     }
 
     /// What the register is the sum of.
-    pub(crate) fn summands(&self, register: u32) -> Option<(Operand<u32>, Operand<u32>)> {
+    pub(crate) fn summands(&self, register: u32) -> Option<Sum> {
         self.more(register).sum
     }
 
