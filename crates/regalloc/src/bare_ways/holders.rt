@@ -98,55 +98,44 @@ fn clip(ranges: &mut Vec<Range>, range: Range, zones: &[Range]) -> Result<(), Al
     Ok(())
 }
 
-/// Where the register has a value in the zones; none where that takes too long to find.
-fn clipped(
-    alloc: Global,
-    ground: Ground,
-    fronts: &Fronts,
-    register: u32,
-) -> Result<Option<Vec<Range>>, AllocError> {
-    let all = ranges_of(ground.facts.intervals.as_slice(), register);
-    if MOST_RANGES < all.len() || ground.facts.starts.is_throughout(register) {
-        return Ok(None);
+/// What is looked at, with room for the ranges of one register.
+#[derive(Drop)]
+struct Look<'a> {
+    list: &'a [Location],
+    ground: Ground<'a>,
+    fronts: &'a Fronts,
+    ranges: Vec<Range>,
+}
+
+/// Finds where the register has a value in the zones; false where that takes too long.
+fn find_ranges(look: &mut Look, register: u32) -> Result<bool, AllocError> {
+    let facts = look.ground.facts;
+    let all = ranges_of(facts.intervals.as_slice(), register);
+    look.ranges.clear();
+    if MOST_RANGES < all.len() || facts.starts.is_throughout(register) {
+        return Ok(false);
     }
-    let mut ranges = Vec::new(alloc);
     for range in all {
-        clip(&mut ranges, *range, fronts.zones.as_slice())?;
+        clip(&mut look.ranges, *range, look.fronts.zones.as_slice())?;
     }
-    Ok(Some(ranges))
+    Ok(true)
 }
 
 /// Takes the register's own place, if that isn't in a frame; false where that takes too long.
-fn stay(
-    alloc: Global,
-    rooms: &mut Rooms,
-    list: &[Location],
-    ground: Ground,
-    fronts: &Fronts,
-    register: u32,
-) -> Result<bool, AllocError> {
-    match scratch_room(list, register) {
-        Some(room) => match clipped(alloc, ground, fronts, register)? {
-            Some(ranges) => {
-                rooms.take(room, ranges.as_slice());
-                Ok(true)
-            }
-            None => Ok(false),
-        },
+fn stay(rooms: &mut Rooms, look: &mut Look, register: u32) -> Result<bool, AllocError> {
+    match scratch_room(look.list, register) {
+        Some(room) => {
+            let is_found = find_ranges(look, register)?;
+            rooms.take(room, look.ranges.as_slice());
+            Ok(is_found)
+        }
         None => Ok(true),
     }
 }
 
-fn stay_all(
-    alloc: Global,
-    rooms: &mut Rooms,
-    holders: &Holders,
-    list: &[Location],
-    ground: Ground,
-    fronts: &Fronts,
-) -> Result<bool, AllocError> {
+fn stay_all(rooms: &mut Rooms, holders: &Holders, look: &mut Look) -> Result<bool, AllocError> {
     for register in holders.registers.iter() {
-        if !stay(alloc, rooms, list, ground, fronts, *register)? {
+        if !stay(rooms, look, *register)? {
             return Ok(false);
         }
     }
@@ -201,25 +190,22 @@ fn shared(holders: &Holders, list: &[Location], register: u32) -> Option<usize> 
 
 /// Gives the register one of the machine that callees needn't keep; false where none is free.
 fn hold(
-    alloc: Global,
     rooms: &mut Rooms,
     holders: &mut Holders,
-    list: &[Location],
-    ground: Ground,
-    fronts: &Fronts,
+    look: &mut Look,
     register: u32,
 ) -> Result<bool, AllocError> {
-    let Some(ranges) = clipped(alloc, ground, fronts, register)? else {
+    if !find_ranges(look, register)? {
         return Ok(false);
-    };
+    }
     let wishes = [
-        comes_in(ground, register),
-        shared(holders, list, register),
+        comes_in(look.ground, register),
+        shared(holders, look.list, register),
         holders.behind.get(register as usize).copied().flatten(),
     ];
-    match free_scratch(rooms, wishes.as_slice(), ranges.as_slice()) {
+    match free_scratch(rooms, wishes.as_slice(), look.ranges.as_slice()) {
         Some(room) => {
-            rooms.take(room, ranges.as_slice());
+            rooms.take(room, look.ranges.as_slice());
             set(holders.rooms.as_mut_slice(), register as usize, Some(room));
             Ok(true)
         }
@@ -227,28 +213,51 @@ fn hold(
     }
 }
 
-/// Gives registers of the machine to all whose own place is in a frame; says whether there are some, and each has one.
-fn hold_all(
-    alloc: Global,
-    rooms: &mut Rooms,
-    holders: &mut Holders,
-    list: &[Location],
-    ground: Ground,
-    fronts: &Fronts,
-) -> Result<bool, AllocError> {
-    let mut some = false;
+/// Gives registers of the machine to all whose own place is in a frame; says whether each has one.
+fn hold_all(rooms: &mut Rooms, holders: &mut Holders, look: &mut Look) -> Result<bool, AllocError> {
     for number in 0..holders.registers.len() {
         match holders.registers.get(number).copied() {
-            Some(register) if scratch_room(list, register).is_none() => {
-                some = true;
-                if !hold(alloc, rooms, holders, list, ground, fronts, register)? {
+            Some(register) if scratch_room(look.list, register).is_none() => {
+                if !hold(rooms, holders, look, register)? {
                     return Ok(false);
                 }
             }
             _ => {}
         }
     }
-    Ok(some)
+    Ok(true)
+}
+
+/// Whether some register has its own place in a frame.
+fn are_framed(holders: &Holders, list: &[Location]) -> bool {
+    for register in holders.registers.iter() {
+        if scratch_room(list, *register).is_none() {
+            return true;
+        }
+    }
+    false
+}
+
+/// Gives registers of the machine to what has a value in front of all calls; false where there are not enough for all.
+fn place_all(
+    alloc: Global,
+    holders: &mut Holders,
+    list: &[Location],
+    ground: Ground,
+    fronts: &Fronts,
+) -> Result<bool, AllocError> {
+    let mut rooms = Rooms::new(alloc, ground.facts.text.points())?;
+    let mut look = Look {
+        list,
+        ground,
+        fronts,
+        ranges: Vec::new(alloc),
+    };
+    if stay_all(&mut rooms, holders, &mut look)? {
+        hold_all(&mut rooms, holders, &mut look)
+    } else {
+        Ok(false)
+    }
 }
 
 /// Registers of the machine for what has a value in front of all calls and its own place in a frame; none where there is nothing of that, or not enough for all.
@@ -264,12 +273,11 @@ pub(crate) fn holders_of(
     begins: &[Begin],
 ) -> Result<Option<Holders>, AllocError> {
     let mut holders = found(alloc, ground, fronts)?;
-    let mut rooms = Rooms::new(alloc, ground.facts.text.points())?;
-    if !stay_all(alloc, &mut rooms, &holders, list, ground, fronts)? {
+    if !are_framed(&holders, list) {
         return Ok(None);
     }
     note_behind(&mut holders, fronts, begins);
-    if hold_all(alloc, &mut rooms, &mut holders, list, ground, fronts)? {
+    if place_all(alloc, &mut holders, list, ground, fronts)? {
         Ok(Some(holders))
     } else {
         Ok(None)
