@@ -11,4 +11,6 @@
 #![tactic(auto)]
 
 pub mod hoisting;
+mod points;
+mod reads;
 pub mod sinking;

@@ -13,6 +13,5 @@ pub mod choice;
 pub mod known;
 mod numbers;
 mod place;
-mod reads;
 pub mod sink;
 mod with_sets;

@@ -64,7 +64,7 @@ pub fn all_broken(alloc: Global, text: &Text) -> Result<Vec<BrokenRule>, AllocEr
     Ok(breaks.list)
 }
 
-/// How often each number is named, up to two times; what is told already counts as never.
+/// Counts how often a number is named, up to two times; what is told already counts as once.
 fn name(counts: &mut Vec<u8>, number: usize) {
     if let Some(count) = counts.get_mut(number) {
         *count = if *count == 0 { 1 } else { 2 };
@@ -75,11 +75,15 @@ fn name(counts: &mut Vec<u8>, number: usize) {
 fn take_repeated(counts: &mut Vec<u8>, number: usize) -> bool {
     match counts.get_mut(number) {
         Some(count) if *count > 1 => {
-            *count = 0;
+            *count = 1;
             true
         }
         _ => false,
     }
+}
+
+fn is_named(counts: &[u8], number: usize) -> bool {
+    counts.get(number).copied().unwrap_or(0) > 0
 }
 
 fn add_repeated_globals(alloc: Global, breaks: &mut Breaks, text: &Text) -> Result<(), AllocError> {
@@ -127,39 +131,27 @@ fn add_repeated_params(
 fn add_blocks(alloc: Global, breaks: &mut Breaks, function: &Func) -> Result<(), AllocError> {
     let blocks = function.blocks.as_slice();
     let mut counts = vec![in alloc; 0u8; function.labels.len()]?;
-    let mut known = vec![in alloc; false; function.labels.len()]?;
     for block in blocks {
         name(&mut counts, block.label.number());
-        know(&mut known, block.label.number());
     }
     let entry = entry_of(blocks, counts.as_slice());
     for (number, block) in blocks.iter().enumerate() {
         if take_repeated(&mut counts, block.label.number()) {
             breaks.add(Rule::DistinctLocals, block.line);
         }
-        add_phis(breaks, blocks, block, known.as_slice());
+        add_phis(breaks, blocks, block, counts.as_slice());
         add_insts(breaks, block, number == 0);
-        add_end(breaks, block, entry, known.as_slice());
+        add_end(breaks, block, entry, counts.as_slice());
     }
     Ok(())
 }
 
-fn know(known: &mut Vec<bool>, number: usize) {
-    if let Some(known) = known.get_mut(number) {
-        *known = true;
-    }
-}
-
-fn is_known(known: &[bool], number: usize) -> bool {
-    known.get(number).copied().unwrap_or(false)
-}
-
 /// Adds the phis that name labels that the function hasn't, and those that don't cover the predecessors.
-fn add_phis(breaks: &mut Breaks, blocks: &[Block], block: &Block, known: &[bool]) {
+fn add_phis(breaks: &mut Breaks, blocks: &[Block], block: &Block, counts: &[u8]) {
     for phi in block.phis.as_slice() {
         let mut is_unknown = false;
         for arg in phi.args.as_slice() {
-            is_unknown = is_unknown || !is_known(known, arg.from.number());
+            is_unknown = is_unknown || !is_named(counts, arg.from.number());
         }
         if is_unknown {
             breaks.add(Rule::KnownLabels, phi.line);
@@ -182,35 +174,20 @@ fn add_insts(breaks: &mut Breaks, block: &Block, is_entry: bool) {
 }
 
 /// Adds what is wrong with the end of a block.
-fn add_end(breaks: &mut Breaks, block: &Block, entry: Option<usize>, known: &[bool]) {
-    let jump = match &block.jump {
-        Some(jump) => jump,
-        None => {
-            breaks.add(Rule::LastBlockEnds, block.line);
-            return;
-        }
+fn add_end(breaks: &mut Breaks, block: &Block, entry: Option<usize>, counts: &[u8]) {
+    let Some(jump) = &block.jump else {
+        breaks.add(Rule::LastBlockEnds, block.line);
+        return;
     };
     let (one, other) = targets(block);
-    if let Some(label) = one {
-        add_target(breaks, jump.line, label.number(), entry, known);
-    }
-    if let Some(label) = other {
-        add_target(breaks, jump.line, label.number(), entry, known);
-    }
-}
-
-/// Adds what is wrong with the label that a jump leads to.
-fn add_target(
-    breaks: &mut Breaks,
-    line: usize,
-    label: usize,
-    entry: Option<usize>,
-    known: &[bool],
-) {
-    if !is_known(known, label) {
-        breaks.add(Rule::KnownLabels, line);
-    } else if Some(label) == entry {
-        breaks.add(Rule::EntryNotTarget, line);
+    for target in [one, other] {
+        if let Some(label) = target {
+            if !is_named(counts, label.number()) {
+                breaks.add(Rule::KnownLabels, jump.line);
+            } else if Some(label.number()) == entry {
+                breaks.add(Rule::EntryNotTarget, jump.line);
+            }
+        }
     }
 }
 

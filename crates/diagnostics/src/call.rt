@@ -1,5 +1,5 @@
 //! Calls by name of functions that have other classes.
-use crate::name::{add_class, add_global};
+use crate::name::{add_class, add_name_in};
 use crate::note::Notes;
 use il_ast::function::Func;
 use il_ast::instruction::Inst;
@@ -9,7 +9,6 @@ use il_ast::program::{InText, Target};
 use il_ast::symbol::Symbol;
 use il_ast::value::Callee;
 use obj_link::linking::linked::Linked;
-use std::alloc::Global;
 use text_maker::maker::TextMaker;
 
 /// What a call passes, and where its result goes.
@@ -20,17 +19,12 @@ pub struct Call<'a> {
 }
 
 /// The calls of a function that are undefined, since the callee has other classes.
-pub fn add_wrong_calls(
-    alloc: Global,
-    notes: &mut Notes,
-    linked: &Linked<'_>,
-    function: &InText<&Func>,
-) {
+pub fn add_wrong_calls(notes: &mut Notes, linked: &Linked<'_>, function: &InText<&Func>) {
     for block in function.item.blocks.as_slice() {
         for inst in block.insts.as_slice() {
             if let Some((name, call)) = call_by_name(&inst.item) {
-                let mut words = TextMaker::new(alloc);
-                add_callee(&mut words, linked, function.text, name);
+                let mut words = TextMaker::new(notes.alloc);
+                add_name_in(&mut words, linked, function.text, name);
                 if add_mistake(&mut words, linked, function.text, name, &call) {
                     notes.add(function.text, inst.line, words);
                 }
@@ -57,13 +51,6 @@ pub fn call_by_name(inst: &Inst) -> Option<(Symbol, Call<'_>)> {
     }
 }
 
-/// Adds a global name of a text.
-pub fn add_callee(words: &mut TextMaker, linked: &Linked<'_>, text: usize, name: Symbol) {
-    if let Some(checked) = linked.texts.get(text) {
-        add_global(words, &checked.text, name);
-    }
-}
-
 /// Says of a call what is wrong with it. Answers whether anything is.
 fn add_mistake(
     words: &mut TextMaker,
@@ -84,19 +71,17 @@ fn add_mistake(
 
 /// What a name means in a text.
 pub fn target(linked: &Linked<'_>, text: usize, name: Symbol) -> Option<Target> {
-    match linked.targets.as_slice().get(text) {
-        Some(targets) => targets.as_slice().get(name.number()).copied(),
-        None => None,
-    }
+    let targets = linked.targets.as_slice().get(text)?;
+    targets.as_slice().get(name.number()).copied()
 }
 
 /// How many arguments a callee takes, and what it gives.
 fn form(linked: &Linked<'_>, callee: Callee) -> Option<(usize, Option<Class>)> {
     match callee {
-        Callee::Defined(number) => match linked.functions.as_slice().get(number) {
-            Some(function) => Some((function.item.params.len(), function.item.result)),
-            None => None,
-        },
+        Callee::Defined(number) => {
+            let function = linked.functions.as_slice().get(number)?.item;
+            Some((function.params.len(), function.result))
+        }
         Callee::SystemWrite => Some((3, Some(Class::L))),
         Callee::SystemExit => Some((1, None)),
     }
@@ -105,13 +90,10 @@ fn form(linked: &Linked<'_>, callee: Callee) -> Option<(usize, Option<Class>)> {
 /// The class of an argument that a callee takes.
 fn taken(linked: &Linked<'_>, callee: Callee, number: usize) -> Option<Class> {
     match callee {
-        Callee::Defined(function) => match linked.functions.as_slice().get(function) {
-            Some(function) => match function.item.params.as_slice().get(number) {
-                Some(param) => Some(param.class),
-                None => None,
-            },
-            None => None,
-        },
+        Callee::Defined(function) => {
+            let function = linked.functions.as_slice().get(function)?.item;
+            Some(function.params.as_slice().get(number)?.class)
+        }
         Callee::SystemWrite if number > 0 => Some(Class::L),
         Callee::SystemWrite | Callee::SystemExit => Some(Class::W),
     }
@@ -124,28 +106,24 @@ pub fn add_difference(
     call: &Call<'_>,
     callee: Callee,
 ) -> bool {
-    match form(linked, callee) {
-        Some((count, gives)) => {
-            add_wrong_count(words, call.args.len(), count)
-                || add_wrong_argument(words, linked, call.args, callee)
-                || add_wrong_result(words, call.to, gives)
-        }
-        None => false,
-    }
+    let Some((count, gives)) = form(linked, callee) else {
+        return false;
+    };
+    add_wrong_count(words, call.args.len(), count)
+        || add_wrong_argument(words, linked, call.args, callee)
+        || add_wrong_result(words, call.to, gives)
 }
 
 fn add_wrong_count(words: &mut TextMaker, given: usize, count: usize) -> bool {
     if given == count {
         return false;
     }
-    words.add(" is given ");
-    words.add_number(given as u64);
-    words.add(if given == 1 {
-        " argument, and takes "
+    let both = [given as u64, count as u64];
+    if given == 1 {
+        words.add_with_numbers(" is given # argument, and takes #", &both);
     } else {
-        " arguments, and takes "
-    });
-    words.add_number(count as u64);
+        words.add_with_numbers(" is given # arguments, and takes #", &both);
+    }
     true
 }
 
@@ -171,17 +149,16 @@ fn add_wrong_argument(
 
 /// Says how a result differs from what is wanted. Answers whether it does.
 fn add_wrong_result(words: &mut TextMaker, to: Option<Dest>, gives: Option<Class>) -> bool {
-    let wanted = match to {
-        Some(to) => to.class,
-        None => return false,
+    let Some(to) = to else {
+        return false;
     };
     match gives {
-        Some(class) if class == wanted => return false,
+        Some(class) if class == to.class => return false,
         Some(class) => {
             words.add(" gives class ");
             add_class(words, class);
             words.add(", and ");
-            add_class(words, wanted);
+            add_class(words, to.class);
             words.add(" is wanted");
         }
         None => words.add(" gives no result, and one is wanted"),

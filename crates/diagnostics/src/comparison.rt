@@ -1,6 +1,6 @@
 //! Comparisons of functions with numbers.
-use crate::call::{add_callee, target};
-use crate::name::add_temp;
+use crate::call::target;
+use crate::name::{add_name_in, add_temp};
 use crate::note::Notes;
 use crate::place::destination;
 use il_ast::block::Block;
@@ -9,6 +9,7 @@ use il_ast::instruction::Inst;
 use il_ast::operand::Val;
 use il_ast::operation::{BinaryOp, Class, UnaryOp};
 use il_ast::program::{InText, Target};
+use il_ast::symbol::Symbol;
 use il_ast::temp::Temp;
 use obj_link::linking::linked::Linked;
 use std::alloc::{AllocError, Global};
@@ -25,29 +26,18 @@ enum Holds {
 }
 
 /// The comparisons of a function that are undefined, since a function is compared with a number.
-pub fn add_wrong_comparisons(
-    alloc: Global,
-    notes: &mut Notes,
-    linked: &Linked<'_>,
-    function: &InText<&Func>,
-) {
-    match held(alloc, linked, function) {
-        Ok(held) => add_each(alloc, notes, linked, function, held.as_slice()),
+pub fn add_wrong_comparisons(notes: &mut Notes, linked: &Linked<'_>, function: &InText<&Func>) {
+    match held(notes.alloc, linked, function) {
+        Ok(held) => add_each(notes, linked, function, held.as_slice()),
         Err(_) => notes.refuse(),
     }
 }
 
-fn add_each(
-    alloc: Global,
-    notes: &mut Notes,
-    linked: &Linked<'_>,
-    function: &InText<&Func>,
-    held: &[Holds],
-) {
+fn add_each(notes: &mut Notes, linked: &Linked<'_>, function: &InText<&Func>, held: &[Holds]) {
     for block in function.item.blocks.as_slice() {
         for inst in block.insts.as_slice() {
             if let Some(operand) = compared(linked, function.text, held, &inst.item) {
-                let mut words = TextMaker::new(alloc);
+                let mut words = TextMaker::new(notes.alloc);
                 add_operand(&mut words, linked, function, operand);
                 words.add(" is a function, and is compared with a number");
                 notes.add(function.text, inst.line, words);
@@ -58,7 +48,7 @@ fn add_each(
 
 fn add_operand(words: &mut TextMaker, linked: &Linked<'_>, function: &InText<&Func>, operand: Val) {
     match operand {
-        Val::Global(symbol) => add_callee(words, linked, function.text, symbol),
+        Val::Global(symbol) => add_name_in(words, linked, function.text, symbol),
         Val::Temp(temp) => add_temp(words, function.item, temp),
         Val::Int(_) => {}
     }
@@ -70,40 +60,29 @@ fn compared(linked: &Linked<'_>, text: usize, held: &[Holds], inst: &Inst) -> Op
         Inst::Binary {
             to: _,
             op: BinaryOp::Compare(_, Class::L),
-            left,
-            right,
-        } => either(linked, text, held, left, right),
+            left: Val::Int(_),
+            right: other,
+        }
+        | Inst::Binary {
+            to: _,
+            op: BinaryOp::Compare(_, Class::L),
+            left: other,
+            right: Val::Int(_),
+        } if is_function(linked, text, held, other) => Some(*other),
         _ => None,
     }
-}
-
-/// That of two operands that is a function, where the other one is a number.
-fn either(
-    linked: &Linked<'_>,
-    text: usize,
-    held: &[Holds],
-    left: &Val,
-    right: &Val,
-) -> Option<Val> {
-    if is_number(left) && is_function(linked, text, held, right) {
-        return Some(*right);
-    }
-    if is_number(right) && is_function(linked, text, held, left) {
-        return Some(*left);
-    }
-    None
-}
-
-fn is_number(operand: &Val) -> bool {
-    matches!(operand, Val::Int(_))
 }
 
 fn is_function(linked: &Linked<'_>, text: usize, held: &[Holds], operand: &Val) -> bool {
     match operand {
         Val::Int(_) => false,
-        Val::Global(symbol) => matches!(target(linked, text, *symbol), Some(Target::Code(_))),
+        Val::Global(symbol) => is_code(linked, text, *symbol),
         Val::Temp(temp) => held.get(temp.number()).copied() == Some(Holds::Function),
     }
+}
+
+fn is_code(linked: &Linked<'_>, text: usize, symbol: Symbol) -> bool {
+    matches!(target(linked, text, symbol), Some(Target::Code(_)))
 }
 
 /// What each temporary of a function holds.
@@ -151,10 +130,7 @@ fn given(linked: &Linked<'_>, text: usize, inst: &Inst) -> Holds {
             to: _,
             op: UnaryOp::Copy,
             value: Val::Global(symbol),
-        } => match target(linked, text, *symbol) {
-            Some(Target::Code(_)) => Holds::Function,
-            _ => Holds::Other,
-        },
+        } if is_code(linked, text, *symbol) => Holds::Function,
         _ => Holds::Other,
     }
 }

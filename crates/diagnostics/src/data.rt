@@ -31,41 +31,32 @@ fn other_line(text: &Text, symbol: Symbol, line: usize) -> usize {
 pub fn add_wrong_fields(words: &mut TextMaker, text: &Text, line: usize) {
     if let Some(Definition::Object(object)) = definition_at(text, line) {
         add_global(words, text, object.name);
-        for field in object.fields.as_slice() {
-            if add_misfit(words, text, field) {
-                return;
+        match misfit(object) {
+            Some(Item::Address { symbol, .. }) => {
+                words.add(" has the name ");
+                add_global(words, text, *symbol);
+                words.add(" in a field that isn't of l");
             }
+            Some(_) => words.add(" has a string in a field that isn't of b"),
+            None => words.add(" has no byte"),
         }
-        words.add(" has no byte");
     }
 }
 
-/// Says of the first item of a field that doesn't fit it what it is. Answers whether there is one.
-fn add_misfit(words: &mut TextMaker, text: &Text, field: &Field) -> bool {
-    if let Field::Items { size, items } = field {
-        for item in items.as_slice() {
-            if add_wrong_item(words, text, *size, item) {
-                return true;
+/// The first item of a datum that doesn't fit its field.
+fn misfit(object: &DataDef) -> Option<&Item> {
+    for field in object.fields.as_slice() {
+        if let Field::Items { size, items } = field {
+            for item in items.as_slice() {
+                match item {
+                    Item::Bytes(_) if *size != Size::Byte => return Some(item),
+                    Item::Address { .. } if *size != Size::Long => return Some(item),
+                    _ => {}
+                }
             }
         }
     }
-    false
-}
-
-fn add_wrong_item(words: &mut TextMaker, text: &Text, size: Size, item: &Item) -> bool {
-    match item {
-        Item::Bytes(_) if size != Size::Byte => {
-            words.add(" has a string in a field that isn't of b");
-            true
-        }
-        Item::Address { symbol, .. } if size != Size::Long => {
-            words.add(" has the name ");
-            add_global(words, text, *symbol);
-            words.add(" in a field that isn't of l");
-            true
-        }
-        _ => false,
-    }
+    None
 }
 
 pub fn add_wrong_alignment(words: &mut TextMaker, text: &Text, line: usize) {
@@ -81,25 +72,9 @@ pub fn add_wrong_alignment(words: &mut TextMaker, text: &Text, line: usize) {
 pub fn has_wrong_fields(object: &DataDef) -> bool {
     let mut has_byte = false;
     for field in object.fields.as_slice() {
-        if is_misfit(field) {
-            return true;
-        }
         has_byte = has_byte || has_bytes(field);
     }
-    !has_byte
-}
-
-fn is_misfit(field: &Field) -> bool {
-    if let Field::Items { size, items } = field {
-        for item in items.as_slice() {
-            match item {
-                Item::Bytes(_) if *size != Size::Byte => return true,
-                Item::Address { .. } if *size != Size::Long => return true,
-                _ => {}
-            }
-        }
-    }
-    false
+    !has_byte || misfit(object).is_some()
 }
 
 fn has_bytes(field: &Field) -> bool {

@@ -70,17 +70,17 @@ pub fn has_label(blocks: &[Block], label: Label) -> bool {
 
 /// The labels that a block's jump names; two where it is a branch.
 pub fn targets(block: &Block) -> (Option<Label>, Option<Label>) {
-    match &block.jump {
-        Some(jump) => match jump.item {
-            Jump::Goto(label) => (Some(label), None),
-            Jump::Branch {
-                on: _,
-                nonzero,
-                otherwise,
-            } => (Some(nonzero), Some(otherwise)),
-            Jump::Return(_) | Jump::Halt => (None, None),
-        },
-        None => (None, None),
+    let Some(jump) = &block.jump else {
+        return (None, None);
+    };
+    match jump.item {
+        Jump::Goto(label) => (Some(label), None),
+        Jump::Branch {
+            nonzero,
+            otherwise,
+            ..
+        } => (Some(nonzero), Some(otherwise)),
+        Jump::Return(_) | Jump::Halt => (None, None),
     }
 }
 

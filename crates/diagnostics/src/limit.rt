@@ -46,61 +46,34 @@ fn add_function_limit(words: &mut TextMaker, text: &Text, function: &Func) -> Op
     let params = function.params.len();
     let area = alloc_area(function);
     let heavy = weight(function);
-    if temps > TEMPORARIES {
-        add_passed(
-            words,
-            text,
-            function,
-            temps as u64,
-            "temporaries",
-            TEMPORARIES as u64,
-        );
+    let (count, what, most) = if temps > TEMPORARIES {
+        (temps as u64, " temporaries in ", TEMPORARIES as u64)
     } else if params > ARGUMENTS {
-        add_passed(
-            words,
-            text,
-            function,
-            params as u64,
-            "parameters",
-            ARGUMENTS as u64,
-        );
+        (params as u64, " parameters in ", ARGUMENTS as u64)
     } else if area > ALLOC_BYTES {
-        add_passed(words, text, function, area, "bytes of alloc", ALLOC_BYTES);
+        (area, " bytes of alloc in ", ALLOC_BYTES)
     } else if heavy > FUNCTION_WEIGHT {
-        add_passed(words, text, function, heavy, "of weight", FUNCTION_WEIGHT);
+        (heavy, " of weight in ", FUNCTION_WEIGHT)
     } else {
         return add_long_call(words, function.blocks.as_slice());
-    }
-    Some(function.line)
-}
-
-/// That a function has so many of something, and how many a function has at most.
-fn add_passed(
-    words: &mut TextMaker,
-    text: &Text,
-    function: &Func,
-    count: u64,
-    what: &str,
-    most: u64,
-) {
+    };
     add_count(words, count);
-    words.add(" ");
     words.add(what);
-    words.add(" in ");
     add_global(words, text, function.name);
     words.add(", at most ");
     add_count(words, most);
+    Some(function.line)
 }
 
 /// Says how many arguments a call has that has too many. Answers its line, where there is one.
 fn add_long_call(words: &mut TextMaker, blocks: &[Block]) -> Option<usize> {
     for block in blocks {
         for inst in block.insts.as_slice() {
-            if let Inst::Call { args, .. } = &inst.item {
-                if args.len() > ARGUMENTS {
-                    add_limit(words, args.len() as u64, " arguments", ARGUMENTS as u64);
-                    return Some(inst.line);
-                }
+            if let Inst::Call { args, .. } = &inst.item
+                && args.len() > ARGUMENTS
+            {
+                add_limit(words, args.len() as u64, " arguments", ARGUMENTS as u64);
+                return Some(inst.line);
             }
         }
     }
@@ -118,20 +91,16 @@ pub(crate) fn program_limit(alloc: Global, texts: &[Checked]) -> Result<Note, Al
     for checked in texts {
         sums.add(&checked.text);
     }
-    if texts.len() > TEXTS {
-        add_limit(&mut words, texts.len() as u64, " texts", TEXTS as u64);
+    let (count, what, most) = if texts.len() > TEXTS {
+        (texts.len() as u64, " texts", TEXTS as u64)
     } else if sums.functions > FUNCTIONS as u64 {
-        add_limit(
-            &mut words,
-            sums.functions,
-            " functions in all",
-            FUNCTIONS as u64,
-        );
+        (sums.functions, " functions in all", FUNCTIONS as u64)
     } else if sums.weight > PROGRAM_WEIGHT {
-        add_limit(&mut words, sums.weight, " of weight in all", PROGRAM_WEIGHT);
+        (sums.weight, " of weight in all", PROGRAM_WEIGHT)
     } else {
-        add_limit(&mut words, sums.bytes, " bytes of data in all", DATA_BYTES);
-    }
+        (sums.bytes, " bytes of data in all", DATA_BYTES)
+    };
+    add_limit(&mut words, count, what, most);
     make_note(0, 1, words)
 }
 

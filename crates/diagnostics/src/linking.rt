@@ -53,10 +53,8 @@ fn unknown_at(alloc: Global, texts: &[Checked], name: &[u8]) -> Result<(usize, u
         if defined(&checked.text, name).is_none()
             && let Some(symbol) = symbol_in(&checked.text, name)
         {
-            return match line_in(alloc, &checked.text, symbol) {
-                Ok(line) => Ok((number, line.unwrap_or(1))),
-                Err(error) => Err(error),
-            };
+            let line = line_in(alloc, &checked.text, symbol)?;
+            return Ok((number, line.unwrap_or(1)));
         }
     }
     Ok((0, 1))
@@ -90,8 +88,7 @@ fn exported_twice(
         Some((other, at)) => {
             words.add(" is exported here and at ");
             words.add(paths.get(other).copied().unwrap_or("?"));
-            words.add(":");
-            words.add_number(at as u64);
+            words.add_with_numbers(":#", &[at as u64]);
         }
         None => words.add(" is predefined, and exported here too"),
     }

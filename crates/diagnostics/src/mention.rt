@@ -33,10 +33,10 @@ fn mentioned(
     symbol: Symbol,
 ) -> Result<Option<usize>, AllocError> {
     match definition {
-        Definition::Function(function) => match steps(alloc, function) {
-            Ok(steps) => Ok(read_in(steps.as_slice(), Val::Global(symbol))),
-            Err(error) => Err(error),
-        },
+        Definition::Function(function) => {
+            let steps = steps(alloc, function)?;
+            Ok(read_in(steps.as_slice(), Val::Global(symbol)))
+        }
         Definition::Object(object) if has_address(object, symbol) => Ok(Some(object.line)),
         Definition::Object(_) => Ok(None),
     }
@@ -63,10 +63,10 @@ fn has_address(object: &DataDef, name: Symbol) -> bool {
     for field in object.fields.as_slice() {
         if let Field::Items { items, .. } = field {
             for item in items.as_slice() {
-                if let Item::Address { symbol, .. } = item {
-                    if *symbol == name {
-                        return true;
-                    }
+                if let Item::Address { symbol, .. } = item
+                    && *symbol == name
+                {
+                    return true;
                 }
             }
         }

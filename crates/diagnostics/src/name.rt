@@ -5,6 +5,7 @@ use il_ast::operation::Class;
 use il_ast::symbol::Symbol;
 use il_ast::temp::Temp;
 use il_ast::text::Text;
+use obj_link::linking::linked::Linked;
 use std::str;
 use text_maker::maker::TextMaker;
 
@@ -31,6 +32,14 @@ pub fn add_global(words: &mut TextMaker, text: &Text, symbol: Symbol) {
     words.add(shown(text.symbols.as_slice(), symbol.number()));
 }
 
+/// Adds a global name of the text with this number.
+pub fn add_name_in(words: &mut TextMaker, linked: &Linked<'_>, text: usize, symbol: Symbol) {
+    match linked.texts.get(text) {
+        Some(checked) => add_global(words, &checked.text, symbol),
+        None => words.add("$?"),
+    }
+}
+
 /// A name as it stands in a text.
 pub fn add_name(words: &mut TextMaker, name: &[u8]) {
     words.add("$");
@@ -45,8 +54,7 @@ pub fn add_class(words: &mut TextMaker, class: Class) {
 }
 
 pub fn add_line(words: &mut TextMaker, line: usize) {
-    words.add("line ");
-    words.add_number(line as u64);
+    words.add_with_numbers("line #", &[line as u64]);
 }
 
 /// What each group of three digits counts, the first one first.
@@ -66,8 +74,8 @@ pub fn add_count(words: &mut TextMaker, number: u64) {
     for unit in &UNITS {
         let group = number.checked_div(*unit).unwrap_or(0) % 1000;
         if begun {
-            words.add(",");
-            add_three(words, group);
+            words.add(zeros(group));
+            words.add_number(group);
         } else if group > 0 || *unit == 1 {
             words.add_number(group);
             begun = true;
@@ -75,15 +83,13 @@ pub fn add_count(words: &mut TextMaker, number: u64) {
     }
 }
 
-/// A number below 1000 as three digits.
-fn add_three(words: &mut TextMaker, number: u64) {
-    if number < 100 {
-        words.add("0");
+/// What stands before a number below 1000 where a group of three digits ends.
+fn zeros(number: u64) -> &'static str {
+    match number {
+        0..=9 => ",00",
+        10..=99 => ",0",
+        _ => ",",
     }
-    if number < 10 {
-        words.add("0");
-    }
-    words.add_number(number);
 }
 
 /// That there are so many of something, and how many there are at most.

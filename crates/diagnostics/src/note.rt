@@ -17,15 +17,17 @@ pub(crate) fn make_note(text: usize, line: usize, words: TextMaker) -> Result<No
     ensures text { IfOk result (λ note. note.text ≡ text) }
     ensures line { IfOk result (λ note. note.line ≡ line) }
 {
-    match words.finish() {
-        Ok(words) => Ok(Note { text, line, words }),
-        Err(error) => Err(error),
-    }
+    Ok(Note {
+        text,
+        line,
+        words: words.finish()?,
+    })
 }
 
 /// Notes in order. Once memory is refused there will be none, and whoever makes them is told at the end.
 #[derive(Drop)]
 pub(crate) struct Notes {
+    pub alloc: Global,
     list: Vec<Note>,
     is_refused: bool,
 }
@@ -34,6 +36,7 @@ impl Notes {
     /// No note yet.
     pub fn new(alloc: Global) -> Notes {
         Notes {
+            alloc,
             list: Vec::new(alloc),
             is_refused: false,
         }

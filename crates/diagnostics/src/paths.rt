@@ -130,10 +130,7 @@ impl<'a> Paths<'a> {
 
     /// The place of a label's block.
     fn place(&self, label: Label) -> Option<usize> {
-        match self.places.get(label.number()) {
-            Some(place) => *place,
-            None => None,
-        }
+        *self.places.get(label.number())?
     }
 
     /// Whether the first block leads to the block at a place.

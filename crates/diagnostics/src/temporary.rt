@@ -11,20 +11,18 @@ use text_maker::maker::TextMaker;
 /// A temporary of two classes.
 pub fn add_two_classes(words: &mut TextMaker, function: &Func, steps: &[Step], line: usize) {
     for step in steps {
-        match step.does {
-            Does::Assigns(temp) if step.line == line => {
-                if let Some(other) = other_class(steps, temp, step.class) {
-                    add_temp(words, function, temp);
-                    words.add(" has class ");
-                    add_class(words, step.class);
-                    words.add(" here and class ");
-                    add_class(words, other.class);
-                    words.add(" at ");
-                    add_line(words, other.line);
-                    return;
-                }
-            }
-            _ => {}
+        if let Does::Assigns(temp) = step.does
+            && step.line == line
+            && let Some(other) = other_class(steps, temp, step.class)
+        {
+            add_temp(words, function, temp);
+            words.add(" has class ");
+            add_class(words, step.class);
+            words.add(" here and class ");
+            add_class(words, other.class);
+            words.add(" at ");
+            add_line(words, other.line);
+            return;
         }
     }
 }
@@ -109,10 +107,9 @@ fn undefined(steps: &[Step], line: usize) -> Option<Temp> {
         match step.does {
             Does::Reads(Val::Temp(temp))
             | Does::Takes(_, Val::Temp(temp))
-            | Does::Returns(Val::Temp(temp)) => {
-                if step.line == line && class_of(steps, temp).is_none() {
-                    return Some(temp);
-                }
+            | Does::Returns(Val::Temp(temp))
+                if step.line == line && class_of(steps, temp).is_none() => {
+                return Some(temp);
             }
             _ => {}
         }

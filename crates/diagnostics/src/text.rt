@@ -30,8 +30,16 @@ pub fn syntax(alloc: Global, bytes: &[u8]) -> Result<String, AllocError> {
 
 /// Which names break a rule at a line.
 pub fn rule(alloc: Global, bytes: &[u8], fault: BrokenRule) -> Result<String, AllocError> {
+    let text = text_of(alloc, bytes)?;
+    let mut words = TextMaker::new(alloc);
+    add_rule(alloc, &mut words, &text, fault)?;
+    words.finish()
+}
+
+/// A text that was read before.
+fn text_of(alloc: Global, bytes: &[u8]) -> Result<Text, AllocError> {
     match read(alloc, bytes) {
-        Ok(text) => rule_of(alloc, &text, fault),
+        Ok(text) => Ok(text),
         Err(_) => Err(AllocError),
     }
 }
@@ -46,25 +54,14 @@ pub fn other_rules(
     bytes: &[u8],
     fault: BrokenRule,
 ) -> Result<Vec<Remark>, AllocError> {
-    match read(alloc, bytes) {
-        Ok(text) => others_of(alloc, number, &text, fault),
-        Err(_) => Err(AllocError),
-    }
-}
-
-fn others_of(
-    alloc: Global,
-    number: usize,
-    text: &Text,
-    fault: BrokenRule,
-) -> Result<Vec<Remark>, AllocError> {
+    let text = text_of(alloc, bytes)?;
+    let others = all_broken(alloc, &text)?;
     let mut remarks = Remarks::new(alloc, number);
     let mut left = MOST_OTHERS;
     let mut last = fault;
-    let others = all_broken(alloc, text)?;
     for other in others.as_slice() {
         if left > 0 && !is_same(*other, fault) && !is_same(*other, last) {
-            add_remark(alloc, &mut remarks, text, *other);
+            add_remark(alloc, &mut remarks, &text, *other);
             left -= 1;
             last = *other;
         }
@@ -88,18 +85,7 @@ fn add_remark(alloc: Global, remarks: &mut Remarks, text: &Text, fault: BrokenRu
 pub fn limit(alloc: Global, number: usize, bytes: &[u8]) -> Result<Note, AllocError>
     ensures { IfOk result (λ note. note.text ≡ number) }
 {
-    match read(alloc, bytes) {
-        Ok(text) => text_limit(alloc, number, &text),
-        Err(_) => Err(AllocError),
-    }
-}
-
-fn rule_of(alloc: Global, text: &Text, fault: BrokenRule) -> Result<String, AllocError> {
-    let mut words = TextMaker::new(alloc);
-    match add_rule(alloc, &mut words, text, fault) {
-        Ok(()) => words.finish(),
-        Err(error) => Err(error),
-    }
+    text_limit(alloc, number, &text_of(alloc, bytes)?)
 }
 
 fn add_rule(

@@ -1,7 +1,7 @@
 //! What is likely a mistake in a program.
-use crate::call::{add_callee, add_wrong_calls};
+use crate::call::add_wrong_calls;
 use crate::comparison::add_wrong_comparisons;
-use crate::name::{add_label, add_temp};
+use crate::name::{add_label, add_name_in, add_temp};
 use crate::note::{Note, Notes};
 use crate::paths::Paths;
 use crate::place::{Step, steps};
@@ -21,28 +21,22 @@ pub fn warnings(alloc: Global, linked: &Linked<'_>) -> Result<Vec<Note>, AllocEr
     let wanted = wanted(alloc, linked)?;
     for (number, function) in linked.functions.as_slice().iter().enumerate() {
         let is_wanted = wanted.as_slice().get(number).copied().unwrap_or(false);
-        add_warnings(alloc, &mut notes, linked, function, is_wanted);
-        add_wrong_comparisons(alloc, &mut notes, linked, function);
-        add_wrong_calls(alloc, &mut notes, linked, function);
+        add_warnings(&mut notes, linked, function, is_wanted);
+        add_wrong_comparisons(&mut notes, linked, function);
+        add_wrong_calls(&mut notes, linked, function);
     }
     notes.finish()
 }
 
 /// What the paths through a function show of it, whose result is wanted or isn't.
-fn add_warnings(
-    alloc: Global,
-    notes: &mut Notes,
-    linked: &Linked<'_>,
-    function: &InText<&Func>,
-    is_wanted: bool,
-) {
-    match settled(alloc, function.item) {
+fn add_warnings(notes: &mut Notes, linked: &Linked<'_>, function: &InText<&Func>, is_wanted: bool) {
+    match settled(notes.alloc, function.item) {
         Ok((mut paths, steps)) => {
-            add_unreached(alloc, notes, function, &paths);
+            add_unreached(notes, function, &paths);
             if is_wanted && function.item.result.is_some() {
-                add_bare_returns(alloc, notes, linked, function, &paths);
+                add_bare_returns(notes, linked, function, &paths);
             }
-            add_reads(alloc, notes, function, &mut paths, steps.as_slice());
+            add_reads(notes, function, &mut paths, steps.as_slice());
         }
         Err(_) => notes.refuse(),
     }
@@ -73,22 +67,17 @@ fn unreached<'a>(blocks: &'a [Block], paths: &Paths<'_>) -> Option<(&'a Block, u
             }
         }
     }
-    match first {
-        Some(block) => Some((block, others)),
-        None => None,
-    }
+    Some((first?, others))
 }
 
 /// The blocks that do something and that nothing leads to, in one line.
-fn add_unreached(alloc: Global, notes: &mut Notes, function: &InText<&Func>, paths: &Paths<'_>) {
+fn add_unreached(notes: &mut Notes, function: &InText<&Func>, paths: &Paths<'_>) {
     if let Some((block, others)) = unreached(function.item.blocks.as_slice(), paths) {
-        let mut words = TextMaker::new(alloc);
+        let mut words = TextMaker::new(notes.alloc);
         words.add("nothing leads to ");
         add_label(&mut words, function.item, block.label.number());
         if others > 0 {
-            words.add(", nor to ");
-            words.add_number(others);
-            words.add(" more of the function's blocks");
+            words.add_with_numbers(", nor to # more of the function's blocks", &[others]);
         }
         notes.add(function.text, block.line, words);
     }
@@ -96,7 +85,6 @@ fn add_unreached(alloc: Global, notes: &mut Notes, function: &InText<&Func>, pat
 
 /// The returns without a value of a function whose result is wanted, in blocks that something leads to.
 fn add_bare_returns(
-    alloc: Global,
     notes: &mut Notes,
     linked: &Linked<'_>,
     function: &InText<&Func>,
@@ -107,9 +95,9 @@ fn add_bare_returns(
             && let Some(jump) = &block.jump
             && let Jump::Return(None) = jump.item
         {
-            let mut words = TextMaker::new(alloc);
+            let mut words = TextMaker::new(notes.alloc);
             words.add("this ret gives no value, and the result of ");
-            add_callee(&mut words, linked, function.text, function.item.name);
+            add_name_in(&mut words, linked, function.text, function.item.name);
             words.add(" is wanted");
             notes.add(function.text, jump.line, words);
         }
@@ -117,16 +105,10 @@ fn add_bare_returns(
 }
 
 /// The temporaries that some path reads before it assigns them, each where it is first read so.
-fn add_reads(
-    alloc: Global,
-    notes: &mut Notes,
-    function: &InText<&Func>,
-    paths: &mut Paths<'_>,
-    steps: &[Step],
-) {
+fn add_reads(notes: &mut Notes, function: &InText<&Func>, paths: &mut Paths<'_>, steps: &[Step]) {
     for step in steps {
         if let Some(temp) = paths.first_read(step) {
-            let mut words = TextMaker::new(alloc);
+            let mut words = TextMaker::new(notes.alloc);
             add_temp(&mut words, function.item, temp);
             words.add(" may be read before it is assigned");
             notes.add(function.text, step.line, words);

@@ -4,7 +4,7 @@ use crate::lists::add_numbers;
 use block_layout::placement::choice::chains::chained;
 use block_layout::tails::choice::{Worth, chosen_tails};
 use code_motion::choice::choose::choose_plan;
-use constant_placement::hoisting::choice::plans::choose_plans;
+use constant_placement::hoisting::choice::choose::choose_plans;
 use constant_placement::hoisting::plan::Plan;
 use constant_placement::sinking::choice::choose;
 use qbec::passes::Pass;

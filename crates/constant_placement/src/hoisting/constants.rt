@@ -3,7 +3,7 @@ ghost use Rattle.std.specs.Prelude.{IfOk};
 ghost use Rattle.il_ast.specs.Passes.{Keeps};
 ghost use Rattle.vcode.specs.Coded.{virtual_code};
 
-use crate::hoisting::choice::plans::choose_plans;
+use crate::hoisting::choice::choose::choose_plans;
 use crate::hoisting::hold::with_constant;
 use crate::hoisting::plan::Plan;
 use std::alloc::{AllocError, Global};

@@ -1,4 +1,5 @@
 //! Which registers blocks set: a guess, of which nothing is proved.
+use crate::points::behind_block;
 use crate::sinking::known::{Known, Plan};
 use crate::sinking::numbers::Numbers;
 use crate::sinking::place::placed;
@@ -26,18 +27,6 @@ struct Entry {
     is_alone: bool,
 }
 
-/// The first point behind a block.
-fn point_behind(point: usize, block: &Block<u32>) -> usize {
-    let mut point = point;
-    for line in block.lines.as_slice() {
-        match line {
-            Line::Tick { .. } => {}
-            _ => point = point.saturating_add(1),
-        }
-    }
-    point.saturating_add(1)
-}
-
 fn entries(alloc: Global, blocks: &[Block<u32>]) -> Result<Vec<Entry>, AllocError> {
     let predecessors = predecessors(alloc, blocks)?;
     let mut entries = Vec::with_capacity(alloc, blocks.len())?;
@@ -47,7 +36,7 @@ fn entries(alloc: Global, blocks: &[Block<u32>]) -> Result<Vec<Entry>, AllocErro
             point,
             is_alone: predecessors_of(predecessors.as_slice(), number).len() == 1,
         })?;
-        point = point_behind(point, block);
+        point = behind_block(point, block);
     }
     Ok(entries)
 }
@@ -63,12 +52,9 @@ fn may_set(entries: &[Entry], number: usize, block: usize) -> bool {
 /// The two blocks behind a block, if one of them may set what the block does.
 fn ways(entries: &[Entry], number: usize, block: &Block<u32>) -> Option<(usize, usize)> {
     match &block.jump {
-        Jump::Branch { met, otherwise, .. } => {
-            if may_set(entries, number, *met) || may_set(entries, number, *otherwise) {
-                Some((*met, *otherwise))
-            } else {
-                None
-            }
+        Jump::Branch { met, otherwise, .. }
+            if may_set(entries, number, *met) || may_set(entries, number, *otherwise) => {
+            Some((*met, *otherwise))
         }
         _ => None,
     }
@@ -82,32 +68,29 @@ fn sets_any(
     blocks: &[Block<u32>],
 ) -> Result<bool, AllocError> {
     for (number, block) in blocks.iter().enumerate() {
-        if let Some(_) = ways(entries, number, block) {
-            let unread = numbers.unread(alloc, &[], block)?;
-            if !unread.is_empty() {
-                return Ok(true);
-            }
+        if ways(entries, number, block).is_some()
+            && !numbers.unread(alloc, &[], block)?.is_empty()
+        {
+            return Ok(true);
         }
     }
     Ok(false)
 }
 
 fn sets_number(line: &Line<u32>) -> bool {
-    match line {
+    matches!(
+        line,
         Line::Set {
             value: Operand::Number(_),
             ..
-        } => true,
-        _ => false,
-    }
+        }
+    )
 }
 
 /// Whether a block sets a number and branches.
 fn may_sink(block: &Block<u32>) -> bool {
-    match block.jump {
-        Jump::Branch { .. } => block.lines.as_slice().iter().any(|line| sets_number(line)),
-        _ => false,
-    }
+    matches!(block.jump, Jump::Branch { .. })
+        && block.lines.as_slice().iter().any(|line| sets_number(line))
 }
 
 /// What is to be set in blocks that are still ahead, and what that is chosen by.
@@ -128,45 +111,27 @@ impl Ahead {
     }
 
     fn add(&mut self, number: usize, block: usize, known: Known) -> Result<(), AllocError> {
-        if may_set(self.entries.as_slice(), number, block) {
-            if let Some(sets) = self.sets.get_mut(block) {
-                if sets.len() < SETS {
-                    sets.push(known)?;
-                }
+        match self.sets.get_mut(block) {
+            Some(sets) if sets.len() < SETS && may_set(self.entries.as_slice(), number, block) => {
+                sets.push(known)?;
+                Ok(())
             }
+            _ => Ok(()),
         }
-        Ok(())
     }
 
     /// The one of two blocks behind a block that wants the register is to set it.
     fn choose(
         &mut self,
         number: usize,
-        met: usize,
-        otherwise: usize,
+        (met, otherwise): (usize, usize),
         known: Known,
     ) -> Result<(), AllocError> {
-        match (
-            self.wants(met, known.register),
-            self.wants(otherwise, known.register),
-        ) {
-            (true, false) => self.add(number, met, known),
-            (false, true) => self.add(number, otherwise, known),
-            _ => Ok(()),
+        let is_wanted = self.wants(met, known.register);
+        if is_wanted == self.wants(otherwise, known.register) {
+            return Ok(());
         }
-    }
-
-    fn choose_all(
-        &mut self,
-        number: usize,
-        met: usize,
-        otherwise: usize,
-        unread: &[Known],
-    ) -> Result<(), AllocError> {
-        for known in unread {
-            self.choose(number, met, otherwise, *known)?;
-        }
-        Ok(())
+        self.add(number, if is_wanted { met } else { otherwise }, known)
     }
 
     /// What a block is to set.
@@ -186,9 +151,11 @@ impl Ahead {
         block: &Block<u32>,
         plan: &Plan,
     ) -> Result<(), AllocError> {
-        if let Some((met, otherwise)) = ways(self.entries.as_slice(), number, block) {
+        if let Some(ways) = ways(self.entries.as_slice(), number, block) {
             let unread = numbers.unread(alloc, plan.sets.as_slice(), block)?;
-            self.choose_all(number, met, otherwise, unread.as_slice())?;
+            for known in unread.as_slice() {
+                self.choose(number, ways, *known)?;
+            }
         }
         Ok(())
     }

@@ -1,6 +1,6 @@
 //! Numbers that a block sets registers to and doesn't read.
+use crate::reads::{Reads, jump_reads, line_reads};
 use crate::sinking::known::Known;
-use crate::sinking::reads::{Reads, jump_reads, line_reads};
 use cfg_live::uses::line_writes;
 use std::alloc::{AllocError, Global};
 use vcode::code::Block;

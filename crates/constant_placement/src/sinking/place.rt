@@ -1,6 +1,6 @@
 //! Where a block may set registers.
+use crate::reads::line_reads;
 use crate::sinking::known::{Known, Plan};
-use crate::sinking::reads::line_reads;
 use cfg_live::uses::line_writes;
 use il_ast::list::Seq;
 use std::alloc::{AllocError, Global};
@@ -79,10 +79,10 @@ fn are_args(sets: &[Known], args: &[Argument<u32>]) -> bool {
 
 /// Whether the line reads or writes one of these registers.
 fn names(sets: &[Known], line: &Line<u32>) -> bool {
-    if let Some(register) = line_writes(line) {
-        if is_in(sets, register) {
-            return true;
-        }
+    if let Some(register) = line_writes(line)
+        && is_in(sets, register)
+    {
+        return true;
     }
     let reads = line_reads(line);
     is_at(sets, reads.first) || is_at(sets, reads.second) || are_args(sets, reads.args)

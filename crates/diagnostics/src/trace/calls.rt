@@ -1,6 +1,5 @@
 //! The calls that a turn stands in.
-use crate::trace::source::{Source, add_function, add_place, add_written};
-use il_interp::pieces::Running;
+use crate::trace::source::{Source, Story, add_function, add_place, add_written};
 use il_interp::trace::Place;
 use text_maker::maker::TextMaker;
 
@@ -8,22 +7,20 @@ use text_maker::maker::TextMaker;
 const MOST_CALLS: usize = 20;
 
 /// Adds a line for each call that the last turn stands in, the innermost first.
-pub fn add_calls(words: &mut TextMaker, source: &Source<'_>, running: &Running<'_>) {
+pub fn add_calls(story: &mut Story<'_>) {
     for number in 0..MOST_CALLS {
-        match running.caller(number) {
-            Some(place) => add_call(words, source, place),
+        match story.running.caller(number) {
+            Some(place) => add_call(&mut story.words, story.source, place),
             None => return,
         }
     }
-    let left = running.callers().saturating_sub(MOST_CALLS);
-    if left > 0 {
-        words.add("    and ");
-        words.add_number(left as u64);
-        words.add(if left == 1 {
-            " more call\n"
-        } else {
-            " more calls\n"
-        });
+    let left = story.running.callers().saturating_sub(MOST_CALLS) as u64;
+    if left == 1 {
+        story.words.add("    and 1 more call\n");
+    } else if left > 0 {
+        story
+            .words
+            .add_with_numbers("    and # more calls\n", &[left]);
     }
 }
 

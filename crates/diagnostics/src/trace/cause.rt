@@ -1,11 +1,11 @@
 //! Why a turn has no meaning.
 use crate::call::{Call, add_difference};
 use crate::label::targets;
-use crate::name::add_temp;
+use crate::name::{add_name_in, add_temp};
 use crate::place::{Step, StepList};
 use crate::trace::access::{add_blank, add_no_access};
 use crate::trace::operation::add_no_value;
-use crate::trace::source::{Source, add_symbol, block_at, function_at};
+use crate::trace::source::{Story, function_at};
 use crate::trace::turn::{add_phis, value_of, value_read};
 use crate::trace::values::add_callee;
 use il_ast::block::Block;
@@ -13,64 +13,42 @@ use il_ast::function::Func;
 use il_ast::instruction::{Inst, Jump};
 use il_ast::label::Label;
 use il_ast::operand::Val;
-use il_ast::operation::{BinaryOp, Class, Extension, Size, UnaryOp};
+use il_ast::operation::{Class, Extension, Size, UnaryOp};
 use il_ast::program::InText;
 use il_ast::value::{Callee, Value};
-use il_interp::pieces::Running;
 use il_interp::trace::Place;
 use std::alloc::{AllocError, Global};
-use text_maker::maker::TextMaker;
 
 /// What is said where no more is known.
 const NO_MEANING: &str = "this has no meaning";
 
 /// Adds a line that says why a turn has no meaning.
-pub fn add_cause(
-    alloc: Global,
-    words: &mut TextMaker,
-    source: &Source<'_>,
-    running: &Running<'_>,
-    place: Place,
-) -> Result<(), AllocError> {
-    if let Some(function) = function_at(source, place.function)
-        && let Some(block) = block_at(source, place)
+pub fn add_cause(alloc: Global, story: &mut Story<'_>, place: Place) -> Result<(), AllocError> {
+    if let Some(function) = function_at(story.source, place.function)
+        && let Some(block) = place.in_block(story.source.linked)
     {
-        let target = taken_target(source, running, function.text, block);
+        let target = taken_target(story, function.text, block);
         let steps = steps_to(alloc, function.item, block, place.next, target)?;
-        words.add("    ");
-        if !add_unfit_operand(
-            words,
-            source,
-            running,
-            function,
-            block.label,
-            steps.as_slice(),
-        ) {
-            add_reason(words, source, running, function, place, block);
+        story.words.add("    ");
+        if !add_unfit_operand(story, function, block.label, steps.as_slice()) {
+            add_reason(story, function, place, block);
         }
-        words.add("\n");
+        story.words.add("\n");
     }
     Ok(())
 }
 
 /// The label that a block's jump leads to.
-fn taken_target(
-    source: &Source<'_>,
-    running: &Running<'_>,
-    text: usize,
-    block: &Block,
-) -> Option<Label> {
+fn taken_target(story: &Story<'_>, text: usize, block: &Block) -> Option<Label> {
     let (one, other) = targets(block);
-    match &block.jump {
-        Some(jump) => match jump.item {
-            Jump::Branch { on, .. } => match value_of(source, running, text, &on) {
-                Some(Value::Integer(number)) if number % 0x1_0000_0000 == 0 => other,
-                _ => one,
-            },
-            _ => one,
-        },
-        None => None,
+    if let Some(jump) = &block.jump
+        && let Jump::Branch { on, .. } = jump.item
+        && let Some(Value::Integer(number)) = value_of(story, text, &on)
+        && number % 0x1_0000_0000 == 0
+    {
+        return other;
     }
+    one
 }
 
 /// What a turn of a block reads: an instruction, or the jump with the phis of the block that it leads to.
@@ -96,19 +74,17 @@ fn steps_to(
 
 /// Says of the first operand that has no value, or none for its place, what it is. Answers whether there is one.
 fn add_unfit_operand(
-    words: &mut TextMaker,
-    source: &Source<'_>,
-    running: &Running<'_>,
+    story: &mut Story<'_>,
     function: &InText<&Func>,
     label: Label,
     steps: &[Step],
 ) -> bool {
     for step in steps {
         if let Some(operand) = value_read(step, label) {
-            let value = value_of(source, running, function.text, &operand);
+            let value = value_of(story, function.text, &operand);
             if let Some(reason) = unfit(value, step.class) {
-                add_operand(words, source, function, &operand);
-                words.add(reason);
+                add_operand(story, function, &operand);
+                story.words.add(reason);
                 return true;
             }
         }
@@ -126,33 +102,22 @@ fn unfit(value: Option<Value>, class: Class) -> Option<&'static str> {
     }
 }
 
-fn add_operand(
-    words: &mut TextMaker,
-    source: &Source<'_>,
-    function: &InText<&Func>,
-    operand: &Val,
-) {
+fn add_operand(story: &mut Story<'_>, function: &InText<&Func>, operand: &Val) {
+    let words = &mut story.words;
     match operand {
         Val::Int(number) => words.add_number(*number),
         Val::Temp(temp) => add_temp(words, function.item, *temp),
-        Val::Global(symbol) => add_symbol(words, source, function.text, *symbol),
+        Val::Global(symbol) => add_name_in(words, story.source.linked, function.text, *symbol),
     }
 }
 
 /// Says why a turn has no meaning whose operands have values that fit their places.
-fn add_reason(
-    words: &mut TextMaker,
-    source: &Source<'_>,
-    running: &Running<'_>,
-    function: &InText<&Func>,
-    place: Place,
-    block: &Block,
-) {
+fn add_reason(story: &mut Story<'_>, function: &InText<&Func>, place: Place, block: &Block) {
     let text = function.text;
-    match place.instruction(source.linked) {
+    match place.instruction(story.source.linked) {
         Some(Inst::Unary { op, value, .. }) => {
-            let value = value_of(source, running, text, value);
-            add_of_unary(words, running, *op, value)
+            let value = value_of(story, text, value);
+            add_of_unary(story, *op, value)
         }
         Some(
             Inst::Binary {
@@ -161,44 +126,48 @@ fn add_reason(
                 right,
                 ..
             },
-        ) => {
-            let left = value_of(source, running, text, left);
-            let right = value_of(source, running, text, right);
-            add_of_binary(words, running, *op, left, right)
-        }
+        ) => match (value_of(story, text, left), value_of(story, text, right)) {
+            (Some(left), Some(right)) => add_no_value(story, *op, left, right),
+            _ => story.words.add(NO_MEANING),
+        },
         Some(Inst::Store { size, at, .. }) => {
-            let at = value_of(source, running, text, at);
-            let _ = add_no_access(words, running, at, bytes_stored(*size));
+            let at = value_of(story, text, at);
+            let _ = add_no_access(story, at, bytes_stored(*size));
         }
         Some(Inst::Blit { from, to, count }) => {
-            let from = value_of(source, running, text, from);
-            let to = value_of(source, running, text, to);
-            add_of_blit(words, running, from, to, *count)
+            let from = value_of(story, text, from);
+            let to = value_of(story, text, to);
+            if !add_no_access(story, from, *count) && !add_no_access(story, to, *count) {
+                story
+                    .words
+                    .add("the two spans overlap, and are not the same");
+            }
         }
         Some(Inst::Call { to, callee, args }) => {
             let call = Call {
                 to: *to,
                 args: args.as_slice(),
             };
-            let callee = value_of(source, running, text, callee);
-            add_of_call(words, source, running, function, callee, &call)
+            let callee = value_of(story, text, callee);
+            add_of_call(story, text, callee, &call)
         }
-        Some(Inst::Alloc { .. }) => words.add(NO_MEANING),
-        None => add_of_jump(words, source, running, function, block),
+        Some(Inst::Alloc { .. }) => story.words.add(NO_MEANING),
+        None => add_of_jump(story, function, block),
     }
 }
 
 /// Why an operation on one value has none: a load, or what takes numbers alone.
-fn add_of_unary(words: &mut TextMaker, running: &Running<'_>, op: UnaryOp, value: Option<Value>) {
+fn add_of_unary(story: &mut Story<'_>, op: UnaryOp, value: Option<Value>) {
     match bytes_loaded(op) {
-        Some(count) => {
-            if !add_no_access(words, running, value, count)
-                && !add_blank(words, running, value, count)
-            {
-                words.add(NO_MEANING);
-            }
-        }
-        None => words.add("only a number can be negated"),
+        Some(count) => add_no_read(story, value, count),
+        None => story.words.add("only a number can be negated"),
+    }
+}
+
+/// Why so many bytes at an address can't be read.
+fn add_no_read(story: &mut Story<'_>, at: Option<Value>, count: u64) {
+    if !add_no_access(story, at, count) && !add_blank(story, at, count) {
+        story.words.add(NO_MEANING);
     }
 }
 
@@ -222,104 +191,58 @@ fn bytes_stored(size: Size) -> u64 {
     }
 }
 
-fn add_of_binary(
-    words: &mut TextMaker,
-    running: &Running<'_>,
-    op: BinaryOp,
-    left: Option<Value>,
-    right: Option<Value>,
-) {
-    match (left, right) {
-        (Some(left), Some(right)) => add_no_value(words, running, op, left, right),
-        _ => words.add(NO_MEANING),
-    }
-}
-
-fn add_of_blit(
-    words: &mut TextMaker,
-    running: &Running<'_>,
-    from: Option<Value>,
-    to: Option<Value>,
-    count: u64,
-) {
-    if !add_no_access(words, running, from, count) && !add_no_access(words, running, to, count) {
-        words.add("the two spans overlap, and are not the same");
-    }
-}
-
 /// Why a call has no meaning: what is called is no function, or has other classes, or puts out what isn't there.
-fn add_of_call(
-    words: &mut TextMaker,
-    source: &Source<'_>,
-    running: &Running<'_>,
-    function: &InText<&Func>,
-    callee: Option<Value>,
-    call: &Call<'_>,
-) {
-    let callee = match callee {
-        Some(Value::Function(callee)) => callee,
-        Some(Value::Integer(_)) => {
-            words.add("what is called is a number, and no function");
-            return;
-        }
-        _ => {
-            words.add("what is called is a pointer to data, and no function");
-            return;
-        }
-    };
-    add_callee(words, source, callee);
-    if !add_difference(words, source.linked, call, callee) {
-        words.add(": ");
-        add_of_write(words, source, running, function, call);
+fn add_of_call(story: &mut Story<'_>, text: usize, callee: Option<Value>, call: &Call<'_>) {
+    match callee {
+        Some(Value::Function(callee)) => add_of_callee(story, text, callee, call),
+        Some(Value::Integer(_)) => story
+            .words
+            .add("what is called is a number, and no function"),
+        _ => story
+            .words
+            .add("what is called is a pointer to data, and no function"),
+    }
+}
+
+fn add_of_callee(story: &mut Story<'_>, text: usize, callee: Callee, call: &Call<'_>) {
+    add_callee(&mut story.words, story.source, callee);
+    if !add_difference(&mut story.words, story.source.linked, call, callee) {
+        story.words.add(": ");
+        add_of_write(story, text, call);
     }
 }
 
 /// Why a call of `write` has no meaning.
-fn add_of_write(
-    words: &mut TextMaker,
-    source: &Source<'_>,
-    running: &Running<'_>,
-    function: &InText<&Func>,
-    call: &Call<'_>,
-) {
-    let (at, count) = match call.args {
-        [_, at, count] => (at, count),
-        _ => {
-            words.add(NO_MEANING);
-            return;
-        }
+fn add_of_write(story: &mut Story<'_>, text: usize, call: &Call<'_>) {
+    let [_, at, count] = call.args else {
+        story.words.add(NO_MEANING);
+        return;
     };
-    let at = value_of(source, running, function.text, &at.value);
-    match value_of(source, running, function.text, &count.value) {
-        Some(Value::Integer(count)) => {
-            if !add_no_access(words, running, at, count) && !add_blank(words, running, at, count) {
-                words.add(NO_MEANING);
-            }
-        }
-        _ => words.add("the count of bytes is no number"),
+    let at = value_of(story, text, &at.value);
+    match value_of(story, text, &count.value) {
+        Some(Value::Integer(count)) => add_no_read(story, at, count),
+        _ => story.words.add("the count of bytes is no number"),
     }
 }
 
 /// Why a jump has no meaning whose condition and phis have values.
-fn add_of_jump(
-    words: &mut TextMaker,
-    source: &Source<'_>,
-    running: &Running<'_>,
-    function: &InText<&Func>,
-    block: &Block,
-) {
+fn add_of_jump(story: &mut Story<'_>, function: &InText<&Func>, block: &Block) {
     let item = match &block.jump {
         Some(jump) => jump.item,
         None => Jump::Halt,
     };
     match item {
-        Jump::Return(None) => words.add("no value is returned, and the call wants one"),
+        Jump::Return(None) => story
+            .words
+            .add("no value is returned, and the call wants one"),
         Jump::Return(Some(operand)) => {
-            let value = value_of(source, running, function.text, &operand);
-            add_operand(words, source, function, &operand);
+            let value = value_of(story, function.text, &operand);
+            add_operand(story, function, &operand);
             let class = function.item.result.unwrap_or(Class::L);
-            words.add(unfit(value, class).unwrap_or(" can't be returned"));
+            story
+                .words
+                .add(unfit(value, class).unwrap_or(" can't be returned"));
         }
-        Jump::Goto(_) | Jump::Branch { .. } | Jump::Halt => words.add(NO_MEANING),
+        Jump::Goto(_) | Jump::Branch { .. } | Jump::Halt => story.words.add(NO_MEANING),
     }
 }

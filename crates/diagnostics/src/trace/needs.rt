@@ -1,5 +1,5 @@
 //! Why a call finds too little stack.
-use crate::trace::source::{Source, add_function, function_at};
+use crate::trace::source::{Source, Story, add_function, function_at};
 use crate::trace::turn::value_of;
 use il_ast::instruction::Inst;
 use il_ast::limits::STACK_ROOM;
@@ -23,13 +23,10 @@ fn need_of(source: &Source<'_>, number: usize) -> u64 {
 
 /// Adds that a call of a function needs more bytes than so many that are left.
 fn add_need(words: &mut TextMaker, source: &Source<'_>, number: usize, left: u64) {
+    let need = need_of(source, number);
     words.add("    ");
     add_function(words, source, number);
-    words.add(" needs ");
-    words.add_number(need_of(source, number));
-    words.add(" bytes of stack, and ");
-    words.add_number(left);
-    words.add(" are left\n");
+    words.add_with_numbers(" needs # bytes of stack, and # are left\n", &[need, left]);
 }
 
 /// Adds why a program comes to no turn.
@@ -38,32 +35,26 @@ pub fn add_need_of_main(words: &mut TextMaker, source: &Source<'_>) {
 }
 
 /// Adds what the call of a turn needs, and what each function has of the stack that the turn stands in.
-pub fn add_needs(
-    alloc: Global,
-    words: &mut TextMaker,
-    source: &Source<'_>,
-    running: &Running<'_>,
-    place: Place,
-) -> Result<(), AllocError> {
-    let calls = calls_of(alloc, source, running, place)?;
-    if let Some(number) = called(source, running, place) {
+pub fn add_needs(alloc: Global, story: &mut Story<'_>, place: Place) -> Result<(), AllocError> {
+    let source = story.source;
+    let calls = calls_of(alloc, source, story.running, place)?;
+    if let Some(number) = called(story, place) {
         let left = u64::from(STACK_ROOM).saturating_sub(taken(source, calls.as_slice()));
-        add_need(words, source, number, left);
+        add_need(&mut story.words, source, number, left);
     }
-    add_shares(words, source, calls.as_slice());
+    add_shares(&mut story.words, source, calls.as_slice());
     Ok(())
 }
 
 /// The function that a turn calls.
-fn called(source: &Source<'_>, running: &Running<'_>, place: Place) -> Option<usize> {
-    let text = function_at(source, place.function)?.text;
-    match place.instruction(source.linked) {
-        Some(Inst::Call { callee, .. }) => match value_of(source, running, text, callee) {
-            Some(Value::Function(Callee::Defined(number))) => Some(number),
-            _ => None,
-        },
-        _ => None,
+fn called(story: &Story<'_>, place: Place) -> Option<usize> {
+    let text = function_at(story.source, place.function)?.text;
+    if let Some(Inst::Call { callee, .. }) = place.instruction(story.source.linked)
+        && let Some(Value::Function(Callee::Defined(number))) = value_of(story, text, callee)
+    {
+        return Some(number);
     }
+    None
 }
 
 /// For each function how many calls of it a turn stands in.
@@ -110,19 +101,12 @@ fn add_shares(words: &mut TextMaker, source: &Source<'_>, calls: &[u64]) {
 }
 
 fn add_share(words: &mut TextMaker, source: &Source<'_>, number: usize, count: u64) {
-    words.add("    ");
-    words.add_number(count);
-    words.add(if count == 1 {
-        " call of "
+    let (calls, each) = if count == 1 {
+        ("    # call of ", " with # bytes\n")
     } else {
-        " calls of "
-    });
+        ("    # calls of ", " with # bytes each\n")
+    };
+    words.add_with_numbers(calls, &[count]);
     add_function(words, source, number);
-    words.add(" with ");
-    words.add_number(need_of(source, number));
-    words.add(if count == 1 {
-        " bytes\n"
-    } else {
-        " bytes each\n"
-    });
+    words.add_with_numbers(each, &[need_of(source, number)]);
 }

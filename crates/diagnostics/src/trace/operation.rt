@@ -1,44 +1,38 @@
 //! Why an operation on two values has no value.
+use crate::trace::source::Story;
 use il_ast::operation::{BinaryOp, Condition};
 use il_ast::value::Value;
-use il_interp::pieces::Running;
-use text_maker::maker::TextMaker;
 
 /// Says why an operation on these values has none.
-pub fn add_no_value(
-    words: &mut TextMaker,
-    running: &Running<'_>,
-    op: BinaryOp,
-    left: Value,
-    right: Value,
-) {
-    match (left, right) {
-        (Value::Integer(_), Value::Integer(divisor)) => add_no_quotient(words, divisor),
-        (Value::Function(_), _) | (_, Value::Function(_)) => add_of_function(words, op),
+pub fn add_no_value(story: &mut Story<'_>, op: BinaryOp, left: Value, right: Value) {
+    let reason = match (left, right) {
+        (Value::Integer(_), Value::Integer(divisor)) => of_quotient(divisor),
+        (Value::Function(_), _) | (_, Value::Function(_)) => of_function(op),
         _ => match op {
-            BinaryOp::Compare(on, _) => add_no_order(words, running, on, left, right),
-            BinaryOp::Sub => words.add(of_difference(left)),
-            _ => words.add(of_pointer(op)),
+            BinaryOp::Compare(on, _) => of_order(story, on, left, right),
+            BinaryOp::Sub => of_difference(left),
+            _ => of_pointer(op),
         },
-    }
+    };
+    story.words.add(reason);
 }
 
 /// Only divisions of numbers have no value.
-fn add_no_quotient(words: &mut TextMaker, divisor: u64) {
+fn of_quotient(divisor: u64) -> &'static str {
     if divisor % 0x1_0000_0000 == 0 {
-        words.add("a division by 0");
+        "a division by 0"
     } else {
-        words.add("the least number divided by -1, whose quotient is none");
+        "the least number divided by -1, whose quotient is none"
     }
 }
 
-fn add_of_function(words: &mut TextMaker, op: BinaryOp) {
+fn of_function(op: BinaryOp) -> &'static str {
     match op {
         BinaryOp::Compare(Condition::Equal | Condition::NotEqual, _) => {
-            words.add("a function can be compared with functions alone")
+            "a function can be compared with functions alone"
         }
-        BinaryOp::Compare(..) => words.add("functions have no order"),
-        _ => words.add("there is no arithmetic on functions"),
+        BinaryOp::Compare(..) => "functions have no order",
+        _ => "there is no arithmetic on functions",
     }
 }
 
@@ -66,33 +60,24 @@ fn of_difference(left: Value) -> &'static str {
 }
 
 /// Why a comparison of a pointer with a pointer or a number has no value.
-fn add_no_order(
-    words: &mut TextMaker,
-    running: &Running<'_>,
-    on: Condition,
-    left: Value,
-    right: Value,
-) {
+fn of_order(story: &Story<'_>, on: Condition, left: Value, right: Value) -> &'static str {
     let is_equality = matches!(on, Condition::Equal | Condition::NotEqual);
     match (left, right) {
         (Value::Pointer { block, .. }, Value::Pointer { block: other, .. }) if block != other => {
             if is_equality {
-                add_no_place(words, running, left, right, true);
+                of_place(story, left, right, true)
             } else {
-                words.add("pointers into two blocks have no order");
+                "pointers into two blocks have no order"
             }
         }
-        (Value::Pointer { .. }, Value::Pointer { .. }) => {
-            if is_signed(on) {
-                words.add("pointers have no order by sign; compare them as unsigned");
-            } else {
-                add_no_place(words, running, left, right, false);
-            }
+        (Value::Pointer { .. }, Value::Pointer { .. }) if is_signed(on) => {
+            "pointers have no order by sign; compare them as unsigned"
         }
+        (Value::Pointer { .. }, Value::Pointer { .. }) => of_place(story, left, right, false),
         (Value::Integer(0), _) | (_, Value::Integer(0)) if is_equality => {
-            add_no_place(words, running, left, right, false);
+            of_place(story, left, right, false)
         }
-        _ => words.add("a pointer is compared with a number, and not for being 0"),
+        _ => "a pointer is compared with a number, and not for being 0",
     }
 }
 
@@ -107,25 +92,19 @@ fn is_signed(on: Condition) -> bool {
 }
 
 /// Why pointers aren't at places that are compared: the block is dead, or they are behind its end; or at its end, where blocks are two.
-fn add_no_place(
-    words: &mut TextMaker,
-    running: &Running<'_>,
-    left: Value,
-    right: Value,
-    are_two: bool,
-) {
-    if is_dead(running, left) || is_dead(running, right) {
-        words.add("the block is dead, since its function has returned");
+fn of_place(story: &Story<'_>, left: Value, right: Value, are_two: bool) -> &'static str {
+    if is_dead(story, left) || is_dead(story, right) {
+        "the block is dead, since its function has returned"
     } else if are_two {
-        words.add("a pointer at or behind the end of its block has no place among other blocks");
+        "a pointer at or behind the end of its block has no place among other blocks"
     } else {
-        words.add("a pointer behind the end of its block is compared");
+        "a pointer behind the end of its block is compared"
     }
 }
 
-fn is_dead(running: &Running<'_>, value: Value) -> bool {
+fn is_dead(story: &Story<'_>, value: Value) -> bool {
     match value {
-        Value::Pointer { block, .. } => running.block_size(block).is_none(),
+        Value::Pointer { block, .. } => story.running.block_size(block).is_none(),
         Value::Integer(_) | Value::Function(_) => false,
     }
 }

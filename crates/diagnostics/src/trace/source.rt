@@ -1,9 +1,8 @@
 //! Lines and names of the texts that are run.
-use crate::name::add_name;
-use il_ast::block::Block;
+use crate::name::add_name_in;
 use il_ast::function::Func;
-use il_ast::program::{InText, Target};
-use il_ast::symbol::Symbol;
+use il_ast::program::InText;
+use il_interp::pieces::Running;
 use il_interp::trace::Place;
 use memchr::memchr;
 use obj_link::linking::linked::Linked;
@@ -18,71 +17,42 @@ pub struct Source<'a> {
     pub texts: &'a [&'a [u8]],
 }
 
+/// What is told so far of a run of a program.
+#[derive(Drop)]
+pub struct Story<'a> {
+    pub words: TextMaker,
+    pub source: &'a Source<'a>,
+    pub running: &'a Running<'a>,
+}
+
 /// A function by its number.
 pub fn function_at<'a>(source: &Source<'a>, number: usize) -> Option<&'a InText<&'a Func>> {
     source.linked.functions.as_slice().get(number)
 }
 
-/// The block that a turn is due in.
-pub fn block_at<'a>(source: &Source<'a>, place: Place) -> Option<&'a Block> {
-    match function_at(source, place.function) {
-        Some(function) => function.item.blocks.as_slice().get(place.block),
-        None => None,
-    }
-}
-
-/// What a global name of a text means.
-pub fn target_of(source: &Source<'_>, text: usize, symbol: Symbol) -> Option<Target> {
-    match source.linked.targets.as_slice().get(text) {
-        Some(targets) => targets.as_slice().get(symbol.number()).copied(),
-        None => None,
-    }
-}
-
-/// Adds a global name of a text.
-pub fn add_symbol(words: &mut TextMaker, source: &Source<'_>, text: usize, symbol: Symbol) {
-    let name = match source.linked.texts.get(text) {
-        Some(checked) => checked.text.symbols.as_slice().get(symbol.number()),
-        None => None,
-    };
-    match name {
-        Some(name) => add_name(words, name.as_slice()),
-        None => words.add("$?"),
-    }
-}
-
 /// Adds the name of a function.
 pub fn add_function(words: &mut TextMaker, source: &Source<'_>, number: usize) {
     match function_at(source, number) {
-        Some(function) => add_symbol(words, source, function.text, function.item.name),
+        Some(function) => add_name_in(words, source.linked, function.text, function.item.name),
         None => words.add("$?"),
     }
-}
-
-/// Adds the file and the number of a line.
-pub fn add_line_number(words: &mut TextMaker, source: &Source<'_>, text: usize, line: usize) {
-    words.add(source.paths.get(text).copied().unwrap_or("?"));
-    words.add(":");
-    words.add_number(line as u64);
 }
 
 /// Adds the file and the line of a turn.
 pub fn add_place(words: &mut TextMaker, source: &Source<'_>, place: Place) {
-    let text = match function_at(source, place.function) {
-        Some(function) => function.text,
-        None => return,
-    };
-    add_line_number(words, source, text, place.line(source.linked));
+    if let Some(function) = function_at(source, place.function) {
+        words.add(source.paths.get(function.text).copied().unwrap_or("?"));
+        words.add_with_numbers(":#", &[place.line(source.linked) as u64]);
+    }
 }
 
 /// Adds what stands in the line of a turn.
 pub fn add_written(words: &mut TextMaker, source: &Source<'_>, place: Place) {
-    let text = match function_at(source, place.function) {
-        Some(function) => source.texts.get(function.text).copied().unwrap_or(&[]),
-        None => return,
-    };
-    let written = without_comment(line_in(text, place.line(source.linked)));
-    words.add(str::from_utf8(written).unwrap_or("?").trim());
+    if let Some(function) = function_at(source, place.function) {
+        let text = source.texts.get(function.text).copied().unwrap_or(&[]);
+        let written = without_comment(line_in(text, place.line(source.linked)));
+        words.add(str::from_utf8(written).unwrap_or("?").trim());
+    }
 }
 
 /// The line of a text with this number, counted from 1, without its end.

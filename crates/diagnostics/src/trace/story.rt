@@ -2,7 +2,7 @@
 use crate::trace::calls::add_calls;
 use crate::trace::cause::add_cause;
 use crate::trace::needs::{add_need_of_main, add_needs};
-use crate::trace::source::{Source, add_function, add_place, add_written};
+use crate::trace::source::{Source, Story, add_function, add_place, add_written};
 use crate::trace::turn::add_operands;
 use crate::trace::values::add_value;
 use il_ast::value::End;
@@ -14,7 +14,12 @@ use text_maker::maker::TextMaker;
 /// The lines that tell of a run that was watched and ended so: the last turns, as many as are remembered; where the last one was due, or the next one where the run
 /// goes on; what its operands hold; the cause, where it is undefined or runs out of stack; and the calls that it stands in. No line, where memory for them was refused.
 pub fn story(alloc: Global, source: &Source<'_>, running: &Running<'_>, end: End) -> String {
-    or_none(alloc, told(alloc, source, running, end))
+    let story = Story {
+        words: TextMaker::new(alloc),
+        source,
+        running,
+    };
+    or_none(alloc, told(alloc, story, end))
 }
 
 /// The lines, or none where memory for them was refused.
@@ -34,57 +39,45 @@ pub fn story_of_start(alloc: Global, source: &Source<'_>) -> String {
     or_none(alloc, words.finish())
 }
 
-fn told(
-    alloc: Global,
-    source: &Source<'_>,
-    running: &Running<'_>,
-    end: End,
-) -> Result<String, AllocError> {
-    let mut words = TextMaker::new(alloc);
-    add_last(&mut words, source, running);
-    if let Some(place) = running.place() {
-        add_turn(&mut words, source, place);
-        words.add("\n");
-        add_operands(alloc, &mut words, source, running, place)?;
-        add_why(alloc, &mut words, source, running, place, end)?;
+fn told(alloc: Global, mut story: Story<'_>, end: End) -> Result<String, AllocError> {
+    let source = story.source;
+    add_last(&mut story);
+    if let Some(place) = story.running.place() {
+        add_turn(&mut story.words, source, place);
+        story.words.add("\n");
+        add_operands(alloc, &mut story, place)?;
+        add_why(alloc, &mut story, place, end)?;
     }
-    add_calls(&mut words, source, running);
-    words.finish()
+    add_calls(&mut story);
+    story.words.finish()
 }
 
 /// Adds why the run ended at a turn, where it is undefined or runs out of stack.
-fn add_why(
-    alloc: Global,
-    words: &mut TextMaker,
-    source: &Source<'_>,
-    running: &Running<'_>,
-    place: Place,
-    end: End,
-) -> Result<(), AllocError> {
+fn add_why(alloc: Global, story: &mut Story<'_>, place: Place, end: End) -> Result<(), AllocError> {
     match end {
-        End::Undefined => add_cause(alloc, words, source, running, place),
-        End::Stack => add_needs(alloc, words, source, running, place),
+        End::Undefined => add_cause(alloc, story, place),
+        End::Stack => add_needs(alloc, story, place),
         End::Exit(_) | End::Halt | End::Turns => Ok(()),
     }
 }
 
 /// Adds a line for each of the last turns.
-fn add_last(words: &mut TextMaker, source: &Source<'_>, running: &Running<'_>) {
-    for number in 0..running.turns() {
-        if let Some(turn) = running.turn(number) {
-            add_done(words, source, running, turn);
+fn add_last(story: &mut Story<'_>) {
+    for number in 0..story.running.turns() {
+        if let Some(turn) = story.running.turn(number) {
+            add_done(story, turn);
         }
     }
 }
 
 /// Adds a turn that was done, with what it assigned.
-fn add_done(words: &mut TextMaker, source: &Source<'_>, running: &Running<'_>, turn: Turn) {
-    add_turn(words, source, turn.place);
+fn add_done(story: &mut Story<'_>, turn: Turn) {
+    add_turn(&mut story.words, story.source, turn.place);
     if turn.assigned.is_some() {
-        words.add(" => ");
-        add_value(words, source, running, turn.assigned);
+        story.words.add(" => ");
+        add_value(story, turn.assigned);
     }
-    words.add("\n");
+    story.words.add("\n");
 }
 
 /// Adds where a turn is due, and what stands there.

@@ -1,8 +1,9 @@
 //! The turn that was the last.
+use crate::call::target;
 use crate::label::targets;
-use crate::name::add_temp;
+use crate::name::{add_name_in, add_temp};
 use crate::place::{Does, Step, StepList};
-use crate::trace::source::{Source, add_symbol, block_at, function_at, target_of};
+use crate::trace::source::{Story, function_at};
 use crate::trace::values::add_value;
 use il_ast::block::Block;
 use il_ast::function::Func;
@@ -10,31 +11,16 @@ use il_ast::label::Label;
 use il_ast::operand::Val;
 use il_ast::program::{InText, Target};
 use il_ast::value::Value;
-use il_interp::pieces::Running;
 use il_interp::trace::Place;
 use std::alloc::{AllocError, Global};
-use text_maker::maker::TextMaker;
 
 /// Adds a line for each temporary and each datum that the turn reads, with what it holds.
-pub fn add_operands(
-    alloc: Global,
-    words: &mut TextMaker,
-    source: &Source<'_>,
-    running: &Running<'_>,
-    place: Place,
-) -> Result<(), AllocError> {
-    if let Some(function) = function_at(source, place.function)
-        && let Some(block) = block_at(source, place)
+pub fn add_operands(alloc: Global, story: &mut Story<'_>, place: Place) -> Result<(), AllocError> {
+    if let Some(function) = function_at(story.source, place.function)
+        && let Some(block) = place.in_block(story.source.linked)
     {
         let steps = steps_of(alloc, function.item, block, place.next)?;
-        add_each(
-            words,
-            source,
-            running,
-            function,
-            block.label,
-            steps.as_slice(),
-        );
+        add_each(story, function, block.label, steps.as_slice());
     }
     Ok(())
 }
@@ -73,29 +59,13 @@ pub fn add_phis(steps: &mut StepList, blocks: &[Block], label: Option<Label>) {
 }
 
 /// Adds a line for each value that a turn of the block of a label reads, once.
-fn add_each(
-    words: &mut TextMaker,
-    source: &Source<'_>,
-    running: &Running<'_>,
-    function: &InText<&Func>,
-    label: Label,
-    steps: &[Step],
-) {
-    for number in 0..steps.len() {
-        if let Some(operand) = first_read(steps, number, label) {
-            add_operand(words, source, running, function, operand);
+fn add_each(story: &mut Story<'_>, function: &InText<&Func>, label: Label, steps: &[Step]) {
+    for (number, step) in steps.iter().enumerate() {
+        if let Some(operand) = value_read(step, label) {
+            if !is_read(steps, number, label, &operand) {
+                add_operand(story, function, operand);
+            }
         }
-    }
-}
-
-/// The value that the step of this number reads, where none before it does.
-fn first_read(steps: &[Step], number: usize, label: Label) -> Option<Val> {
-    match steps.get(number) {
-        Some(step) => match value_read(step, label) {
-            Some(operand) => unread(steps, number, label, operand),
-            None => None,
-        },
-        None => None,
     }
 }
 
@@ -108,72 +78,56 @@ pub fn value_read(step: &Step, label: Label) -> Option<Val> {
     }
 }
 
-/// The value, where none of the first steps reads it.
-fn unread(steps: &[Step], count: usize, label: Label, operand: Val) -> Option<Val> {
+/// Whether one of the first steps reads the value.
+fn is_read(steps: &[Step], count: usize, label: Label, operand: &Val) -> bool {
     for step in steps.get(..count).unwrap_or(&[]) {
         if let Some(value) = value_read(step, label) {
-            if value == operand {
-                return None;
+            if value == *operand {
+                return true;
             }
         }
     }
-    Some(operand)
+    false
 }
 
-fn add_operand(
-    words: &mut TextMaker,
-    source: &Source<'_>,
-    running: &Running<'_>,
-    function: &InText<&Func>,
-    operand: Val,
-) {
+fn add_operand(story: &mut Story<'_>, function: &InText<&Func>, operand: Val) {
     match operand {
         Val::Int(_) => {}
         Val::Temp(temp) => {
-            words.add("    ");
-            add_temp(words, function.item, temp);
-            add_held(words, source, running, running.value(temp.number()));
+            let held = story.running.value(temp.number());
+            story.words.add("    ");
+            add_temp(&mut story.words, function.item, temp);
+            add_held(story, held);
         }
         Val::Global(symbol) => {
-            let held = value_of(source, running, function.text, &operand);
+            let held = value_of(story, function.text, &operand);
             if let Some(Value::Pointer { .. }) = held {
-                words.add("    ");
-                add_symbol(words, source, function.text, symbol);
-                add_held(words, source, running, held);
+                story.words.add("    ");
+                add_name_in(&mut story.words, story.source.linked, function.text, symbol);
+                add_held(story, held);
             }
         }
     }
 }
 
 /// Adds what an operand holds, and ends its line.
-fn add_held(
-    words: &mut TextMaker,
-    source: &Source<'_>,
-    running: &Running<'_>,
-    value: Option<Value>,
-) {
-    words.add(" is ");
-    add_value(words, source, running, value);
-    words.add("\n");
+fn add_held(story: &mut Story<'_>, value: Option<Value>) {
+    story.words.add(" is ");
+    add_value(story, value);
+    story.words.add("\n");
 }
 
 /// What an operand holds.
-pub fn value_of(
-    source: &Source<'_>,
-    running: &Running<'_>,
-    text: usize,
-    operand: &Val,
-) -> Option<Value> {
+pub fn value_of(story: &Story<'_>, text: usize, operand: &Val) -> Option<Value> {
     match operand {
         Val::Int(number) => Some(Value::Integer(*number)),
-        Val::Temp(temp) => running.value(temp.number()),
-        Val::Global(symbol) => match target_of(source, text, *symbol) {
-            Some(Target::Object(number)) => Some(Value::Pointer {
+        Val::Temp(temp) => story.running.value(temp.number()),
+        Val::Global(symbol) => match target(story.source.linked, text, *symbol)? {
+            Target::Object(number) => Some(Value::Pointer {
                 block: number as u128,
                 offset: 0,
             }),
-            Some(Target::Code(callee)) => Some(Value::Function(callee)),
-            None => None,
+            Target::Code(callee) => Some(Value::Function(callee)),
         },
     }
 }

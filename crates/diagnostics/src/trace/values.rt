@@ -1,7 +1,7 @@
 //! Values, as they are told.
-use crate::trace::source::{Source, add_function, add_place, add_symbol};
+use crate::name::add_name_in;
+use crate::trace::source::{Source, Story, add_function, add_place};
 use il_ast::value::{Callee, Value};
-use il_interp::pieces::Running;
 use text_maker::maker::TextMaker;
 
 /// The least number that is told also as a negative one of 32 bits.
@@ -14,32 +14,21 @@ const NO_WORDS: u64 = 0x1_0000_0000;
 const NEGATIVE_LONGS: u64 = 0x8000_0000_0000_0000;
 
 /// Adds what a temporary holds.
-pub fn add_value(
-    words: &mut TextMaker,
-    source: &Source<'_>,
-    running: &Running<'_>,
-    value: Option<Value>,
-) {
+pub fn add_value(story: &mut Story<'_>, value: Option<Value>) {
     match value {
-        Some(Value::Integer(number)) => add_integer(words, number),
-        Some(Value::Pointer { block, offset }) => {
-            add_pointer(words, source, running, block, offset)
-        }
-        Some(Value::Function(callee)) => add_callee(words, source, callee),
-        None => words.add("not assigned"),
+        Some(Value::Integer(number)) => add_integer(&mut story.words, number),
+        Some(Value::Pointer { block, offset }) => add_pointer(story, block, offset),
+        Some(Value::Function(callee)) => add_callee(&mut story.words, story.source, callee),
+        None => story.words.add("not assigned"),
     }
 }
 
 fn add_integer(words: &mut TextMaker, number: u64) {
     words.add_number(number);
     if number >= NEGATIVE_LONGS {
-        words.add(" (-");
-        words.add_number(0u64.wrapping_sub(number));
-        words.add(")");
+        words.add_with_numbers(" (-#)", &[0u64.wrapping_sub(number)]);
     } else if number >= NEGATIVE_WORDS && number < NO_WORDS {
-        words.add(" (as a word -");
-        words.add_number(NO_WORDS - number);
-        words.add(")");
+        words.add_with_numbers(" (as a word -#)", &[NO_WORDS - number]);
     }
 }
 
@@ -53,50 +42,41 @@ pub fn add_callee(words: &mut TextMaker, source: &Source<'_>, callee: Callee) {
 }
 
 /// Adds a pointer: its offset, and the block.
-fn add_pointer(
-    words: &mut TextMaker,
-    source: &Source<'_>,
-    running: &Running<'_>,
-    block: u128,
-    offset: u64,
-) {
+fn add_pointer(story: &mut Story<'_>, block: u128, offset: u64) {
+    let words = &mut story.words;
     words.add("offset ");
     words.add_signed(offset);
-    match running.block_size(block) {
-        Some(size) => {
-            words.add(" of the ");
-            words.add_number(size as u64);
-            words.add(if size == 1 { " byte" } else { " bytes" });
-        }
+    match story.running.block_size(block) {
+        Some(1) => words.add(" of the 1 byte"),
+        Some(size) => words.add_with_numbers(" of the # bytes", &[size as u64]),
         None => words.add(" of the dead block"),
     }
-    add_maker(words, source, running, block);
+    add_maker(story, block);
 }
 
 /// Adds where a block comes from.
-fn add_maker(words: &mut TextMaker, source: &Source<'_>, running: &Running<'_>, block: u128) {
-    let count = source.linked.objects.len() as u128;
+fn add_maker(story: &mut Story<'_>, block: u128) {
+    let count = story.source.linked.objects.len() as u128;
+    let start = story.running.start_blocks();
     if block < count {
-        words.add(" of ");
-        add_object(words, source, number_of(block));
-        return;
-    }
-    let start = running.start_blocks();
-    if block.saturating_add(1) == start {
-        words.add(" of the list of argument words");
+        story.words.add(" of ");
+        add_object(story, number_of(block));
+    } else if block.saturating_add(1) == start {
+        story.words.add(" of the list of argument words");
     } else if block < start {
-        words.add(" of argument word ");
-        words.add_number(number_of(block - count) as u64);
-    } else if let Some(place) = running.maker(block) {
-        words.add(" made at ");
-        add_place(words, source, place);
+        let word = number_of(block - count) as u64;
+        story.words.add_with_numbers(" of argument word #", &[word]);
+    } else if let Some(place) = story.running.maker(block) {
+        story.words.add(" made at ");
+        add_place(&mut story.words, story.source, place);
     }
 }
 
-fn add_object(words: &mut TextMaker, source: &Source<'_>, number: usize) {
-    match source.linked.objects.as_slice().get(number) {
-        Some(object) => add_symbol(words, source, object.text, object.item.name),
-        None => words.add("?"),
+fn add_object(story: &mut Story<'_>, number: usize) {
+    let linked = story.source.linked;
+    match linked.objects.as_slice().get(number) {
+        Some(object) => add_name_in(&mut story.words, linked, object.text, object.item.name),
+        None => story.words.add("?"),
     }
 }
 

@@ -4,13 +4,13 @@ use crate::hoisting::choice::pressure::{Pressure, pressure_of};
 use crate::hoisting::choice::regions::{Region, Regions, find_regions};
 use crate::hoisting::choice::saving::where_read;
 use crate::hoisting::choice::uses::{Key, Use, may_save, uses_of};
+use crate::hoisting::plan::Plan;
 use flow::depths::loop_depths;
 use flow::graph::{predecessors, successor};
 use il_ast::few::Few;
 use std::alloc::{AllocError, Global};
 use vcode::code::Block;
 use vcode::function::VFunc;
-use vcode::place::Operand;
 
 /// More of them would leave too few registers of the machine for what changes in a long function.
 const MOST: usize = 6;
@@ -24,22 +24,6 @@ const MOST_IN_SHORT: usize = 12;
 /// A loop of so many blocks most often goes round so often that it pays for a register that has to be saved.
 const LARGE: u32 = 20;
 
-/// A constant for a register that the function names nowhere.
-#[derive(Drop)]
-pub struct Chosen {
-    /// the register that is to hold it
-    pub register: u32,
-
-    /// the number or the global name
-    pub constant: Operand<u32>,
-
-    /// by number, the blocks that are to set the register before their jump
-    pub sets: Vec<bool>,
-
-    /// by number, the blocks in which it is to hold the constant
-    pub holds: Vec<bool>,
-}
-
 /// A constant that is worth a register. The one that saves most is the last.
 #[derive(Clone, Copy, PartialEq, Eq, PartialOrd, Ord)]
 struct Choice {
@@ -49,7 +33,7 @@ struct Choice {
 
 /// What it saves to hold a constant in a region, less what it costs to set it in front. Over calls it takes a register that has to be saved: far more is asked.
 fn net(one: &Use, region: &Region) -> i64 {
-    let price = where_read(&one.key.operand()).saturating_mul(i64::from(region.entries));
+    let price = where_read(&one.key.constant().operand()).saturating_mul(i64::from(region.entries));
     if region.has_calls {
         let part = if region.blocks < LARGE { 4 } else { 2 };
         (one.gain / part).saturating_sub(price).saturating_sub(1)
@@ -130,10 +114,11 @@ fn held_regions(
 ) -> Result<Vec<bool>, AllocError> {
     let mut held = vec![in alloc; false; room.held.len()]?;
     for one in worthy {
-        if one.key == key && room.takes(one) {
-            if let Some(mark) = held.get_mut(one.region) {
-                *mark = true;
-            }
+        if one.key == key
+            && room.takes(one)
+            && let Some(mark) = held.get_mut(one.region)
+        {
+            *mark = true;
         }
     }
     Ok(held)
@@ -178,13 +163,13 @@ fn chosen_for(
     worthy: &[Use],
     key: Key,
     register: u32,
-) -> Result<Chosen, AllocError> {
+) -> Result<Plan, AllocError> {
     let held = held_regions(alloc, room, worthy, key)?;
     let holds = holding(alloc, blocks, room.regions, held.as_slice())?;
     let sets = setting(alloc, blocks, holds.as_slice())?;
-    Ok(Chosen {
+    Ok(Plan {
         register,
-        constant: key.operand(),
+        constant: key.constant(),
         sets,
         holds,
     })
@@ -211,7 +196,7 @@ fn chosen_in(
     room: &mut Room<'_>,
     named: &[i64],
     worthy: &[Use],
-) -> Result<Vec<Chosen>, AllocError> {
+) -> Result<Vec<Plan>, AllocError> {
     let blocks = function.code.blocks.as_slice();
     let most = if blocks.len() < LONG {
         MOST_IN_SHORT
@@ -234,7 +219,7 @@ fn chosen_in_loops(
     function: &VFunc,
     predecessors: &[Few<usize>],
     depths: &[u32],
-) -> Result<Vec<Chosen>, AllocError> {
+) -> Result<Vec<Plan>, AllocError> {
     let blocks = function.code.blocks.as_slice();
     let regions = find_regions(alloc, blocks, predecessors, depths)?;
     let worthy = worthy_uses(alloc, blocks, depths, &regions)?;
@@ -256,12 +241,12 @@ fn chosen_in_loops(
     )
 }
 
-/// The constants of the function's loops that save most, each with a register of its own, the best first. They are few, and most often rightly set and held.
+/// Plans for the constants of the function's loops that save most, each with a register of its own, the best first. They are few, and most often right.
 ///
 /// # Errors
 ///
 /// Only where memory was refused.
-pub fn choose_constants(alloc: Global, function: &VFunc) -> Result<Vec<Chosen>, AllocError> {
+pub fn choose_plans(alloc: Global, function: &VFunc) -> Result<Vec<Plan>, AllocError> {
     let blocks = function.code.blocks.as_slice();
     if !may_save(alloc, blocks)? {
         return Ok(Vec::new(alloc));

@@ -1,10 +1,11 @@
 //! How often a function names its registers.
+use crate::reads::{Reads, jump_reads, line_reads};
+use cfg_live::uses::line_writes;
 use flow::depths::frequency;
 use std::alloc::{AllocError, Global};
 use vcode::code::Block;
 use vcode::function::VFunc;
-use vcode::line::{Jump, Line};
-use vcode::place::{Argument, Operand};
+use vcode::place::Operand;
 
 /// The names of registers that were counted so far.
 #[derive(Drop)]
@@ -23,70 +24,28 @@ impl Names {
         }
     }
 
-    fn count_operand(&mut self, operand: &Operand<u32>) {
-        match operand {
-            Operand::At(register) => self.count(*register),
-            Operand::Number(_) | Operand::Name(_) => {}
+    fn count_operand(&mut self, operand: Option<Operand<u32>>) {
+        if let Some(Operand::At(register)) = operand {
+            self.count(register);
         }
     }
 
-    fn count_two(&mut self, left: &Operand<u32>, right: &Operand<u32>) {
-        self.count_operand(left);
-        self.count_operand(right);
-    }
-
-    fn count_arguments(&mut self, args: &[Argument<u32>]) {
-        for arg in args {
-            self.count_operand(&arg.value);
-        }
-    }
-
-    fn count_line(&mut self, line: &Line<u32>) {
-        match line {
-            Line::Tick { .. } | Line::Alloc { to: None, .. } => {}
-            Line::Set { to, value } => {
-                self.count(*to);
-                self.count_operand(value);
-            }
-            Line::Operate {
-                to,
-                left,
-                right,
-                ..
-            } => {
-                self.count(*to);
-                self.count_two(left, right);
-            }
-            Line::Load { to, at, .. } => {
-                self.count(*to);
-                self.count_operand(&at.base);
-            }
-            Line::Store { value, at, .. } => self.count_two(value, &at.base),
-            Line::Alloc { to: Some(to), .. } => self.count(*to),
-            Line::Blit { from, to, .. } => self.count_two(from, to),
-            Line::Call { to, callee, args } => {
-                if let Some(to) = to {
-                    self.count(to.place);
-                }
-                self.count_operand(callee);
-                self.count_arguments(args.as_slice());
-            }
-        }
-    }
-
-    fn count_jump(&mut self, jump: &Jump<u32>) {
-        match jump {
-            Jump::Branch { on, .. } => self.count_two(&on.left, &on.right),
-            Jump::Return(Some(returned)) => self.count_operand(&returned.value),
-            Jump::Goto(_) | Jump::Return(None) | Jump::Halt => {}
+    fn count_reads(&mut self, reads: Reads<'_>) {
+        self.count_operand(reads.first);
+        self.count_operand(reads.second);
+        for arg in reads.args {
+            self.count_operand(Some(arg.value));
         }
     }
 
     fn count_block(&mut self, block: &Block<u32>) {
         for line in block.lines.as_slice() {
-            self.count_line(line);
+            if let Some(register) = line_writes(line) {
+                self.count(register);
+            }
+            self.count_reads(line_reads(line));
         }
-        self.count_jump(&block.jump);
+        self.count_reads(jump_reads(&block.jump));
     }
 }
 

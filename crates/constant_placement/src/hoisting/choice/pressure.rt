@@ -1,5 +1,6 @@
 //! Which registers live over the calls of loops.
 use crate::hoisting::choice::regions::Regions;
+use crate::points::{behind_block, behind_line};
 use cfg_live::live::live;
 use cfg_live::sets::Live;
 use std::alloc::{AllocError, Global};
@@ -51,10 +52,7 @@ fn push_calls(
 ) -> Result<(), AllocError> {
     let mut point = first;
     for line in block.lines.as_slice() {
-        match line {
-            Line::Tick { .. } => {}
-            _ => point = point.saturating_add(1),
-        }
+        point = behind_line(point, line);
         if let Line::Call { to, .. } = line {
             let result = match to {
                 Some(to) => to.place,
@@ -70,18 +68,6 @@ fn push_calls(
     Ok(())
 }
 
-/// The first point behind a block that begins at this one.
-fn point_behind(first: usize, block: &Block<u32>) -> usize {
-    let mut point = first;
-    for line in block.lines.as_slice() {
-        match line {
-            Line::Tick { .. } => {}
-            _ => point = point.saturating_add(1),
-        }
-    }
-    point.saturating_add(1)
-}
-
 /// The calls in loops, in the order of regions.
 fn calls_in(
     alloc: Global,
@@ -95,7 +81,7 @@ fn calls_in(
         if region != 0 {
             push_calls(&mut calls, region, point, block)?;
         }
-        point = point_behind(point, block);
+        point = behind_block(point, block);
     }
     calls.sort()?;
     Ok(calls)

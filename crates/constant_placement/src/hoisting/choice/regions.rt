@@ -30,123 +30,90 @@ impl Regions {
     }
 }
 
-/// A block in a loop that has no region yet joins this one, and is to be left for its neighbours.
-fn join(
-    numbers: &mut [usize],
-    way: &mut Vec<usize>,
-    depths: &[u32],
-    block: usize,
-    region: usize,
-) -> Result<(), AllocError> {
-    if depths.get(block).copied().unwrap_or(0) == 0 {
-        return Ok(());
-    }
-    match numbers.get_mut(block) {
-        Some(number) if *number == 0 => {
-            *number = region;
-            way.push(block)?;
-            Ok(())
-        }
-        _ => Ok(()),
-    }
-}
-
-fn join_target(
-    numbers: &mut [usize],
-    way: &mut Vec<usize>,
-    depths: &[u32],
-    block: Option<usize>,
-    region: usize,
-) -> Result<(), AllocError> {
-    match block {
-        Some(block) => join(numbers, way, depths, block, region),
-        None => Ok(()),
-    }
-}
-
-fn join_all(
-    numbers: &mut [usize],
-    way: &mut Vec<usize>,
-    depths: &[u32],
-    blocks: &[usize],
-    region: usize,
-) -> Result<(), AllocError> {
-    for block in blocks {
-        join(numbers, way, depths, *block, region)?;
-    }
-    Ok(())
-}
-
-/// The blocks, in how many loops each lies, and which blocks lead to it.
-#[derive(Clone, Copy)]
-struct Ways<'a> {
+/// Blocks that are joined to regions.
+#[derive(Drop)]
+struct Joining<'a> {
     blocks: &'a [Block<u32>],
     depths: &'a [u32],
     predecessors: &'a [Few<usize>],
+
+    /// of each block the number of its region, or 0 where it has none yet
+    numbers: Vec<usize>,
+
+    /// the region that blocks join
+    region: usize,
+
+    /// the blocks of the region that are to be left for their neighbours
+    way: Vec<usize>,
 }
 
-fn join_neighbours(
-    numbers: &mut [usize],
-    way: &mut Vec<usize>,
-    ways: Ways,
-    block: usize,
-    region: usize,
-) -> Result<(), AllocError> {
-    if let Some(from) = ways.blocks.get(block) {
-        join_target(numbers, way, ways.depths, successor(&from.jump, 0), region)?;
-        join_target(numbers, way, ways.depths, successor(&from.jump, 1), region)?;
+impl Joining<'_> {
+    /// Whether a block lies in a loop and has no region yet.
+    fn is_alone(&self, block: usize) -> bool {
+        self.numbers.get(block).copied().unwrap_or(1) == 0
+            && self.depths.get(block).copied().unwrap_or(0) > 0
     }
-    join_all(
-        numbers,
-        way,
-        ways.depths,
-        predecessors_of(ways.predecessors, block),
-        region,
-    )
-}
 
-/// Each block of the region is left once.
-fn spread(
-    alloc: Global,
-    numbers: &mut [usize],
-    ways: Ways,
-    first: usize,
-    region: usize,
-) -> Result<(), AllocError> {
-    let mut way = Vec::new(alloc);
-    join(numbers, &mut way, ways.depths, first, region)?;
-    for _ in 0..ways.blocks.len() {
-        match way.pop() {
-            Some(block) => join_neighbours(numbers, &mut way, ways, block, region)?,
-            None => return Ok(()),
+    fn join(&mut self, block: usize) -> Result<(), AllocError> {
+        if self.is_alone(block) {
+            if let Some(number) = self.numbers.get_mut(block) {
+                *number = self.region;
+            }
+            self.way.push(block)?;
+        }
+        Ok(())
+    }
+
+    fn join_target(&mut self, block: Option<usize>) -> Result<(), AllocError> {
+        match block {
+            Some(block) => self.join(block),
+            None => Ok(()),
         }
     }
-    Ok(())
-}
 
-fn is_alone(numbers: &[usize], depths: &[u32], block: usize) -> bool {
-    numbers.get(block).copied().unwrap_or(1) == 0 && depths.get(block).copied().unwrap_or(0) > 0
+    fn join_neighbours(&mut self, block: usize) -> Result<(), AllocError> {
+        if let Some(from) = self.blocks.get(block) {
+            self.join_target(successor(&from.jump, 0))?;
+            self.join_target(successor(&from.jump, 1))?;
+        }
+        for from in predecessors_of(self.predecessors, block) {
+            self.join(*from)?;
+        }
+        Ok(())
+    }
+
+    /// Each block of the region is left once.
+    fn spread(&mut self, first: usize) -> Result<(), AllocError> {
+        self.join(first)?;
+        for _ in 0..self.blocks.len() {
+            match self.way.pop() {
+                Some(block) => self.join_neighbours(block)?,
+                None => return Ok(()),
+            }
+        }
+        Ok(())
+    }
 }
 
 /// The regions, of which nothing is known yet.
-fn joined(alloc: Global, ways: Ways) -> Result<Regions, AllocError> {
+fn joined(alloc: Global, mut joining: Joining<'_>) -> Result<Regions, AllocError> {
     let none = Region {
         entries: 0,
         has_calls: false,
         blocks: 0,
     };
-    let mut regions = Regions {
-        numbers: vec![in alloc; 0usize; ways.blocks.len()]?,
-        list: vec![in alloc; none; 1]?,
-    };
-    for block in 0..ways.blocks.len() {
-        if is_alone(regions.numbers.as_slice(), ways.depths, block) {
-            let region = regions.list.len();
-            spread(alloc, regions.numbers.as_mut_slice(), ways, block, region)?;
-            regions.list.push(none)?;
+    let mut list = vec![in alloc; none; 1]?;
+    for block in 0..joining.blocks.len() {
+        if joining.is_alone(block) {
+            joining.region = list.len();
+            joining.spread(block)?;
+            list.push(none)?;
         }
     }
-    Ok(regions)
+    Ok(Regions {
+        numbers: joining.numbers,
+        list,
+    })
 }
 
 fn count_entry(list: &mut [Region], region: usize) {
@@ -199,12 +166,15 @@ pub(crate) fn find_regions(
     predecessors: &[Few<usize>],
     depths: &[u32],
 ) -> Result<Regions, AllocError> {
-    let ways = Ways {
+    let joining = Joining {
         blocks,
         depths,
         predecessors,
+        numbers: vec![in alloc; 0usize; blocks.len()]?,
+        region: 0,
+        way: Vec::new(alloc),
     };
-    let mut regions = joined(alloc, ways)?;
+    let mut regions = joined(alloc, joining)?;
     for (number, block) in blocks.iter().enumerate() {
         let region = regions.number(number);
         if region == 0 {

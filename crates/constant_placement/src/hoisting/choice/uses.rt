@@ -1,6 +1,7 @@
 //! What it would save to hold constants in registers.
 use crate::hoisting::choice::regions::Regions;
 use crate::hoisting::choice::saving::{where_branching, where_copied, where_operating, where_read};
+use crate::hoisting::plan::Constant;
 use flow::depths::frequency;
 use il_ast::symbol::Symbol;
 use std::alloc::{AllocError, Global};
@@ -31,12 +32,12 @@ impl Key {
         }
     }
 
-    /// The constant as an operand.
-    pub(crate) fn operand(self) -> Operand<u32> {
+    /// The constant.
+    pub(crate) fn constant(self) -> Constant {
         if self.is_name {
-            Operand::Name(Symbol::at(self.number as usize))
+            Constant::Name(Symbol::at(self.number as usize))
         } else {
-            Operand::Number(self.number)
+            Constant::Number(self.number)
         }
     }
 }

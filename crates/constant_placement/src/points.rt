@@ -1,0 +1,20 @@
+//! The points of virtual code, as guesses count them.
+use vcode::code::Block;
+use vcode::line::Line;
+
+/// The point behind a line.
+pub(crate) fn behind_line(point: usize, line: &Line<u32>) -> usize {
+    match line {
+        Line::Tick { .. } => point,
+        _ => point.saturating_add(1),
+    }
+}
+
+/// The first point behind a block that begins at this one.
+pub(crate) fn behind_block(first: usize, block: &Block<u32>) -> usize {
+    let mut point = first;
+    for line in block.lines.as_slice() {
+        point = behind_line(point, line);
+    }
+    point.saturating_add(1)
+}
