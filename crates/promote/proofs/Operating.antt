@@ -23,14 +23,6 @@ use Rattle.promote.proofs.Hiding.{Marks, place, moved, moved_if, moved_cell, mov
 
 -- ---- one operand
 
-few : (e : Extension) → extension_bytes e ≤ 8
-few SignedWord = omega arith
-few UnsignedWord = omega arith
-few SignedHalf = omega arith
-few UnsignedHalf = omega arith
-few SignedByte = omega arith
-few UnsignedByte = omega arith
-
 widened_moved : (hs : Marks) (e : Extension) (c : Class) (v : Value) → widened e c (moved hs v) ≡ moved_if hs (widened e c v)
 widened_moved hs e c (Integer n) = refl
 widened_moved hs e c (Pointer b o) = refl

@@ -3,6 +3,7 @@ use Rattle.std.proofs.Common.{◌≡◌, ℕ, ◌+◌, ◌*◌, ◌≤◌, Bool,
 use Rattle.std.specs.Prelude.{max, nat_lt, Option, Some, None, is_none}
 use Rattle.std.specs.List.{list_all, list_any, flat_map, sum_by, fold}
 use Rattle.std.proofs.Math.Path.{fun_ext}
+use Rattle.std.proofs.Math.Nat.{le_of_eq}
 use Rattle.std.proofs.lemmas.List.Folds.{list_any-append}
 use Rattle.std.proofs.lemmas.Bool.{not-false, not_from_true, eqb-true}
 use Rattle.std.proofs.lemmas.Bool.Decides.{nat_tests}
@@ -120,9 +121,6 @@ when_none b n e = ap (λ x. when x n) e
 
 -- ---- instructions
 
-abbrev line_of : Widths → Lined Inst → Lined Inst
-line_of w i = promoted_line w i
-
 -- a measure of an instruction that promotion of loads and stores leaves as it is
 abbrev Stays : {X : Type 0} → (Inst → X) → Type 0
 Stays {X} f = (size : Size) (a at : Val) (p : ℕ) (to : Dest) (op op2 : UnaryOp) → (f (Store size a at) ≡ f (Unary to op a)) × (f (Unary to op a) ≡ f (Unary to op2 a))
@@ -179,9 +177,6 @@ fold_less {X} p q f h (x ∷ xs) n k le = let one = h x in fold_less p q f h xs 
 sum_less : {X : Type 0} (p q : X → ℕ) (f : X → X) → ((x : X) → p (f x) ≤ q x) → (xs : List X) → sum_by p (map f xs) ≤ sum_by q xs
 sum_less p q f h xs = fold_less p q f h xs 0 0 (omega arith)
 
-same_most : (n k : ℕ) → n ≡ k → n ≤ k
-same_most n k e = omega (arith, e)
-
 -- the bytes of an alloc are gone with it
 made_bytes : (to : Dest) (alignment : Aligned) (size : ℕ) (o : Option Size) → alloc_bytes (made_in o to alignment size) ≤ alloc_bytes (Alloc to alignment size)
 made_bytes to alignment size None = omega arith
@@ -197,12 +192,12 @@ store_bytes size a p (Some s) = refl
 
 bytes_less : (w : Widths) (i : Inst) → alloc_bytes (promoted w i) ≤ alloc_bytes i
 bytes_less w (Unary to op (Int n)) = omega arith
-bytes_less w (Unary to op (Temp p)) = same_most (alloc_bytes (promoted w (Unary to op (Temp p)))) 0 (unary_bytes to op p (w p))
+bytes_less w (Unary to op (Temp p)) = le_of_eq (unary_bytes to op p (w p))
 bytes_less w (Unary to op (Global g)) = omega arith
 bytes_less w (Binary to op a b) = omega arith
 bytes_less w (Alloc to alignment size) = made_bytes to alignment size (w to.temp)
 bytes_less w (Store size a (Int n)) = omega arith
-bytes_less w (Store size a (Temp p)) = same_most (alloc_bytes (promoted w (Store size a (Temp p)))) 0 (store_bytes size a p (w p))
+bytes_less w (Store size a (Temp p)) = le_of_eq (store_bytes size a p (w p))
 bytes_less w (Store size a (Global g)) = omega arith
 bytes_less w (Blit from to count) = omega arith
 bytes_less w (Call to callee args) = omega arith
@@ -253,10 +248,6 @@ least_need w f g r =
     sum_most a b c d e f g h le x y z = omega (arith, le, x, y, z)
 
 -- ---- where temporaries are assigned
-
-or_later : (a b c : Bool) → (a || (b || c)) ≡ ((a || b) || c)
-or_later true b c = refl
-or_later false b c = refl
 
 any_all : {X Y : Type 0} (p : Y → Bool) (f g : X → List Y) → ((x : X) → list_any p (f x) ≡ list_any p (g x)) → (xs : List X) → list_any p (flat_map f xs) ≡ list_any p (flat_map g xs)
 any_all p f g h [] = refl

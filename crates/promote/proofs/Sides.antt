@@ -157,10 +157,6 @@ blanks_unread (suc k) (suc n) some true e = refl
 pub blank_shows : (hs : Marks) (s : Size) (n : ℕ) (u : Option (Option Value)) → Shows hs s (replicate n Blank) u
 blank_shows hs s n u = inl (blanks_unread (byte_count s) n (some_count s) (nat_le (0 + byte_count s) (length (replicate n Blank))) refl)
 
--- the promoted temporary points to a fresh hidden block
-abbrev Here : Value → Option Value → Type 0
-Here v y = y ≡ Some v
-
 -- what a promoted temporary pointed to before is an older block
 older : (w : Widths) (hs : Marks) (first : ℕ) (m : Memory) (ts us : List (Option Value)) → length hs ≡ length m → Sides w hs first m ts us → (r : ℕ) (s : Size) → w r ≡ Some s → slice_get ts r ≡ Some (Some (Pointer (length m) 0)) → ⊥
 older w hs first m ts us l x r s q e =
