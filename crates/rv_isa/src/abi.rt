@@ -63,7 +63,7 @@ pub const SECOND_SCRATCH: u8 = 29;
 /// x30.
 pub const THIRD_SCRATCH: u8 = 30;
 
-/// x31, which long jumps alone use.
+/// x31, which long jumps use, and within the code of a line copies of bytes.
 pub const JUMP_SCRATCH: u8 = 31;
 
 /// How many registers there are.
