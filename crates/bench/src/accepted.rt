@@ -4,7 +4,6 @@ use certificates::certificate::Certificate;
 use certificates::strategy::Strategy;
 use cfg_live::sets::Live;
 use qbec::compile::compile;
-use qbec::error::CompileError;
 use regalloc::linear_scan::LinearScan;
 use std::alloc::{AllocError, Global};
 use vcode::code::Block;
@@ -32,52 +31,36 @@ struct Counted {
 }
 
 fn is_slot(place: Location) -> bool {
-    match place {
-        Location::Slot(_) => true,
-        Location::Register(_) => false,
-    }
+    matches!(place, Location::Slot(_))
 }
 
 fn reads_slot(operand: Operand<Location>) -> bool {
-    match operand {
-        Operand::At(place) => is_slot(place),
-        _ => false,
-    }
+    matches!(operand, Operand::At(place) if is_slot(place))
 }
 
-fn count(slots: u64, is: bool) -> u64 {
-    if is { slots.saturating_add(1) } else { slots }
-}
-
-// One more for each operand and each result that stands in a slot; those of calls aren't counted.
-fn counted_line(slots: u64, line: &Line<Location>) -> u64 {
-    match line {
-        Line::Set { to, value } => count(count(slots, is_slot(*to)), reads_slot(*value)),
+// How many operands and results of a line stand in slots; those of calls aren't counted.
+fn slots_in(line: &Line<Location>) -> usize {
+    let in_slots = match line {
+        Line::Set { to, value } => [is_slot(*to), reads_slot(*value), false],
         Line::Operate {
             to,
             left,
             right,
             ..
-        } => {
-            let read = count(count(slots, reads_slot(*left)), reads_slot(*right));
-            count(read, is_slot(*to))
-        }
-        Line::Load { to, at, .. } => count(count(slots, is_slot(*to)), reads_slot(at.base)),
-        Line::Store { value, at, .. } => {
-            count(count(slots, reads_slot(*value)), reads_slot(at.base))
-        }
-        _ => slots,
-    }
+        } => [is_slot(*to), reads_slot(*left), reads_slot(*right)],
+        Line::Load { to, at, .. } => [is_slot(*to), reads_slot(at.base), false],
+        Line::Store { value, at, .. } => [reads_slot(*value), reads_slot(at.base), false],
+        _ => [false; 3],
+    };
+    in_slots.iter().filter(|is| **is).count()
 }
 
-fn counted_blocks(slots: u64, blocks: &[Block<Location>]) -> u64 {
-    let mut slots = slots;
-    for block in blocks {
-        for line in block.lines.as_slice() {
-            slots = counted_line(slots, line);
-        }
-    }
-    slots
+fn slots_of(blocks: &[Block<Location>]) -> u64 {
+    let lines = blocks.iter().flat_map(|block| block.lines.as_slice());
+    lines.fold(
+        0,
+        |slots: u64, line| slots.saturating_add(slots_in(line) as u64),
+    )
 }
 
 impl Counted {
@@ -95,7 +78,8 @@ impl Counted {
     fn count(&mut self, function: &VFunc, certificate: &Certificate) {
         match accept(self.alloc, function, certificate) {
             Ok(located) => {
-                self.slots = counted_blocks(self.slots, located.code.blocks.as_slice());
+                let slots = slots_of(located.code.blocks.as_slice());
+                self.slots = self.slots.saturating_add(slots);
             }
             Err(Refused::No) => self.refused = self.refused.saturating_add(1),
             Err(Refused::Memory) => {}
@@ -115,28 +99,20 @@ impl Strategy for Counted {
     }
 }
 
-impl Counted {
-    fn shown(&self) -> Result<String, AllocError> {
-        let functions = self.functions;
-        let unanswered = self.unanswered;
-        let refused = self.refused;
-        let slots = self.slots;
-        format!(in self.alloc;
-            "{functions} functions, {unanswered} without a certificate, {refused} refused; {slots} operands in slots"
-        )
-    }
-}
-
-// Why a text isn't compiled, if it isn't.
-fn refusal(alloc: Global, text: &[u8], allocator: &mut dyn Strategy) -> Option<CompileError> {
-    compile(alloc, &[text], allocator).err()
-}
-
 /// What the checker says of linear scan's answers for the functions of a text.
 pub fn accepted(alloc: Global, text: &[u8]) -> Result<String, AllocError> {
     let mut counted = Counted::new(alloc);
-    match refusal(alloc, text, &mut counted) {
-        None => counted.shown(),
-        Some(error) => format!(in alloc; "{error:?}"),
+    if let Err(error) = compile(alloc, &[text], &mut counted) {
+        return format!(in alloc; "{error:?}");
     }
+    let Counted {
+        functions,
+        unanswered,
+        refused,
+        slots,
+        ..
+    } = &counted;
+    format!(in alloc;
+        "{functions} functions, {unanswered} without a certificate, {refused} refused; {slots} operands in slots"
+    )
 }

@@ -1,8 +1,7 @@
 //! How many instructions the executables of the examples take, and how many turns their programs.
-use elf_file::{Loaded, read_image};
+use elf_file::read_image;
 use il_ast::value::End;
 use il_interp::interpret::interpret;
-use il_types::checked::Checked;
 use obj_link::linking::resolve::resolve;
 use qbec::compile::compile;
 use qbec::texts::checked_texts;
@@ -44,27 +43,19 @@ enum Run<'x> {
 const STEPS: u32 = 24;
 
 // Whether the executable has ended within so many instructions; none where it can't be run.
-fn executable_ends(alloc: Global, loaded: &Loaded, words: &[&[u8]], limit: u64) -> Option<bool> {
-    let machine: Machine<FlatRam> = Machine::start(alloc, loaded, words).ok()?;
+fn file_ends(alloc: Global, file: &[u8], words: &[&[u8]], limit: u64) -> Option<bool> {
+    let loaded = read_image(alloc, file).ok()?;
+    let machine: Machine<FlatRam> = Machine::start(alloc, &loaded, words).ok()?;
     let (_, stop) = machine.run(alloc, limit);
     Some(stop != Stop::Limit)
 }
 
-fn file_ends(alloc: Global, file: &[u8], words: &[&[u8]], limit: u64) -> Option<bool> {
-    let loaded = read_image(alloc, file).ok()?;
-    executable_ends(alloc, &loaded, words, limit)
-}
-
 // Whether the program of the texts has ended within so many turns; none where it can't be run.
-fn program_ends(alloc: Global, texts: &[Checked], words: &[&[u8]], limit: u64) -> Option<bool> {
-    let linked = resolve(alloc, texts).ok()?;
-    let (_, end) = interpret(alloc, &linked, words, limit).ok()?;
-    Some(end != End::Turns)
-}
-
 fn texts_end(alloc: Global, texts: &[&[u8]], words: &[&[u8]], limit: u64) -> Option<bool> {
     let checked = checked_texts(alloc, texts).ok()?;
-    program_ends(alloc, checked.as_slice(), words, limit)
+    let linked = resolve(alloc, checked.as_slice()).ok()?;
+    let (_, end) = interpret(alloc, &linked, words, limit).ok()?;
+    Some(end != End::Turns)
 }
 
 impl Run<'_> {
@@ -94,49 +85,27 @@ impl Run<'_> {
     }
 }
 
-fn instructions(alloc: Global, texts: &[&[u8]], words: &[&[u8]]) -> Option<u64> {
-    let file = compile(alloc, texts, &mut LinearScan::new(alloc)).ok()?;
-    Run::File(file.as_slice()).length(alloc, words)
-}
-
 // The instructions and the turns of the program of the texts, or none where it isn't one, or is too long.
 fn lengths(alloc: Global, texts: &[&[u8]], words: &[&[u8]]) -> Option<(u64, u64)> {
-    let instructions = instructions(alloc, texts, words)?;
+    let file = compile(alloc, texts, &mut LinearScan::new(alloc)).ok()?;
+    let instructions = Run::File(file.as_slice()).length(alloc, words)?;
     let turns = Run::Texts(texts).length(alloc, words)?;
     Some((instructions, turns))
 }
 
-fn slices(alloc: Global, texts: &[Vec<u8>]) -> Result<Vec<&[u8]>, AllocError> {
-    let mut slices = Vec::new(alloc);
-    for text in texts {
-        slices.push(text.as_slice())?;
-    }
-    Ok(slices)
-}
-
-fn bytes_of_words(alloc: Global, words: &str) -> Result<Vec<&[u8]>, AllocError> {
-    let mut bytes = Vec::new(alloc);
-    for word in words.split_whitespace() {
-        bytes.push(word.as_bytes())?;
-    }
-    Ok(bytes)
-}
-
 // What is said of the program of the texts with words between spaces.
 fn said(alloc: Global, texts: &[Vec<u8>], words: &str) -> Result<String, AllocError> {
-    let slices = slices(alloc, texts)?;
-    let bytes = bytes_of_words(alloc, words)?;
+    let slices: Vec<&[u8]> = texts.iter().map(|text| text.as_slice()).collect(alloc)?;
+    let bytes: Vec<&[u8]> = words
+        .split_whitespace()
+        .map(|word| word.as_bytes())
+        .collect(alloc)?;
     match lengths(alloc, slices.as_slice(), bytes.as_slice()) {
         Some((instructions, turns)) => {
             format!(in alloc; "{instructions} instructions, {turns} turns")
         }
         None => String::from_str(alloc, "no program that ends, or no memory"),
     }
-}
-
-fn text_of<R: Files + AllocGlobal>(rt: &R, folder: &str, name: &str) -> io::Result<Vec<u8>> {
-    let path = format!(in rt.alloc(); "{folder}/{name}.ssa")?;
-    fs::read(rt, path.as_str())
 }
 
 /// What is said of an example whose texts stand in the folder: how many instructions its executable takes, and how many turns it takes.
@@ -152,7 +121,8 @@ pub fn example<R: Files + AllocGlobal>(
 ) -> io::Result<String> {
     let mut texts = Vec::new(rt.alloc());
     for name in names.split_whitespace() {
-        texts.push(text_of(rt, folder, name)?)?;
+        let path = format!(in rt.alloc(); "{folder}/{name}.ssa")?;
+        texts.push(fs::read(rt, path.as_str())?)?;
     }
     Ok(said(rt.alloc(), texts.as_slice(), words)?)
 }

@@ -34,26 +34,14 @@ fn place(shape: Shape, blocks: u32, block: u32) -> u32 {
 fn next_blocks(shape: Shape, blocks: u32, block: u32) -> (u32, Option<u32>) {
     let last = blocks.saturating_sub(1);
     let ahead = block.saturating_add(1).min(last);
-    let odd = block % 2 == 1;
-    match shape {
-        Shape::Reversed => (
-            ahead,
-            if block % 10 == 9 {
-                block.checked_sub(9)
-            } else {
-                None
-            },
-        ),
-        Shape::Ladder => (ahead, if odd { block.checked_sub(3) } else { None }),
-        Shape::Nest => {
-            if odd {
-                (block.saturating_sub(1), None)
-            } else {
-                let inner = block.saturating_add(2);
-                let next = if inner < blocks { inner } else { ahead };
-                (next, block.checked_sub(1))
-            }
-        }
+    let inner = block.saturating_add(2);
+    match (shape, block % 2) {
+        (Shape::Reversed, _) if block % 10 == 9 => (ahead, block.checked_sub(9)),
+        (Shape::Ladder, 1) => (ahead, block.checked_sub(3)),
+        (Shape::Nest, 1) => (block.saturating_sub(1), None),
+        (Shape::Nest, _) if inner < blocks => (inner, block.checked_sub(1)),
+        (Shape::Nest, _) => (ahead, block.checked_sub(1)),
+        (Shape::Reversed | Shape::Ladder, _) => (ahead, None),
     }
 }
 
@@ -76,9 +64,8 @@ fn next_of_last(
     let (ahead, other) = next_blocks(shape, blocks, block);
     let mut next = Few::new(alloc);
     push_start(&mut next, shape, blocks, ahead)?;
-    match other {
-        Some(other) => push_start(&mut next, shape, blocks, other)?,
-        None => {}
+    if let Some(other) = other {
+        push_start(&mut next, shape, blocks, other)?;
     }
     Ok(next)
 }
@@ -91,13 +78,8 @@ fn registers(shape: Shape, block: u32, point: u32) -> (Option<u32>, Option<u32>)
             Some(number.wrapping_mul(7) % REGISTERS),
             Some(number.wrapping_mul(3) % REGISTERS),
         ),
-        Shape::Ladder | Shape::Nest => {
-            if point == 0 {
-                (Some(block % REGISTERS), None)
-            } else {
-                (None, None)
-            }
-        }
+        Shape::Ladder | Shape::Nest if point == 0 => (Some(block % REGISTERS), None),
+        Shape::Ladder | Shape::Nest => (None, None),
     }
 }
 
@@ -105,9 +87,8 @@ fn registers(shape: Shape, block: u32, point: u32) -> (Option<u32>, Option<u32>)
 fn uses(alloc: Global, shape: Shape, block: u32, point: u32) -> Result<Uses, AllocError> {
     let (read, writes) = registers(shape, block, point);
     let mut reads = Few::new(alloc);
-    match read {
-        Some(register) => reads.push(register)?,
-        None => {}
+    if let Some(register) = read {
+        reads.push(register)?;
     }
     Ok(Uses { reads, writes })
 }
@@ -135,21 +116,6 @@ fn push_point(
     graph.nexts.push(next)
 }
 
-fn push_blocks(
-    alloc: Global,
-    graph: &mut Graph,
-    shape: Shape,
-    blocks: u32,
-) -> Result<(), AllocError> {
-    for standing in 0..blocks {
-        let block = place(shape, blocks, standing);
-        for point in 0..POINTS {
-            push_point(alloc, graph, shape, blocks, block, point)?;
-        }
-    }
-    Ok(())
-}
-
 /// The graph of so many blocks.
 ///
 /// # Errors
@@ -160,6 +126,11 @@ pub fn graph_of(alloc: Global, shape: Shape, blocks: u32) -> Result<Graph, Alloc
         uses: Seq::new(alloc),
         nexts: Seq::new(alloc),
     };
-    push_blocks(alloc, &mut graph, shape, blocks)?;
+    for standing in 0..blocks {
+        let block = place(shape, blocks, standing);
+        for point in 0..POINTS {
+            push_point(alloc, &mut graph, shape, blocks, block, point)?;
+        }
+    }
     Ok(graph)
 }

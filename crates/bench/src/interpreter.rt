@@ -1,10 +1,9 @@
 //! How fast programs are interpreted.
-use crate::texts::{Shape, text_of};
+use crate::texts::text_of;
 use il_ast::value::End;
 use il_interp::interpret::interpret;
 use il_reader::read::read;
 use il_types::check::check;
-use il_types::checked::Checked;
 use obj_link::linking::resolve::resolve;
 use std::alloc::{AllocError, Global};
 
@@ -58,49 +57,28 @@ ret %x
 }
 ";
 
-fn checked(alloc: Global, text: &[u8]) -> Option<Vec<Checked>> {
-    let tree = read(alloc, text).ok()?;
-    let checked = check(alloc, tree).ok()?;
-    vec![in alloc; checked].ok()
-}
-
 // The end of the program that one text is, or none where it is none or memory is refused.
 fn end_of(alloc: Global, text: &[u8], turns: u64) -> Option<End> {
-    let texts = checked(alloc, text)?;
-    end_of_checked(alloc, texts.as_slice(), turns)
-}
-
-fn end_of_checked(alloc: Global, texts: &[Checked], turns: u64) -> Option<End> {
-    let linked = resolve(alloc, texts).ok()?;
+    let checked = check(alloc, read(alloc, text).ok()?).ok()?;
+    let texts = vec![in alloc; checked].ok()?;
+    let linked = resolve(alloc, texts.as_slice()).ok()?;
     let (_, end) = interpret(alloc, &linked, &[], turns).ok()?;
     Some(end)
 }
 
-/// What is interpreted.
-#[derive(Clone, Copy)]
-pub enum Turns {
-    Alu,
-    Memory,
-    Calls,
-    Phis,
-}
-
-// The end of what is measured.
-fn measured(alloc: Global, measure: Turns, turns: u64) -> Option<End> {
-    match measure {
-        Turns::Alu => end_of(alloc, ALU.as_bytes(), turns),
-        Turns::Memory => end_of(alloc, MEMORY.as_bytes(), turns),
-        Turns::Calls => end_of(alloc, CALLS.as_bytes(), turns),
-        Turns::Phis => {
-            let text = text_of(alloc, Shape::Phis, 195).ok()?;
-            end_of(alloc, text.as_bytes(), turns)
-        }
+// The end of the program of a kind.
+fn measured(alloc: Global, kind: &str, turns: u64) -> Option<End> {
+    match kind {
+        "memory" => end_of(alloc, MEMORY.as_bytes(), turns),
+        "calls" => end_of(alloc, CALLS.as_bytes(), turns),
+        "phis" => end_of(alloc, text_of(alloc, "phis", 195).ok()?.as_bytes(), turns),
+        _ => end_of(alloc, ALU.as_bytes(), turns),
     }
 }
 
-/// How a program ends after so many turns.
-pub fn interpret_turns(alloc: Global, measure: Turns, turns: u64) -> Result<String, AllocError> {
-    match measured(alloc, measure, turns) {
+/// How the program of a kind ends after so many turns.
+pub fn interpret_turns(alloc: Global, kind: &str, turns: u64) -> Result<String, AllocError> {
+    match measured(alloc, kind, turns) {
         Some(end) => format!(in alloc; "{end:?} after at most {turns} turns"),
         None => String::from_str(alloc, "no program, or no memory"),
     }

@@ -24,11 +24,9 @@ pub fn joins(alloc: Global, length: usize) -> Result<usize, AllocError> {
 pub fn live_at_first(alloc: Global, shape: Shape, blocks: u32) -> Result<usize, AllocError> {
     let graph = graph_of(alloc, shape, blocks)?;
     let live = live_in(alloc, &graph, REGISTERS)?;
-    let mut count = 0usize;
-    for register in 0..REGISTERS {
-        if live.holds(0, register) {
-            count = count.saturating_add(1);
-        }
-    }
-    Ok(count)
+    Ok(
+        (0..REGISTERS)
+            .filter(|register| live.holds(0, *register))
+            .count(),
+    )
 }

@@ -1,5 +1,5 @@
 //! How fast the machine runs.
-use elf_file::{Loaded, read_image, write_image};
+use elf_file::{read_image, write_image};
 use obj_link::Image;
 use rv_machine::flat_ram::FlatRam;
 use rv_machine::machine::Machine;
@@ -10,23 +10,12 @@ use std::alloc::{AllocError, Global};
 
 /// addi a0, a0, 1; xor a1, a1, a0; slli a2, a0, 3; add a3, a3, a2; addi t0, t0, -1; bne t0, x0, back to the first
 const ALU: [u32; 6] = [
-    0x0015_0513,
-    0x00a5_c5b3,
-    0x0035_1613,
-    0x00c6_86b3,
-    0xfff2_8293,
-    0xfe02_96e3,
+    0x00150513, 0x00a5c5b3, 0x00351613, 0x00c686b3, 0xfff28293, 0xfe0296e3,
 ];
 
 /// lui s0, 0x11; ld a1, 0(s0); add a1, a1, a0; sd a1, 8(s0); addi a0, a0, 1; addi t0, t0, -1; bne t0, x0, back to the load
 const MEMORY: [u32; 7] = [
-    0x0001_1437,
-    0x0004_3583,
-    0x00a5_85b3,
-    0x00b4_3423,
-    0x0015_0513,
-    0xfff2_8293,
-    0xfe02_96e3,
+    0x00011437, 0x00043583, 0x00a585b3, 0x00b43423, 0x00150513, 0xfff28293, 0xfe0296e3,
 ];
 
 // An executable of this code with a slot of data.
@@ -39,19 +28,10 @@ fn executable(alloc: Global, code: &[u32]) -> Option<Vec<u8>> {
     write_image(alloc, &Image::new(code, data)).ok()
 }
 
-fn loaded(alloc: Global, code: &[u32]) -> Option<Loaded> {
-    let file = executable(alloc, code)?;
-    read_image(alloc, file.as_slice()).ok()
-}
-
-fn started<R: Ram>(alloc: Global, code: &[u32]) -> Option<Machine<R>> {
-    let loaded = loaded(alloc, code)?;
-    Machine::start(alloc, &loaded, &[]).ok()
-}
-
 /// Runs the code for so many instructions; `None` where there is no memory for it.
 fn stop_of<R: Ram>(alloc: Global, code: &[u32], limit: u64) -> Option<Stop> {
-    let machine: Machine<R> = started(alloc, code)?;
+    let loaded = read_image(alloc, executable(alloc, code)?.as_slice()).ok()?;
+    let machine: Machine<R> = Machine::start(alloc, &loaded, &[]).ok()?;
     let (_, stop) = machine.run(alloc, limit);
     Some(stop)
 }
@@ -63,11 +43,7 @@ pub fn run_machine(
     paged: bool,
     limit: u64,
 ) -> Result<String, AllocError> {
-    let code = if stores {
-        MEMORY.as_slice()
-    } else {
-        ALU.as_slice()
-    };
+    let code: &[u32] = if stores { &MEMORY } else { &ALU };
     let stop = if paged {
         stop_of::<PageRam>(alloc, code, limit)
     } else {

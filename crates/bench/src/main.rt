@@ -35,10 +35,12 @@ mod texts;
 use crate::accepted::accepted;
 use crate::examples::{EXAMPLES, example};
 use crate::front::{compile_text, link_text};
-use crate::interpreter::{Turns, interpret_turns};
+use crate::graphs::Shape;
+use crate::interpreter::interpret_turns;
 use crate::liveness::{joins, live_at_first};
 use crate::machine::run_machine;
-use crate::texts::{Shape, text_of};
+use crate::moves::moves_in_sequence;
+use crate::texts::text_of;
 use end_to_end::programs_told;
 use std::alloc::{AllocError, Global};
 use std::time::Instant;
@@ -77,49 +79,12 @@ const TABLE: [(&str, &str, u64); 12] = [
     ("liveness", "nest", 1_000),
 ];
 
-fn shape_of(kind: &str) -> Shape {
+fn graph_shape_of(kind: &str) -> Shape {
     match kind {
-        "lines" => Shape::Lines,
-        "locals" => Shape::Locals,
-        "phi" => Shape::Phi,
-        "phis" => Shape::Phis,
-        "wide" => Shape::Wide,
-        "bytes" => Shape::Bytes,
-        "strings" => Shape::Strings,
-        _ => Shape::Functions,
+        "ladder" => Shape::Ladder,
+        "nest" => Shape::Nest,
+        _ => Shape::Reversed,
     }
-}
-
-fn graph_shape_of(kind: &str) -> graphs::Shape {
-    match kind {
-        "ladder" => graphs::Shape::Ladder,
-        "nest" => graphs::Shape::Nest,
-        _ => graphs::Shape::Reversed,
-    }
-}
-
-fn turns_of(kind: &str) -> Turns {
-    match kind {
-        "memory" => Turns::Memory,
-        "calls" => Turns::Calls,
-        "phis" => Turns::Phis,
-        _ => Turns::Alu,
-    }
-}
-
-fn live_told(alloc: Global, kind: &str, size: u32) -> Result<String, AllocError> {
-    let live = live_at_first(alloc, graph_shape_of(kind), size)?;
-    format!(in alloc; "{live} registers are live")
-}
-
-fn joins_told(alloc: Global, size: usize) -> Result<String, AllocError> {
-    let grew = joins(alloc, size)?;
-    format!(in alloc; "{grew} joins let a set grow")
-}
-
-fn moves_told(alloc: Global, size: usize) -> Result<String, AllocError> {
-    let moves = moves::moves_in_sequence(alloc, size)?;
-    format!(in alloc; "{moves} moves in order")
 }
 
 /// What comes of a measure.
@@ -136,13 +101,22 @@ fn done(
             let stores = kind.starts_with("memory");
             run_machine(alloc, stores, kind.ends_with("paged"), size)
         }
-        "interpreter" => interpret_turns(alloc, turns_of(kind), size),
+        "interpreter" => interpret_turns(alloc, kind, size),
         "front" => link_text(alloc, text),
         "compile" => compile_text(alloc, text),
         "certificates" => accepted(alloc, text),
-        "liveness" => live_told(alloc, kind, small),
-        "sets" => joins_told(alloc, small as usize),
-        "moves" => moves_told(alloc, small as usize),
+        "liveness" => {
+            let live = live_at_first(alloc, graph_shape_of(kind), small)?;
+            format!(in alloc; "{live} registers are live")
+        }
+        "sets" => {
+            let grew = joins(alloc, small as usize)?;
+            format!(in alloc; "{grew} joins let a set grow")
+        }
+        "moves" => {
+            let moves = moves_in_sequence(alloc, small as usize)?;
+            format!(in alloc; "{moves} moves in order")
+        }
         _ => String::from_str(alloc, "no measure"),
     }
 }
@@ -151,7 +125,7 @@ fn done(
 fn text_for(alloc: Global, measure: &str, kind: &str, size: u64) -> Result<String, AllocError> {
     match measure {
         "front" | "compile" | "certificates" | "text" => {
-            text_of(alloc, shape_of(kind), size.min(100_000_000) as u32)
+            text_of(alloc, kind, size.min(100_000_000))
         }
         _ => Ok(String::new(alloc)),
     }
@@ -171,15 +145,6 @@ fn timed(
     Ok((said, time))
 }
 
-/// Whether the size of a measure is how many instructions or turns it takes at most.
-fn takes_steps(measure: &str) -> bool {
-    measure == "machine" || measure == "interpreter"
-}
-
-fn millions_a_second(steps: u64, milliseconds: u128) -> u128 {
-    u128::from(steps) / (milliseconds.max(1).saturating_mul(1000))
-}
-
 /// Prints what comes of a measure, with its time where that is asked for.
 fn print_row(
     rt: &HostRuntime,
@@ -190,15 +155,14 @@ fn print_row(
 ) -> io::Result<()> {
     let text = text_for(rt.alloc(), measure, kind, size)?;
     let (said, time) = timed(rt, measure, kind, size, text.as_bytes())?;
-    if is_timed && takes_steps(measure) {
-        let millions = millions_a_second(size, time);
-        println!(rt;
-            "{measure} {kind} {size}: {time} ms, {millions} million steps a second, {said}"
-        )
-    } else if is_timed {
-        println!(rt; "{measure} {kind} {size}: {time} ms, {said}")
-    } else {
+    if !is_timed {
         println!(rt; "{measure} {kind} {size}: {said}")
+    } else if matches!(measure, "machine" | "interpreter") {
+        let millions = u128::from(size) / (time.max(1).saturating_mul(1000));
+        let speed = "million steps a second";
+        println!(rt; "{measure} {kind} {size}: {time} ms, {millions} {speed}, {said}")
+    } else {
+        println!(rt; "{measure} {kind} {size}: {time} ms, {said}")
     }
 }
 
@@ -209,42 +173,24 @@ fn print_rows(rt: &HostRuntime, rows: &[(&str, &str, u64)], is_timed: bool) -> i
     Ok(())
 }
 
-fn print_example(rt: &HostRuntime, folder: &str, names: &str, words: &str) -> io::Result<()> {
-    let said = example(rt, folder, names, words)?;
-    println!(rt; "{names}: {said}")
-}
-
 fn print_examples(rt: &HostRuntime, folder: &str) -> io::Result<()> {
     for (names, words) in EXAMPLES {
-        print_example(rt, folder, names, words)?;
+        println!(rt; "{names}: {}", example(rt, folder, names, words)?)?;
     }
     Ok(())
-}
-
-fn accepted_of(rt: &HostRuntime, path: &str) -> io::Result<String> {
-    let text = fs::read(rt, path)?;
-    Ok(accepted(rt.alloc(), text.as_slice())?)
 }
 
 fn print_accepted(rt: &HostRuntime, paths: &[String]) -> io::Result<()> {
     for path in paths {
-        let said = accepted_of(rt, path.as_str())?;
-        println!(rt; "{path}: {said}")?;
+        let text = fs::read(rt, path.as_str())?;
+        println!(rt; "{path}: {}", accepted(rt.alloc(), text.as_slice())?)?;
     }
     Ok(())
 }
 
-fn print_text(rt: &HostRuntime, kind: &str, size: u64) -> io::Result<()> {
-    let text = text_for(rt.alloc(), "text", kind, size)?;
-    print!(rt; "{text}")
-}
-
 /// A word, empty where there is none.
 fn word(words: &[String], k: usize) -> &str {
-    match words.get(k) {
-        Some(word) => word.as_str(),
-        None => "",
-    }
+    words.get(k).map_or("", |word| word.as_str())
 }
 
 /// How the tables of steps and of programs came out, and a little of each measure.
@@ -268,7 +214,7 @@ fn perform(rt: &HostRuntime, words: &[String]) -> io::Result<()> {
         "examples" if kind.is_empty() => print_examples(rt, "../../examples"),
         "examples" => print_examples(rt, kind),
         "accepted" => print_accepted(rt, rest),
-        "text" => print_text(rt, kind, size),
+        "text" => print!(rt; "{}", text_for(rt.alloc(), "text", kind, size)?),
         measure => print_row(rt, measure, kind, size, true),
     }
 }

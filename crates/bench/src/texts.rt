@@ -2,49 +2,25 @@
 use crate::phis::push_phis;
 use std::alloc::{AllocError, Global};
 use text_maker::maker::TextMaker;
+use text_maker::say;
 
 /// How many numbers live through all blocks of a wide function.
 const KEPT: u64 = 3_990;
 
-/// What a text is made of.
-#[derive(Clone, Copy)]
-pub enum Shape {
-    /// so many functions with a loop of six lines each
-    Functions,
-    /// one function of so many additions over 4,000 temporaries
-    Lines,
-    /// one function that so many times loads, adds and stores one of 3,990 locals in memory
-    Locals,
-    /// so many blocks before a phi that names them all
-    Phi,
-    /// a block of so many phis and as many predecessors
-    Phis,
-    /// one function of so many blocks, through all of which 3,990 temporaries live
-    Wide,
-    /// a datum of so many bytes, of four characters each
-    Bytes,
-    /// a datum of strings that have so many characters together, 64 each
-    Strings,
-}
-
-/// The text of this shape and size.
-pub fn text_of(alloc: Global, shape: Shape, size: u32) -> Result<String, AllocError> {
+/// The text of a kind and size, as the table of measures has them.
+pub fn text_of(alloc: Global, kind: &str, size: u64) -> Result<String, AllocError> {
     let mut text = TextMaker::new(alloc);
-    push_text(&mut text, shape, size.into());
-    text.finish()
-}
-
-fn push_text(text: &mut TextMaker, shape: Shape, size: u64) {
-    match shape {
-        Shape::Functions => functions(text, size),
-        Shape::Lines => lines(text, size),
-        Shape::Locals => locals(text, size),
-        Shape::Phi => phi(text, size),
-        Shape::Phis => push_phis(text, size),
-        Shape::Wide => wide(text, size),
-        Shape::Bytes => bytes(text, size),
-        Shape::Strings => strings(text, size),
+    match kind {
+        "lines" => lines(&mut text, size),
+        "locals" => locals(&mut text, size),
+        "phi" => phi(&mut text, size),
+        "phis" => push_phis(&mut text, size),
+        "wide" => wide(&mut text, size),
+        "bytes" => bytes(&mut text, size),
+        "strings" => strings(&mut text, size),
+        _ => functions(&mut text, size),
     }
+    text.finish()
 }
 
 /// The lines of a function with a loop, behind its first one.
@@ -64,8 +40,7 @@ const LOOP: &str = "@start
 
 fn functions(text: &mut TextMaker, count: u64) {
     for number in 1..count {
-        text.add_with_numbers("function w $function#(w %limit) {\n", &[number]);
-        text.add(LOOP);
+        say!(text; "function w $function{number}(w %limit) {{\n{LOOP}");
     }
     text.add("export function w $main() {\n@start\n\tret 0\n}\n");
 }
@@ -75,7 +50,7 @@ fn lines(text: &mut TextMaker, count: u64) {
     for number in 0..count {
         let to = number % 3_999 + 1;
         let from = number % 4_000;
-        text.add_with_numbers("\t%t# =w add %t#, #\n", &[to, from, number]);
+        say!(text; "\t%t{to} =w add %t{from}, {number}\n");
     }
     text.add("\tret %t0\n}\n");
 }
@@ -83,13 +58,12 @@ fn lines(text: &mut TextMaker, count: u64) {
 fn locals(text: &mut TextMaker, count: u64) {
     text.add("export function w $main() {\n@start\n");
     for number in 0..3_990 {
-        text.add_with_numbers("\t%l# =l alloc4 4\n", &[number]);
+        say!(text; "\t%l{number} =l alloc4 4\n");
     }
     for number in 0..count {
         let from = number % 3_990;
         let to = (from + 1) % 3_990;
-        text.add_with_numbers("\t%t =w loadw %l#\n", &[from]);
-        text.add_with_numbers("\t%t =w add %t, #\n\tstorew %t, %l#\n", &[number, to]);
+        say!(text; "\t%t =w loadw %l{from}\n\t%t =w add %t, {number}\n\tstorew %t, %l{to}\n");
     }
     text.add("\tret 0\n}\n");
 }
@@ -97,11 +71,11 @@ fn locals(text: &mut TextMaker, count: u64) {
 fn phi(text: &mut TextMaker, count: u64) {
     text.add("export function w $main() {\n@start\n");
     for number in 0..count {
-        text.add_with_numbers("@from#\n\tjmp @to\n", &[number]);
+        say!(text; "@from{number}\n\tjmp @to\n");
     }
     text.add("@to\n\t%x =w phi ");
     for number in 0..count {
-        text.add_with_numbers("@from# #, ", &[number, number]);
+        say!(text; "@from{number} {number}, ");
     }
     text.add("\n\tret %x\n}\n");
 }
@@ -109,8 +83,7 @@ fn phi(text: &mut TextMaker, count: u64) {
 fn bytes(text: &mut TextMaker, count: u64) {
     text.add("export function w $main() {\n@start\n\tret 0\n}\ndata $d = { b ");
     for number in 0..count {
-        text.add_number(number % 100 + 100);
-        text.add(" ");
+        say!(text; "{} ", number % 100 + 100);
     }
     text.add("}\n");
 }
@@ -120,9 +93,7 @@ const STRING: &str = "\tb \"What stands here is long enough to be a line of some
 
 fn strings(text: &mut TextMaker, characters: u64) {
     text.add("export function w $main() {\n@start\n\tret 0\n}\ndata $d = {\n");
-    for _ in 0..characters / 64 {
-        text.add(STRING);
-    }
+    text.repeat(STRING, characters / 64);
     text.add("\tb 0 }\n");
 }
 
@@ -134,13 +105,16 @@ fn kept(number: u64) -> u64 {
 fn wide(text: &mut TextMaker, count: u64) {
     text.add("export function w $main() {\n@start\n\t%x =w copy 0\n");
     for number in 0..KEPT {
-        text.add_with_numbers("\t%t# =w copy #\n", &[number, number]);
+        say!(text; "\t%t{number} =w copy {number}\n");
     }
     for number in 0..count {
         push_wide_block(text, number, count);
     }
-    text.add_with_numbers("@b#\n", &[count]);
-    push_sum(text);
+    say!(text; "@b{count}\n");
+    for number in 0..KEPT {
+        say!(text; "\t%x =w add %x, %t{number}\n");
+    }
+    text.add("\tret %x\n}\n");
 }
 
 // Each block reads three of them, writes a fourth one, and goes on at the next block or at the one behind it.
@@ -150,16 +124,7 @@ fn push_wide_block(text: &mut TextMaker, number: u64, count: u64) {
     let other = kept(number.wrapping_mul(31));
     let next = number.saturating_add(1);
     let second = next.saturating_add(1).min(count);
-    text.add_with_numbers("@b#\n\t%y =w add %x, %t#\n", &[number, one]);
-    text.add_with_numbers("\t%z =w xor %y, %t#\n", &[other]);
-    text.add_with_numbers("\t%t# =w sub %t#, %z\n", &[to, to]);
-    text.add_with_numbers("\t%x =w add %z, #\n", &[number]);
-    text.add_with_numbers("\tjnz %y, @b#, @b#\n", &[next, second]);
-}
-
-fn push_sum(text: &mut TextMaker) {
-    for number in 0..KEPT {
-        text.add_with_numbers("\t%x =w add %x, %t#\n", &[number]);
-    }
-    text.add("\tret %x\n}\n");
+    say!(text; "@b{number}\n\t%y =w add %x, %t{one}\n\t%z =w xor %y, %t{other}\n");
+    say!(text; "\t%t{to} =w sub %t{to}, %z\n\t%x =w add %z, {number}\n");
+    say!(text; "\tjnz %y, @b{next}, @b{second}\n");
 }

@@ -4,4 +4,3 @@ pub mod RunningLonger
 pub mod Summing
 pub mod KeepingOrder
 pub mod KeepingLonger
-pub mod Standing

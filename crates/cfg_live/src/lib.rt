@@ -12,6 +12,8 @@
 //! worklist of the points behind which a set grew, so that the order of the blocks in the text does not matter; a last sweep over all points changes none. That
 //! shows that the sets are closed, and that such sets are exact is a law of its own ([`laws`]). Only what makes sets and lists wants memory; `holds` takes none.
 //!
+//! [`reads`] has what lines and jumps read as guesses ask for it: without taking memory, and in no contract.
+//!
 //! The crate stands on `vcode` for the code and on `bitset` for sets.
 #![tactic(auto)]
 
@@ -23,6 +25,7 @@ pub mod low_registers;
 pub mod numbering;
 mod order;
 pub mod points;
+pub mod reads;
 pub mod sets;
 mod spread;
 mod sweep;

@@ -44,28 +44,23 @@ impl Order {
 }
 
 fn mark(visits: &mut [Visit], point: usize, visit: Visit) {
-    match visits.get_mut(point) {
-        Some(at) => *at = visit,
-        None => {}
+    if let Some(at) = visits.get_mut(point) {
+        *at = visit;
     }
 }
 
 fn enter(walk: &mut Walk, edges: &[Few<usize>], point: usize) -> Result<(), AllocError> {
     if walk.visits.get(point) == Some(&Visit::New) {
         mark(walk.visits.as_mut_slice(), point, Visit::Open);
-        let ahead = match edges.get(point) {
-            Some(next) => next.as_slice().len(),
-            None => 0,
-        };
+        let ahead = edges.get(point).map_or(0, |next| next.len());
         walk.way.push(Step { point, ahead })?;
     }
     Ok(())
 }
 
 fn note_head(is_head: &mut [bool], point: usize) {
-    match is_head.get_mut(point) {
-        Some(at) => *at = true,
-        None => {}
+    if let Some(at) = is_head.get_mut(point) {
+        *at = true;
     }
 }
 
@@ -89,30 +84,25 @@ fn next_of(walk: &mut Walk, edges: &[Few<usize>], step: Step) -> Option<(usize, 
 
 /// Goes on from where the walk stands, or leaves it.
 fn pass(walk: &mut Walk, edges: &[Few<usize>], step: Step) -> Result<(), AllocError> {
-    match next_of(walk, edges, step) {
-        Some((next, ahead)) => {
-            match walk.way.last_mut() {
-                Some(last) => last.ahead = ahead,
-                None => {}
-            }
-            enter(walk, edges, next)
+    if let Some((next, ahead)) = next_of(walk, edges, step) {
+        if let Some(last) = walk.way.last_mut() {
+            last.ahead = ahead;
         }
-        None => {
-            walk.way.pop();
-            mark(walk.visits.as_mut_slice(), step.point, Visit::Left);
-            walk.left.push(step.point)?;
-            Ok(())
-        }
+        return enter(walk, edges, next);
     }
+    walk.way.pop();
+    mark(walk.visits.as_mut_slice(), step.point, Visit::Left);
+    walk.left.push(step.point)?;
+    Ok(())
 }
 
 fn walk_from(walk: &mut Walk, edges: &[Few<usize>], point: usize) -> Result<(), AllocError> {
     enter(walk, edges, point)?;
     for _ in 0..u64::MAX {
-        match walk.way.last().copied() {
-            Some(step) => pass(walk, edges, step)?,
-            None => return Ok(()),
-        }
+        let Some(step) = walk.way.last().copied() else {
+            break;
+        };
+        pass(walk, edges, step)?;
     }
     Ok(())
 }
@@ -134,10 +124,7 @@ fn walked(alloc: Global, edges: &[Few<usize>], roots: &[usize]) -> Result<Walk, 
 
 /// All points, those first where walks against the edges come to their ends.
 fn roots(alloc: Global, graph: &Graph) -> Result<Vec<usize>, AllocError> {
-    let mut points = Vec::with_capacity(alloc, graph.nexts.len())?;
-    for point in 0..graph.nexts.len() {
-        points.push(point)?;
-    }
+    let points: Vec<usize> = (0..graph.nexts.len()).collect(alloc)?;
     let edges = befores(alloc, graph)?;
     let walk = walked(alloc, edges.as_slice(), points.as_slice())?;
     Ok(walk.left)
@@ -146,10 +133,6 @@ fn roots(alloc: Global, graph: &Graph) -> Result<Vec<usize>, AllocError> {
 /// The points in an order in which each comes after those that may come next, but for loops: a depth-first postorder. The walk begins at the first point, where a
 /// function does; where not all are found from there, it begins where walks against the edges come to their ends, so that a loop is entered at its head whatever
 /// the order of the text.
-///
-/// # Errors
-///
-/// Only where memory was refused.
 pub(crate) fn successors_first(alloc: Global, graph: &Graph) -> Result<Order, AllocError> {
     let edges = graph.nexts.as_slice();
     let mut walk = walked(alloc, edges, &[0])?;
@@ -173,19 +156,14 @@ fn no_edges(alloc: Global, points: usize) -> Result<Vec<Few<usize>>, AllocError>
 
 fn push_edges(edges: &mut [Few<usize>], next: &[usize], point: usize) -> Result<(), AllocError> {
     for behind in next {
-        match edges.get_mut(*behind) {
-            Some(before) => before.push(point)?,
-            None => {}
+        if let Some(before) = edges.get_mut(*behind) {
+            before.push(point)?;
         }
     }
     Ok(())
 }
 
 /// For each point, the points behind which it may come.
-///
-/// # Errors
-///
-/// Only where memory was refused.
 pub(crate) fn befores(alloc: Global, graph: &Graph) -> Result<Vec<Few<usize>>, AllocError> {
     let mut edges = no_edges(alloc, graph.nexts.len())?;
     for (point, next) in graph.nexts.as_slice().iter().enumerate() {

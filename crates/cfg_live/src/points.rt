@@ -64,11 +64,9 @@ fn push_blocks(
 
 /// How many points these blocks have at most, for which room is reserved.
 fn most_points(blocks: &[Block<u32>]) -> usize {
-    let mut points: usize = 0;
-    for block in blocks {
-        points = points.saturating_add(block.lines.len()).saturating_add(1);
-    }
-    points
+    blocks.iter().fold(blocks.len(), |points: usize, block| {
+        points.saturating_add(block.lines.len())
+    })
 }
 
 /// What each point reads and writes, and the first point of each block.

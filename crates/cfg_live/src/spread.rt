@@ -127,24 +127,20 @@ fn follow_grown(
 
 /// Where in the order the first point stands that leads to a head.
 fn first_latch(order: &Order, graph: &Graph) -> usize {
-    for (k, point) in order.points.iter().enumerate() {
-        if let Some(next) = graph.nexts.as_slice().get(*point) {
-            if next.as_slice().iter().any(|at| order.has_head(*at)) {
-                return k;
-            }
-        }
-    }
-    0
+    let nexts = graph.nexts.as_slice();
+    let first = order.points.iter().position(|point| {
+        nexts.get(*point).is_some_and(|next| next.as_slice().iter().any(|at| order.has_head(*at)))
+    });
+    first.unwrap_or(0)
 }
 
 /// Where in the order stands what is behind the last head.
 fn behind_heads(order: &Order) -> usize {
-    for k in (0..order.points.len()).rev() {
-        if order.has_head(order.points[k]) {
-            return k + 1;
-        }
-    }
-    0
+    let last = order
+        .points
+        .iter()
+        .rposition(|point| order.has_head(*point));
+    last.map_or(0, |last| last.saturating_add(1))
 }
 
 /// Visits the points in this order that may lie in loops, and again those to which loops lead with sets that grew.
@@ -213,10 +209,6 @@ fn spread_along(
 }
 
 /// Lets the sets grow until each point is stable: by a few sweeps against the order of the text, and where more is to come, along an order that is found.
-///
-/// # Errors
-///
-/// Only where memory was refused.
 pub(crate) fn spread(
     alloc: Global,
     rows: &mut [BitSet],

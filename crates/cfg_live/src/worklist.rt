@@ -19,23 +19,8 @@ fn add(waiting: &mut BitSet, stack: &mut Vec<usize>, point: usize) -> Result<(),
     Ok(())
 }
 
-fn add_all(
-    waiting: &mut BitSet,
-    stack: &mut Vec<usize>,
-    points: &[usize],
-) -> Result<(), AllocError> {
-    for point in points {
-        add(waiting, stack, *point)?;
-    }
-    Ok(())
-}
-
 impl Worklist {
     /// No point waits. `befores` has for each point those behind which it may come.
-    ///
-    /// # Errors
-    ///
-    /// Only where memory was refused.
     pub(crate) fn new(alloc: Global, befores: Vec<Few<usize>>) -> Result<Self, AllocError> {
         let waiting = BitSet::new(alloc, befores.len())?;
         Ok(Worklist {
@@ -53,15 +38,13 @@ impl Worklist {
     }
 
     /// The points behind which this one may come wait on the stack, unless they wait already.
-    ///
-    /// # Errors
-    ///
-    /// Only where memory was refused.
     pub(crate) fn add_before(&mut self, point: usize) -> Result<(), AllocError> {
-        match self.befores.get(point) {
-            Some(before) => add_all(&mut self.waiting, &mut self.stack, before.as_slice()),
-            None => Ok(()),
+        if let Some(befores) = self.befores.get(point) {
+            for before in befores.as_slice() {
+                add(&mut self.waiting, &mut self.stack, *before)?;
+            }
         }
+        Ok(())
     }
 
     /// Takes the latest point from the stack.

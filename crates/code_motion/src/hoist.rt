@@ -1,5 +1,5 @@
 //! Functions with computations in front of their loops and extensions.
-ghost use Rattle.std.specs.Prelude.{◌≡◌, ◌≤◌, ◌<◌, IfOk};
+ghost use Rattle.std.specs.Prelude.{◌≡◌, ◌≤◌, ◌<◌, IfOk, IfSome};
 ghost use Rattle.vcode.specs.declared.limits.TheConstants.{PLACES};
 ghost use Rattle.il_ast.specs.Passes.{Keeps};
 ghost use Rattle.vcode.specs.Coded.{virtual_code};
@@ -54,11 +54,14 @@ pub fn apply(alloc: Global, function: &VFunc, plan: &Plan) -> Result<VFunc, Allo
 /// # Errors
 ///
 /// Only where memory was refused.
-pub fn hoist_invariants(alloc: Global, function: VFunc) -> Result<VFunc, AllocError>
-    ensures { IfOk result (λ w. Keeps (virtual_code function) (virtual_code w)) }
+pub fn hoist_invariants(alloc: Global, function: &VFunc) -> Result<Option<VFunc>, AllocError>
+    ensures { IfOk result (λ o. IfSome o (λ w. Keeps (virtual_code function.now) (virtual_code w))) }
 {
-    match choose_plan(alloc, &function)? {
-        Some(plan) => apply(alloc, &function, &plan),
-        None => Ok(function),
+    match choose_plan(alloc, function)? {
+        Some(plan) => {
+            let made = apply(alloc, function, &plan)?;
+            Ok(Some(made))
+        }
+        None => Ok(None),
     }
 }

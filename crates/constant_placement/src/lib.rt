@@ -12,5 +12,4 @@
 
 pub mod hoisting;
 mod points;
-mod reads;
 pub mod sinking;

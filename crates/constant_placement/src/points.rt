@@ -12,9 +12,8 @@ pub(crate) fn behind_line(point: usize, line: &Line<u32>) -> usize {
 
 /// The first point behind a block that begins at this one.
 pub(crate) fn behind_block(first: usize, block: &Block<u32>) -> usize {
-    let mut point = first;
-    for line in block.lines.as_slice() {
-        point = behind_line(point, line);
-    }
-    point.saturating_add(1)
+    let lines = block.lines.as_slice().iter();
+    lines
+        .fold(first, |point, line| behind_line(point, line))
+        .saturating_add(1)
 }

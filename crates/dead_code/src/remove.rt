@@ -31,9 +31,8 @@ fn kept_backward(
     for k in (0..lines.len()).rev() {
         let line = &lines[k];
         if !is_dead(set, line) {
-            let wanted = as_wanted(alloc, set, line)?;
+            kept.push(as_wanted(alloc, set, line)?)?;
             pass(set, line);
-            kept.push(wanted)?;
         }
     }
     Ok(kept)
@@ -130,29 +129,19 @@ fn without_dead(
     }
 }
 
-/// The same, if there are any.
-fn without_any_dead(alloc: Global, function: &VFunc) -> Result<Option<VFunc>, AllocError>
-    ensures { IfOk result (λ o. IfSome o (λ w. Keeps (virtual_code function.now) (virtual_code w))) }
-{
-    let guess = guessed(alloc, function)?;
-    if guess.has_dead {
-        without_dead(alloc, function, guess.starts.as_slice())
-    } else {
-        Ok(None)
-    }
-}
-
 /// The function without its dead lines: those that do nothing but write a register whose value isn't used any more. Blocks of memory stay, but have no register
 /// where their address isn't used. It takes a bit for each block and register.
 ///
 /// # Errors
 ///
 /// Only where memory was refused.
-pub fn remove_dead_code(alloc: Global, function: VFunc) -> Result<VFunc, AllocError>
-    ensures { IfOk result (λ w. Keeps (virtual_code function) (virtual_code w)) }
+pub fn remove_dead_code(alloc: Global, function: &VFunc) -> Result<Option<VFunc>, AllocError>
+    ensures { IfOk result (λ o. IfSome o (λ w. Keeps (virtual_code function.now) (virtual_code w))) }
 {
-    match without_any_dead(alloc, &function)? {
-        Some(made) => Ok(made),
-        None => Ok(function),
+    let guess = guessed(alloc, function)?;
+    if guess.has_dead() {
+        without_dead(alloc, function, guess.starts.as_slice())
+    } else {
+        Ok(None)
     }
 }

@@ -11,7 +11,8 @@ use std::alloc::{AllocError, Global};
 use vcode::line::{Jump, Line};
 use vcode::place::{Argument, Operand};
 
-fn has(set: &BitSet, register: u32) -> bool
+/// Whether the register is wanted.
+pub(crate) fn has(set: &BitSet, register: u32) -> bool
     ensures { result ≡ is_member set.now register }
 {
     (register as usize) < set.len() && set.contains(register as usize)
@@ -102,13 +103,25 @@ fn drop_written(set: &mut BitSet, line: &Line<u32>)
 }
 
 /// Goes on from right behind a line that stays to right before it.
-pub(crate) fn pass(set: &mut BitSet, line: &Line<u32>)
+pub(crate) fn pass_line(set: &mut BitSet, line: &Line<u32>)
     requires { line_keeps (is_below set.old.length) line.now ≡ true }
     ensures length { set.new.length ≡ set.old.length }
     ensures wanted { is_member set.new ≡ wanted_above (is_member set.old) line.now }
 {
     drop_written(set, line);
     want_reads(set, line);
+}
+
+/// The same, but over ticks, as most lines are, at once.
+pub(crate) fn pass(set: &mut BitSet, line: &Line<u32>)
+    requires { line_keeps (is_below set.old.length) line.now ≡ true }
+    ensures length { set.new.length ≡ set.old.length }
+    ensures wanted { is_member set.new ≡ wanted_above (is_member set.old) line.now }
+{
+    match line {
+        Line::Tick { .. } => {}
+        _ => pass_line(set, line),
+    }
 }
 
 /// Whether a line behind which this is wanted does nothing but write a register that isn't.
@@ -118,15 +131,6 @@ pub(crate) fn is_dead(set: &BitSet, line: &Line<u32>) -> bool
     match line {
         Line::Set { to, .. } | Line::Operate { to, .. } | Line::Load { to, .. } => !has(set, *to),
         _ => false,
-    }
-}
-
-/// Whether a line behind which this is wanted makes a block of memory and writes its address to a register that isn't.
-pub(crate) fn loses_register(set: &BitSet, line: &Line<u32>) -> bool {
-    if let Line::Alloc { to: Some(to), .. } = line {
-        !has(set, *to)
-    } else {
-        false
     }
 }
 
@@ -143,6 +147,10 @@ pub(crate) fn as_wanted(
     ensures { IfOk result (λ m. m ≡ as_wanted (is_member set.now) line.now) }
 {
     match line {
+        Line::Tick { turn, weight } => Ok(Line::Tick {
+            turn: *turn,
+            weight: *weight,
+        }),
         Line::Alloc { to: Some(to), size } => {
             let is_wanted = has(set, *to);
             Ok(Line::Alloc {

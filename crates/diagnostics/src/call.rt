@@ -1,6 +1,6 @@
 //! Calls by name of functions that have other classes.
-use crate::name::{add_class, add_name_in};
-use crate::note::Notes;
+use crate::name::{class_word, name_in};
+use crate::note::{Gathered, Note, make_note};
 use il_ast::function::Func;
 use il_ast::instruction::Inst;
 use il_ast::operand::{Arg, Dest, Val};
@@ -10,23 +10,25 @@ use il_ast::symbol::Symbol;
 use il_ast::value::Callee;
 use obj_link::linking::linked::Linked;
 use text_maker::maker::TextMaker;
+use text_maker::say;
 
 /// What a call passes, and where its result goes.
-#[derive(Drop)]
+#[derive(Clone, Copy)]
 pub struct Call<'a> {
     pub to: Option<Dest>,
     pub args: &'a [Arg],
 }
 
 /// The calls of a function that are undefined, since the callee has other classes.
-pub fn add_wrong_calls(notes: &mut Notes, linked: &Linked<'_>, function: &InText<&Func>) {
+pub fn add_wrong_calls(notes: &mut Gathered<Note>, linked: &Linked<'_>, function: &InText<&Func>) {
+    let text = function.text;
     for block in function.item.blocks.as_slice() {
         for inst in block.insts.as_slice() {
             if let Some((name, call)) = call_by_name(&inst.item) {
                 let mut words = TextMaker::new(notes.alloc);
-                add_name_in(&mut words, linked, function.text, name);
-                if add_mistake(&mut words, linked, function.text, name, &call) {
-                    notes.add(function.text, inst.line, words);
+                say!(words; "{}", name_in(linked, text, name));
+                if add_mistake(&mut words, linked, target(linked, text, name), &call) {
+                    notes.add(make_note(text, inst.line, words));
                 }
             }
         }
@@ -55,11 +57,10 @@ pub fn call_by_name(inst: &Inst) -> Option<(Symbol, Call<'_>)> {
 fn add_mistake(
     words: &mut TextMaker,
     linked: &Linked<'_>,
-    text: usize,
-    name: Symbol,
+    target: Option<Target>,
     call: &Call<'_>,
 ) -> bool {
-    match target(linked, text, name) {
+    match target {
         Some(Target::Code(callee)) => add_difference(words, linked, call, callee),
         Some(Target::Object(_)) => {
             words.add(" is data, and no function");
@@ -115,16 +116,11 @@ pub fn add_difference(
 }
 
 fn add_wrong_count(words: &mut TextMaker, given: usize, count: usize) -> bool {
-    if given == count {
-        return false;
+    if given != count {
+        let plural = if given == 1 { "" } else { "s" };
+        say!(words; " is given {given} argument{plural}, and takes {count}");
     }
-    let both = [given as u64, count as u64];
-    if given == 1 {
-        words.add_with_numbers(" is given # argument, and takes #", &both);
-    } else {
-        words.add_with_numbers(" is given # arguments, and takes #", &both);
-    }
-    true
+    given != count
 }
 
 fn add_wrong_argument(
@@ -137,10 +133,8 @@ fn add_wrong_argument(
         if let Some(class) = taken(linked, callee, number)
             && class != arg.class
         {
-            words.add(" is given class ");
-            add_class(words, arg.class);
-            words.add(" where it takes ");
-            add_class(words, class);
+            let (given, class) = (class_word(arg.class), class_word(class));
+            say!(words; " is given class {given} where it takes {class}");
             return true;
         }
     }
@@ -152,15 +146,10 @@ fn add_wrong_result(words: &mut TextMaker, to: Option<Dest>, gives: Option<Class
     let Some(to) = to else {
         return false;
     };
+    let wanted = class_word(to.class);
     match gives {
         Some(class) if class == to.class => return false,
-        Some(class) => {
-            words.add(" gives class ");
-            add_class(words, class);
-            words.add(", and ");
-            add_class(words, to.class);
-            words.add(" is wanted");
-        }
+        Some(class) => say!(words; " gives class {}, and {wanted} is wanted", class_word(class)),
         None => words.add(" gives no result, and one is wanted"),
     }
     true

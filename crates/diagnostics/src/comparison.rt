@@ -1,7 +1,7 @@
 //! Comparisons of functions with numbers.
 use crate::call::target;
-use crate::name::{add_name_in, add_temp};
-use crate::note::Notes;
+use crate::name::add_operand;
+use crate::note::{Gathered, Note, make_note};
 use crate::place::destination;
 use il_ast::block::Block;
 use il_ast::function::Func;
@@ -26,32 +26,23 @@ enum Holds {
 }
 
 /// The comparisons of a function that are undefined, since a function is compared with a number.
-pub fn add_wrong_comparisons(notes: &mut Notes, linked: &Linked<'_>, function: &InText<&Func>) {
-    match held(notes.alloc, linked, function) {
-        Ok(held) => add_each(notes, linked, function, held.as_slice()),
-        Err(_) => notes.refuse(),
-    }
-}
-
-fn add_each(notes: &mut Notes, linked: &Linked<'_>, function: &InText<&Func>, held: &[Holds]) {
+pub fn add_wrong_comparisons(
+    notes: &mut Gathered<Note>,
+    linked: &Linked<'_>,
+    function: &InText<&Func>,
+) -> Result<(), AllocError> {
+    let held = held(notes.alloc, linked, function)?;
     for block in function.item.blocks.as_slice() {
         for inst in block.insts.as_slice() {
-            if let Some(operand) = compared(linked, function.text, held, &inst.item) {
+            if let Some(operand) = compared(linked, function.text, held.as_slice(), &inst.item) {
                 let mut words = TextMaker::new(notes.alloc);
                 add_operand(&mut words, linked, function, operand);
                 words.add(" is a function, and is compared with a number");
-                notes.add(function.text, inst.line, words);
+                notes.add(make_note(function.text, inst.line, words));
             }
         }
     }
-}
-
-fn add_operand(words: &mut TextMaker, linked: &Linked<'_>, function: &InText<&Func>, operand: Val) {
-    match operand {
-        Val::Global(symbol) => add_name_in(words, linked, function.text, symbol),
-        Val::Temp(temp) => add_temp(words, function.item, temp),
-        Val::Int(_) => {}
-    }
+    Ok(())
 }
 
 /// The function that an instruction compares with a number.

@@ -26,19 +26,14 @@ pub fn is_exported(definition: &Definition) -> bool {
 
 /// The definition that a line stands in: the last one that begins at the line or before.
 pub fn definition_at(text: &Text, line: usize) -> Option<&Definition> {
-    let mut found = None;
-    for definition in text.definitions.as_slice() {
-        if line_of(definition) <= line {
-            found = Some(definition);
-        }
-    }
-    found
+    let mut backwards = text.definitions.as_slice().iter().rev();
+    backwards.find(|definition| line_of(definition) <= line)
 }
 
 /// The function that a line stands in.
 pub fn function_at(text: &Text, line: usize) -> Option<&Func> {
-    match definition_at(text, line) {
-        Some(Definition::Function(function)) => Some(function),
-        Some(Definition::Object(_)) | None => None,
+    match definition_at(text, line)? {
+        Definition::Function(function) => Some(function),
+        Definition::Object(_) => None,
     }
 }

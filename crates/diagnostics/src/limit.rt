@@ -1,7 +1,7 @@
 //! Which limit a text, or a program, passes.
 ghost use Rattle.std.specs.Prelude.{◌≡◌, IfOk};
 
-use crate::name::{add_count, add_global, add_limit};
+use crate::name::{Count, global};
 use crate::note::{Note, make_note};
 use il_ast::block::Block;
 use il_ast::function::Func;
@@ -16,6 +16,7 @@ use il_types::cost::{alloc_area, weight};
 use obj_link::linking::limits::object_size;
 use std::alloc::{AllocError, Global};
 use text_maker::maker::TextMaker;
+use text_maker::say;
 
 /// Which limit of one text the text with this number passes, and where.
 pub(crate) fn text_limit(alloc: Global, number: usize, text: &Text) -> Result<Note, AllocError>
@@ -35,8 +36,8 @@ fn add_text_limit(words: &mut TextMaker, text: &Text) -> usize {
             return line;
         }
     }
-    let bytes = text.bytes as u64;
-    add_limit(words, bytes, " bytes in the text", TEXT_BYTES as u64);
+    let most = Count(TEXT_BYTES as u64);
+    say!(words; "{} bytes in the text, at most {most}", Count(text.bytes as u64));
     1
 }
 
@@ -47,34 +48,31 @@ fn add_function_limit(words: &mut TextMaker, text: &Text, function: &Func) -> Op
     let area = alloc_area(function);
     let heavy = weight(function);
     let (count, what, most) = if temps > TEMPORARIES {
-        (temps as u64, " temporaries in ", TEMPORARIES as u64)
+        (temps as u64, "temporaries", TEMPORARIES as u64)
     } else if params > ARGUMENTS {
-        (params as u64, " parameters in ", ARGUMENTS as u64)
+        (params as u64, "parameters", ARGUMENTS as u64)
     } else if area > ALLOC_BYTES {
-        (area, " bytes of alloc in ", ALLOC_BYTES)
+        (area, "bytes of alloc", ALLOC_BYTES)
     } else if heavy > FUNCTION_WEIGHT {
-        (heavy, " of weight in ", FUNCTION_WEIGHT)
+        (heavy, "of weight", FUNCTION_WEIGHT)
     } else {
-        return add_long_call(words, function.blocks.as_slice());
+        let mut blocks = function.blocks.as_slice().iter();
+        return blocks.find_map(|block| add_long_call(words, block));
     };
-    add_count(words, count);
-    words.add(what);
-    add_global(words, text, function.name);
-    words.add(", at most ");
-    add_count(words, most);
+    let name = global(text, function.name);
+    say!(words; "{} {what} in {name}, at most {}", Count(count), Count(most));
     Some(function.line)
 }
 
 /// Says how many arguments a call has that has too many. Answers its line, where there is one.
-fn add_long_call(words: &mut TextMaker, blocks: &[Block]) -> Option<usize> {
-    for block in blocks {
-        for inst in block.insts.as_slice() {
-            if let Inst::Call { args, .. } = &inst.item
-                && args.len() > ARGUMENTS
-            {
-                add_limit(words, args.len() as u64, " arguments", ARGUMENTS as u64);
-                return Some(inst.line);
-            }
+fn add_long_call(words: &mut TextMaker, block: &Block) -> Option<usize> {
+    for inst in block.insts.as_slice() {
+        if let Inst::Call { args, .. } = &inst.item
+            && args.len() > ARGUMENTS
+        {
+            let most = Count(ARGUMENTS as u64);
+            say!(words; "{} arguments, at most {most}", Count(args.len() as u64));
+            return Some(inst.line);
         }
     }
     None
@@ -83,29 +81,27 @@ fn add_long_call(words: &mut TextMaker, blocks: &[Block]) -> Option<usize> {
 /// Which limit over all texts a program passes.
 pub(crate) fn program_limit(alloc: Global, texts: &[Checked]) -> Result<Note, AllocError> {
     let mut words = TextMaker::new(alloc);
-    let mut sums = Sums {
-        functions: 0,
-        weight: 0,
-        bytes: 0,
-    };
+    let mut sums = Sums::default();
     for checked in texts {
-        sums.add(&checked.text);
+        for definition in checked.text.definitions.as_slice() {
+            sums.add(definition);
+        }
     }
     let (count, what, most) = if texts.len() > TEXTS {
-        (texts.len() as u64, " texts", TEXTS as u64)
+        (texts.len() as u64, "texts", TEXTS as u64)
     } else if sums.functions > FUNCTIONS as u64 {
-        (sums.functions, " functions in all", FUNCTIONS as u64)
+        (sums.functions, "functions in all", FUNCTIONS as u64)
     } else if sums.weight > PROGRAM_WEIGHT {
-        (sums.weight, " of weight in all", PROGRAM_WEIGHT)
+        (sums.weight, "of weight in all", PROGRAM_WEIGHT)
     } else {
-        (sums.bytes, " bytes of data in all", DATA_BYTES)
+        (sums.bytes, "bytes of data in all", DATA_BYTES)
     };
-    add_limit(&mut words, count, what, most);
+    say!(words; "{} {what}, at most {}", Count(count), Count(most));
     make_note(0, 1, words)
 }
 
 /// What all texts have together.
-#[derive(Drop)]
+#[derive(Clone, Copy, Default)]
 struct Sums {
     functions: u64,
     weight: u64,
@@ -113,17 +109,15 @@ struct Sums {
 }
 
 impl Sums {
-    fn add(&mut self, text: &Text) {
-        for definition in text.definitions.as_slice() {
-            match definition {
-                Definition::Function(function) => {
-                    self.functions = self.functions.saturating_add(1);
-                    self.weight = self.weight.saturating_add(weight(function));
-                }
-                Definition::Object(object) => {
-                    let size = object_size(object).div_ceil(16).saturating_mul(16);
-                    self.bytes = self.bytes.saturating_add(size);
-                }
+    fn add(&mut self, definition: &Definition) {
+        match definition {
+            Definition::Function(function) => {
+                self.functions = self.functions.saturating_add(1);
+                self.weight = self.weight.saturating_add(weight(function));
+            }
+            Definition::Object(object) => {
+                let size = object_size(object).div_ceil(16).saturating_mul(16);
+                self.bytes = self.bytes.saturating_add(size);
             }
         }
     }

@@ -2,14 +2,15 @@
 use crate::definition::{is_exported, line_of, symbol_of};
 use crate::limit::program_limit;
 use crate::mention::{line_in, symbol_in};
-use crate::name::{add_class, add_line, add_name};
+use crate::name::{Named, class_word, shown};
 use crate::note::{Note, make_note};
-use il_ast::function::{Func, Param};
+use il_ast::function::Func;
 use il_ast::text::{Definition, Text};
 use il_types::checked::Checked;
 use obj_link::linking::error::LinkError;
 use std::alloc::{AllocError, Global};
 use text_maker::maker::TextMaker;
+use text_maker::say;
 
 /// Why the texts are no program, and where. The paths are those of the texts, in order.
 pub fn link(
@@ -30,20 +31,16 @@ pub fn link(
 /// The definition of a name in a text.
 fn defined<'a>(text: &'a Text, name: &[u8]) -> Option<&'a Definition> {
     let symbol = symbol_in(text, name)?;
-    for definition in text.definitions.as_slice() {
-        if symbol_of(definition) == symbol {
-            return Some(definition);
-        }
-    }
-    None
+    let mut definitions = text.definitions.as_slice().iter();
+    definitions.find(|definition| symbol_of(definition) == symbol)
 }
 
 /// A name that means nothing in a text that mentions it.
 fn unknown(alloc: Global, texts: &[Checked], name: &[u8]) -> Result<Note, AllocError> {
     let (text, line) = unknown_at(alloc, texts, name)?;
     let mut words = TextMaker::new(alloc);
-    add_name(&mut words, name);
-    words.add(" is defined nowhere that this text sees");
+    let name = Named::global(shown(name));
+    say!(words; "{name} is defined nowhere that this text sees");
     make_note(text, line, words)
 }
 
@@ -60,18 +57,13 @@ fn unknown_at(alloc: Global, texts: &[Checked], name: &[u8]) -> Result<(usize, u
     Ok((0, 1))
 }
 
-/// The last text that exports a name, and the line.
-fn exported(texts: &[Checked], name: &[u8], below: usize) -> Option<(usize, usize)> {
-    let mut found = None;
-    for (number, checked) in texts.iter().enumerate() {
-        if number < below
-            && let Some(definition) = defined(&checked.text, name)
-            && is_exported(definition)
-        {
-            found = Some((number, line_of(definition)));
-        }
-    }
-    found
+/// The last of these texts that exports a name, and the line.
+fn exported(texts: &[Checked], name: &[u8]) -> Option<(usize, usize)> {
+    let mut numbered = texts.iter().enumerate().rev();
+    numbered.find_map(|(number, checked)| {
+        let definition = defined(&checked.text, name)?;
+        is_exported(definition).then_some((number, line_of(definition)))
+    })
 }
 
 /// A name that two texts export, or that is predefined.
@@ -82,15 +74,14 @@ fn exported_twice(
     name: &[u8],
 ) -> Result<Note, AllocError> {
     let mut words = TextMaker::new(alloc);
-    add_name(&mut words, name);
-    let (text, line) = exported(texts, name, texts.len()).unwrap_or((0, 1));
-    match exported(texts, name, text) {
+    let named = Named::global(shown(name));
+    let (text, line) = exported(texts, name).unwrap_or((0, 1));
+    match exported(texts.get(..text).unwrap_or(&[]), name) {
         Some((other, at)) => {
-            words.add(" is exported here and at ");
-            words.add(paths.get(other).copied().unwrap_or("?"));
-            words.add_with_numbers(":#", &[at as u64]);
+            let path = paths.get(other).copied().unwrap_or("?");
+            say!(words; "{named} is exported here and at {path}:{at}");
         }
-        None => words.add(" is predefined, and exported here too"),
+        None => say!(words; "{named} is predefined, and exported here too"),
     }
     make_note(text, line, words)
 }
@@ -113,14 +104,11 @@ fn no_main(alloc: Global, texts: &[Checked]) -> Result<Note, AllocError> {
 
 /// The first `main` that is exported, or the first one where none is, and its text.
 fn main_in(texts: &[Checked]) -> Option<(usize, &Definition)> {
-    for (number, checked) in texts.iter().enumerate() {
-        if let Some(definition) = defined(&checked.text, b"main")
-            && (is_exported(definition) || exported(texts, b"main", texts.len()).is_none())
-        {
-            return Some((number, definition));
-        }
-    }
-    None
+    let any = exported(texts, b"main").is_none();
+    texts.iter().enumerate().find_map(|(number, checked)| {
+        let definition = defined(&checked.text, b"main")?;
+        (any || is_exported(definition)).then_some((number, definition))
+    })
 }
 
 /// Why this definition of `main` is none that a program begins with.
@@ -139,19 +127,12 @@ fn add_no_main(words: &mut TextMaker, definition: &Definition) {
 /// The classes of a function.
 fn add_form(words: &mut TextMaker, function: &Func) {
     if let Some(class) = function.result {
-        add_class(words, class);
-        words.add(" ");
+        say!(words; "{} ", class_word(class));
     }
     words.add("(");
-    add_params(words, function.params.as_slice());
-    words.add(")");
-}
-
-fn add_params(words: &mut TextMaker, params: &[Param]) {
-    for (number, param) in params.iter().enumerate() {
-        if number > 0 {
-            words.add(", ");
-        }
-        add_class(words, param.class);
+    for (number, param) in function.params.as_slice().iter().enumerate() {
+        words.add(if number == 0 { "" } else { ", " });
+        words.add(class_word(param.class));
     }
+    words.add(")");
 }

@@ -8,20 +8,17 @@ use std::alloc::{AllocError, Global};
 
 /// The number of a name in a text, where the text mentions it.
 pub fn symbol_in(text: &Text, name: &[u8]) -> Option<Symbol> {
-    for (number, other) in text.symbols.as_slice().iter().enumerate() {
-        if other.as_slice() == name {
-            return Some(Symbol::at(number));
-        }
-    }
-    None
+    let mut symbols = text.symbols.as_slice().iter();
+    let number = symbols.position(|other| other.as_slice() == name)?;
+    Some(Symbol::at(number))
 }
 
 /// The line of the first definition that mentions a name besides its own; within a function that of the value.
 pub fn line_in(alloc: Global, text: &Text, symbol: Symbol) -> Result<Option<usize>, AllocError> {
     for definition in text.definitions.as_slice() {
-        match mentioned(alloc, definition, symbol) {
-            Ok(None) => {}
-            found => return found,
+        let found = mentioned(alloc, definition, symbol)?;
+        if found.is_some() {
+            return Ok(found);
         }
     }
     Ok(None)
@@ -44,32 +41,22 @@ fn mentioned(
 
 /// The line that first reads a value, or else the one that first returns it.
 fn read_in(steps: &[Step], wanted: Val) -> Option<usize> {
-    let mut returned = None;
-    for step in steps {
-        match step.does {
-            Does::Reads(value) | Does::Takes(_, value) if value == wanted => {
-                return Some(step.line);
-            }
-            Does::Returns(value) if value == wanted && returned.is_none() => {
-                returned = Some(step.line);
-            }
-            _ => {}
-        }
-    }
-    returned
+    let reads = |step: &&Step| match step.does {
+        Does::Reads(value) | Does::Takes(_, value) => value == wanted,
+        Does::Returns(_) | Does::Assigns(_) => false,
+    };
+    let returns = |step: &&Step| matches!(step.does, Does::Returns(value) if value == wanted);
+    let found = steps.iter().find(reads);
+    Some(found.or_else(|| steps.iter().find(returns))?.line)
 }
 
 fn has_address(object: &DataDef, name: Symbol) -> bool {
-    for field in object.fields.as_slice() {
-        if let Field::Items { items, .. } = field {
-            for item in items.as_slice() {
-                if let Item::Address { symbol, .. } = item
-                    && *symbol == name
-                {
-                    return true;
-                }
-            }
-        }
-    }
-    false
+    object.fields.as_slice().iter().any(|field| match field {
+        Field::Items { items, .. } => items.as_slice().iter().any(|item| is_address(item, name)),
+        Field::Zeros(_) => false,
+    })
+}
+
+fn is_address(item: &Item, name: Symbol) -> bool {
+    matches!(item, Item::Address { symbol, .. } if *symbol == name)
 }

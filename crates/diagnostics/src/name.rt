@@ -1,60 +1,94 @@
 //! Names and numbers as texts show them.
 use il_ast::function::Func;
+use il_ast::label::Label;
 use il_ast::name::Name;
+use il_ast::operand::Val;
 use il_ast::operation::Class;
+use il_ast::program::InText;
 use il_ast::symbol::Symbol;
 use il_ast::temp::Temp;
 use il_ast::text::Text;
 use obj_link::linking::linked::Linked;
-use std::str;
+use std::{fmt, str};
 use text_maker::maker::TextMaker;
+use text_maker::say;
+
+/// A name of a text, behind its sign.
+#[derive(Clone, Copy)]
+pub struct Named<'a> {
+    sign: char,
+    name: &'a str,
+}
+
+impl<'a> Named<'a> {
+    /// A global name.
+    pub fn global(name: &'a str) -> Named<'a> {
+        Named { sign: '$', name }
+    }
+}
+
+impl fmt::Display for Named<'_> {
+    fn fmt<W: fmt::Write>(&self, f: &mut fmt::Formatter<W>) -> fmt::Result {
+        let Named { sign, name } = *self;
+        write!(f, "{sign}{name}")
+    }
+}
+
+/// The bytes of a name.
+pub fn shown(name: &[u8]) -> &str {
+    str::from_utf8(name).unwrap_or("?")
+}
 
 /// A name by its number.
-fn shown(names: &[Name], number: usize) -> &str {
+fn by_number(sign: char, names: &[Name], number: usize) -> Named<'_> {
     match names.get(number) {
-        Some(name) => str::from_utf8(name.as_slice()).unwrap_or("?"),
-        None => "?",
+        Some(name) => Named {
+            sign,
+            name: shown(name.as_slice()),
+        },
+        None => Named { sign, name: "?" },
     }
 }
 
-pub fn add_temp(words: &mut TextMaker, function: &Func, temp: Temp) {
-    words.add("%");
-    words.add(shown(function.temps.as_slice(), temp.number()));
+pub fn temp(function: &Func, temp: Temp) -> Named<'_> {
+    by_number('%', function.temps.as_slice(), temp.number())
 }
 
-pub fn add_label(words: &mut TextMaker, function: &Func, label: usize) {
-    words.add("@");
-    words.add(shown(function.labels.as_slice(), label));
+pub fn label(function: &Func, label: Label) -> Named<'_> {
+    by_number('@', function.labels.as_slice(), label.number())
 }
 
-pub fn add_global(words: &mut TextMaker, text: &Text, symbol: Symbol) {
-    words.add("$");
-    words.add(shown(text.symbols.as_slice(), symbol.number()));
+pub fn global(text: &Text, symbol: Symbol) -> Named<'_> {
+    by_number('$', text.symbols.as_slice(), symbol.number())
 }
 
-/// Adds a global name of the text with this number.
-pub fn add_name_in(words: &mut TextMaker, linked: &Linked<'_>, text: usize, symbol: Symbol) {
+/// A global name of the text with this number.
+pub fn name_in<'a>(linked: &'a Linked<'_>, text: usize, symbol: Symbol) -> Named<'a> {
     match linked.texts.get(text) {
-        Some(checked) => add_global(words, &checked.text, symbol),
-        None => words.add("$?"),
+        Some(checked) => global(&checked.text, symbol),
+        None => Named::global("?"),
     }
 }
 
-/// A name as it stands in a text.
-pub fn add_name(words: &mut TextMaker, name: &[u8]) {
-    words.add("$");
-    words.add(str::from_utf8(name).unwrap_or("?"));
+/// Adds an operand as it stands in a function.
+pub fn add_operand(
+    words: &mut TextMaker,
+    linked: &Linked<'_>,
+    function: &InText<&Func>,
+    operand: Val,
+) {
+    match operand {
+        Val::Int(number) => say!(words; "{number}"),
+        Val::Temp(read) => say!(words; "{}", temp(function.item, read)),
+        Val::Global(symbol) => say!(words; "{}", name_in(linked, function.text, symbol)),
+    }
 }
 
-pub fn add_class(words: &mut TextMaker, class: Class) {
-    words.add(match class {
+pub fn class_word(class: Class) -> &'static str {
+    match class {
         Class::W => "w",
         Class::L => "l",
-    });
-}
-
-pub fn add_line(words: &mut TextMaker, line: usize) {
-    words.add_with_numbers("line #", &[line as u64]);
+    }
 }
 
 /// What each group of three digits counts, the first one first.
@@ -68,34 +102,23 @@ const UNITS: [u64; 7] = [
     1,
 ];
 
-/// A number, with a comma before each three of its digits.
-pub fn add_count(words: &mut TextMaker, number: u64) {
-    let mut begun = false;
-    for unit in &UNITS {
-        let group = number.checked_div(*unit).unwrap_or(0) % 1000;
-        if begun {
-            words.add(zeros(group));
-            words.add_number(group);
-        } else if group > 0 || *unit == 1 {
-            words.add_number(group);
-            begun = true;
+/// A number, shown with a comma before each three of its digits.
+#[derive(Clone, Copy)]
+pub struct Count(pub u64);
+
+impl fmt::Display for Count {
+    fn fmt<W: fmt::Write>(&self, f: &mut fmt::Formatter<W>) -> fmt::Result {
+        let Count(number) = *self;
+        let mut begun = false;
+        for unit in &UNITS {
+            let group = number.checked_div(*unit).unwrap_or(0) % 1000;
+            if begun {
+                write!(f, ",{group:03}")?;
+            } else if group > 0 || *unit == 1 {
+                write!(f, "{group}")?;
+                begun = true;
+            }
         }
+        Ok(())
     }
-}
-
-/// What stands before a number below 1000 where a group of three digits ends.
-fn zeros(number: u64) -> &'static str {
-    match number {
-        0..=9 => ",00",
-        10..=99 => ",0",
-        _ => ",",
-    }
-}
-
-/// That there are so many of something, and how many there are at most.
-pub fn add_limit(words: &mut TextMaker, count: u64, what: &str, most: u64) {
-    add_count(words, count);
-    words.add(what);
-    words.add(", at most ");
-    add_count(words, most);
 }

@@ -1,4 +1,4 @@
-//! Words at a line.
+//! Words at a line, and what is gathered of a text.
 ghost use Rattle.std.specs.Prelude.{◌≡◌, IfOk};
 
 use std::alloc::{AllocError, Global};
@@ -24,43 +24,39 @@ pub(crate) fn make_note(text: usize, line: usize, words: TextMaker) -> Result<No
     })
 }
 
-/// Notes in order. Once memory is refused there will be none, and whoever makes them is told at the end.
+/// Items in order. Once memory is refused there will be none, and whoever gathers them is told at the end.
 #[derive(Drop)]
-pub(crate) struct Notes {
+pub(crate) struct Gathered<T> {
     pub alloc: Global,
-    list: Vec<Note>,
+    list: Vec<T>,
     is_refused: bool,
 }
 
-impl Notes {
-    /// No note yet.
-    pub fn new(alloc: Global) -> Notes {
-        Notes {
+impl<T: Drop> Gathered<T> {
+    /// No item yet.
+    pub fn new(alloc: Global) -> Gathered<T> {
+        Gathered {
             alloc,
             list: Vec::new(alloc),
             is_refused: false,
         }
     }
 
-    /// Adds the note of these words.
-    pub fn add(&mut self, text: usize, line: usize, words: TextMaker) {
-        match make_note(text, line, words) {
-            Ok(note) => {
-                if self.list.push(note).is_err() {
-                    self.is_refused = true;
-                }
-            }
-            Err(_) => self.is_refused = true,
-        }
+    /// Adds an item, where memory was given for it.
+    pub fn add(&mut self, made: Result<T, AllocError>) {
+        let is_added = match made {
+            Ok(item) => self.list.push(item).is_ok(),
+            Err(AllocError) => false,
+        };
+        self.is_refused = self.is_refused || !is_added;
     }
 
-    /// Remembers that memory was refused.
-    pub fn refuse(&mut self) {
-        self.is_refused = true;
+    pub fn last(&self) -> Option<&T> {
+        self.list.as_slice().last()
     }
 
-    /// The notes, where memory was given for all of them.
-    pub fn finish(self) -> Result<Vec<Note>, AllocError> {
+    /// The items, where memory was given for all of them.
+    pub fn finish(self) -> Result<Vec<T>, AllocError> {
         if self.is_refused {
             return Err(AllocError);
         }

@@ -57,10 +57,10 @@ impl<'a> Paths<'a> {
     pub fn settle(&mut self, steps: &[Step]) -> Result<(), AllocError> {
         self.assign(steps);
         for _ in 0..usize::MAX {
-            match self.waiting.pop() {
-                Some(place) => self.hand_on(place)?,
-                None => break,
-            }
+            let Some(place) = self.waiting.pop() else {
+                break;
+            };
+            self.hand_on(place)?;
         }
         self.spare.clear();
         Ok(())
@@ -80,14 +80,12 @@ impl<'a> Paths<'a> {
     fn hand_on(&mut self, place: usize) -> Result<(), AllocError> {
         self.leave(place);
         let blocks = self.blocks;
-        match blocks.get(place) {
-            Some(block) => {
-                let (one, other) = targets(block);
-                self.enter(one)?;
-                self.enter(other)
-            }
-            None => Ok(()),
-        }
+        let Some(block) = blocks.get(place) else {
+            return Ok(());
+        };
+        let (one, other) = targets(block);
+        self.enter(one)?;
+        self.enter(other)
     }
 
     /// Takes what the block at a place leaves unassigned.
@@ -112,20 +110,13 @@ impl<'a> Paths<'a> {
             && let Some(place) = self.place(label)
             && let Some(set) = self.entered.get_mut(place)
             && join(set, &self.spare)
+            && let Some(waits) = self.waits.get_mut(place)
+            && !*waits
         {
-            return self.wait(place);
+            *waits = true;
+            self.waiting.push(place)?;
         }
         Ok(())
-    }
-
-    fn wait(&mut self, place: usize) -> Result<(), AllocError> {
-        match self.waits.get_mut(place) {
-            Some(waits) if !*waits => {
-                *waits = true;
-                self.waiting.extend_from_slice(&[place])
-            }
-            _ => Ok(()),
-        }
     }
 
     /// The place of a label's block.
@@ -141,45 +132,34 @@ impl<'a> Paths<'a> {
     /// The temporary that a step reads and some path leaves unassigned, where none was answered before. The steps are asked for in order.
     pub fn first_read(&mut self, step: &Step) -> Option<Temp> {
         match step.does {
-            Does::Reads(Val::Temp(temp)) | Does::Returns(Val::Temp(temp)) => {
-                if has(self.entered.as_slice(), step.block, temp.number()) {
-                    return self.told(temp);
-                }
-            }
-            Does::Takes(from, Val::Temp(temp)) => {
-                if self.is_left(from, temp.number()) {
-                    return self.told(temp);
-                }
+            Does::Reads(Val::Temp(temp)) | Does::Returns(Val::Temp(temp))
+                if has(self.entered.as_slice(), step.block, temp.number()) => { self.told(temp) }
+            Does::Takes(from, Val::Temp(temp)) if self.is_left(from, temp.number()) => {
+                self.told(temp)
             }
             Does::Assigns(temp) => {
                 if let Some(set) = self.entered.get_mut(step.block) {
                     take_out(set, temp.number());
                 }
+                None
             }
-            _ => {}
+            _ => None,
         }
-        None
     }
 
     /// The temporary, where it wasn't told before.
     fn told(&mut self, temp: Temp) -> Option<Temp> {
-        let number = temp.number();
-        if is_in(&self.spare, number) {
-            return None;
-        }
-        put_in(&mut self.spare, number);
-        Some(temp)
+        let is_told = is_in(&self.spare, temp.number());
+        put_in(&mut self.spare, temp.number());
+        (!is_told).then_some(temp)
     }
 
     /// Whether some path through the block of a label leaves a temporary unassigned.
     fn is_left(&self, label: Label, number: usize) -> bool {
-        match self.place(label) {
-            Some(place) => {
-                has(self.entered.as_slice(), place, number)
-                    && !has(self.assigned.as_slice(), place, number)
-            }
-            None => false,
-        }
+        self.place(label).is_some_and(|place| {
+            has(self.entered.as_slice(), place, number)
+                && !has(self.assigned.as_slice(), place, number)
+        })
     }
 }
 
@@ -197,10 +177,7 @@ fn join(set: &mut BitSet, other: &BitSet) -> bool {
 }
 
 fn has(sets: &[BitSet], place: usize, number: usize) -> bool {
-    match sets.get(place) {
-        Some(set) => is_in(set, number),
-        None => false,
-    }
+    sets.get(place).is_some_and(|set| is_in(set, number))
 }
 
 fn is_in(set: &BitSet, number: usize) -> bool {

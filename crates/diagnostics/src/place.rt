@@ -1,4 +1,5 @@
 //! What the lines of a function do: which values they read, and which temporaries they assign.
+use crate::note::Gathered;
 use il_ast::block::{Block, Phi};
 use il_ast::function::Func;
 use il_ast::instruction::{Inst, Jump, Lined};
@@ -31,35 +32,62 @@ pub enum Does {
     Assigns(Temp),
 }
 
-/// Steps in the order of the text. Once memory is refused there will be none, and whoever makes them is told at the end.
+impl Step {
+    /// The value that is read, but for one that is returned.
+    pub fn read_within(&self) -> Option<Val> {
+        match self.does {
+            Does::Reads(value) | Does::Takes(_, value) => Some(value),
+            Does::Returns(_) | Does::Assigns(_) => None,
+        }
+    }
+
+    /// The value that is read, or returned.
+    pub fn read(&self) -> Option<Val> {
+        match self.does {
+            Does::Reads(value) | Does::Takes(_, value) | Does::Returns(value) => Some(value),
+            Does::Assigns(_) => None,
+        }
+    }
+
+    /// The temporary that is read, or returned.
+    pub fn temp_read(&self) -> Option<Temp> {
+        match self.does {
+            Does::Reads(Val::Temp(temp))
+            | Does::Takes(_, Val::Temp(temp))
+            | Does::Returns(Val::Temp(temp)) => Some(temp),
+            _ => None,
+        }
+    }
+
+    pub fn assigns(&self, temp: Temp) -> bool {
+        matches!(self.does, Does::Assigns(assigned) if assigned == temp)
+    }
+}
+
+/// Steps in the order of the text.
 #[derive(Drop)]
 pub struct StepList {
-    list: Vec<Step>,
+    list: Gathered<Step>,
     block: usize,
-    is_refused: bool,
 }
 
 impl StepList {
     /// No step yet.
     pub fn new(alloc: Global) -> StepList {
         StepList {
-            list: Vec::new(alloc),
+            list: Gathered::new(alloc),
             block: 0,
-            is_refused: false,
         }
     }
 
     fn add(&mut self, line: usize, class: Class, does: Does) {
         let block = self.block;
-        let step = Step {
+        self.list.add(Ok(Step {
             block,
             line,
             class,
             does,
-        };
-        if self.list.push(step).is_err() {
-            self.is_refused = true;
-        }
+        }));
     }
 
     fn add_block(&mut self, block: &Block) {
@@ -95,10 +123,8 @@ impl StepList {
                 left,
                 right,
             } => {
-                let one = left_class(*op, to.class);
-                let other = right_class(*op, to.class);
-                self.add(line, one, Does::Reads(*left));
-                self.add(line, other, Does::Reads(*right));
+                self.add(line, left_class(*op, to.class), Does::Reads(*left));
+                self.add(line, right_class(*op, to.class), Does::Reads(*right));
             }
             Inst::Alloc { .. } => {}
             Inst::Store { size, value, at } => {
@@ -109,11 +135,7 @@ impl StepList {
                 self.add(line, Class::L, Does::Reads(*from));
                 self.add(line, Class::L, Does::Reads(*to));
             }
-            Inst::Call {
-                to: _,
-                callee,
-                args,
-            } => {
+            Inst::Call { callee, args, .. } => {
                 self.add(line, Class::L, Does::Reads(*callee));
                 for arg in args.as_slice() {
                     self.add(line, arg.class, Does::Reads(arg.value));
@@ -136,10 +158,7 @@ impl StepList {
 
     /// The steps, where memory was given for all of them.
     pub fn finish(self) -> Result<Vec<Step>, AllocError> {
-        if self.is_refused {
-            return Err(AllocError);
-        }
-        Ok(self.list)
+        self.list.finish()
     }
 }
 
@@ -167,11 +186,5 @@ pub fn destination(inst: &Inst) -> Option<Dest> {
 
 /// The class of a temporary, where it is assigned.
 pub fn class_of(steps: &[Step], temp: Temp) -> Option<Class> {
-    for step in steps {
-        match step.does {
-            Does::Assigns(other) if other == temp => return Some(step.class),
-            _ => {}
-        }
-    }
-    None
+    Some(steps.iter().find(|step| step.assigns(temp))?.class)
 }

@@ -1,5 +1,6 @@
 //! Reading on behind a mistake against the grammar.
-use crate::remark::{Remark, Remarks};
+use crate::note::Gathered;
+use crate::remark::{Remark, make_remark};
 use crate::syntax::add_unexpected;
 use il_reader::error::ReadError;
 use il_reader::read::{read, stop};
@@ -8,17 +9,22 @@ use text_maker::maker::TextMaker;
 
 /// The first mistakes against the grammar in the functions and data of a text behind the place where the reading of it ended.
 pub fn behind_stop(alloc: Global, number: usize, bytes: &[u8]) -> Result<Vec<Remark>, AllocError> {
-    let mut remarks = Remarks::new(alloc, number);
+    let mut remarks = Gathered::new(alloc);
     let mut place = Place { at: 0, line: 1 };
     let mut head = next_head(bytes, stop(alloc, bytes));
     for _ in 0..usize::MAX {
-        match head {
-            Some(start) => {
-                head = next_head(bytes, behind_head(bytes, start));
-                let end = head.unwrap_or(bytes.len());
-                add_mistake(alloc, &mut remarks, bytes, &mut place, start, end);
+        let Some(start) = head else {
+            break;
+        };
+        head = next_head(bytes, behind_head(bytes, start));
+        let part = bytes.get(start..head.unwrap_or(bytes.len())).unwrap_or(&[]);
+        match read(alloc, part) {
+            Ok(_) => {}
+            Err(ReadError::Memory) => remarks.add(Err(AllocError)),
+            Err(ReadError::Syntax { .. }) => {
+                place.go_to(bytes, start.saturating_add(stop(alloc, part)));
+                remarks.add(mistake_at(alloc, number, bytes, &place));
             }
-            None => break,
         }
     }
     remarks.finish()
@@ -34,36 +40,23 @@ struct Place {
 impl Place {
     /// Goes on to a later place.
     fn go_to(&mut self, bytes: &[u8], at: usize) {
-        for byte in bytes.get(self.at..at).unwrap_or(&[]) {
-            if *byte == b'\n' {
-                self.line = self.line.saturating_add(1);
-            }
-        }
+        let between = bytes.get(self.at..at).unwrap_or(&[]);
+        let lines = between.iter().filter(|byte| **byte == b'\n').count();
+        self.line = self.line.saturating_add(lines);
         self.at = at;
     }
 }
 
-/// Adds the mistake of a part of a text, where it has one.
-fn add_mistake(
+/// What is said of the mistake at a place of the text with this number.
+fn mistake_at(
     alloc: Global,
-    remarks: &mut Remarks,
+    number: usize,
     bytes: &[u8],
-    place: &mut Place,
-    start: usize,
-    end: usize,
-) {
-    let part = bytes.get(start..end).unwrap_or(&[]);
-    match read(alloc, part) {
-        Ok(_) => {}
-        Err(ReadError::Memory) => remarks.refuse(),
-        Err(ReadError::Syntax { .. }) => {
-            let at = start.saturating_add(stop(alloc, part));
-            place.go_to(bytes, at);
-            let mut words = TextMaker::new(alloc);
-            add_unexpected(&mut words, bytes.get(at..).unwrap_or(&[]));
-            remarks.add(None, place.line, words);
-        }
-    }
+    place: &Place,
+) -> Result<Remark, AllocError> {
+    let mut words = TextMaker::new(alloc);
+    add_unexpected(&mut words, bytes.get(place.at..).unwrap_or(&[]));
+    make_remark(None, number, place.line, words)
 }
 
 /// The first place from here on that a function or a datum begins at: here, or at the first word of a later line.
@@ -105,15 +98,9 @@ fn is_head(bytes: &[u8], at: usize) -> bool {
 /// Whether this word stands at a place, and no longer one.
 fn is_word(bytes: &[u8], at: usize, word: &[u8]) -> bool {
     let rest = bytes.get(at..).unwrap_or(&[]);
-    if !rest.starts_with(word) {
-        return false;
-    }
-    match rest.get(word.len()) {
-        Some(byte) => !is_in_word(*byte),
-        None => true,
-    }
+    rest.starts_with(word) && !rest.get(word.len()).is_some_and(|byte| is_in_word(*byte))
 }
 
 fn is_in_word(byte: u8) -> bool {
-    byte.is_ascii_alphanumeric() || byte == b'_' || byte == b'.' || byte == b'$'
+    byte.is_ascii_alphanumeric() || matches!(byte, b'_' | b'.' | b'$')
 }

@@ -1,21 +1,16 @@
 //! What is wrong with the sizes that instructions name.
-use crate::name::{add_count, add_limit};
+use crate::name::Count;
 use il_ast::block::Block;
 use il_ast::function::Func;
 use il_ast::instruction::Inst;
 use il_ast::limits::{ALLOC_BYTES, BLIT_BYTES};
 use text_maker::maker::TextMaker;
+use text_maker::say;
 
-/// The instruction at a line, and whether it stands in the first block.
-fn instruction_at(blocks: &[Block], line: usize) -> Option<(&Inst, bool)> {
-    for (number, block) in blocks.iter().enumerate() {
-        for inst in block.insts.as_slice() {
-            if inst.line == line {
-                return Some((&inst.item, number == 0));
-            }
-        }
-    }
-    None
+/// The instruction at a line of a block.
+fn instruction_at(block: &Block, line: usize) -> Option<&Inst> {
+    let mut insts = block.insts.as_slice().iter();
+    Some(&insts.find(|inst| inst.line == line)?.item)
 }
 
 /// Whether an instruction is an `alloc` outside the first block, or of a size that it may not have.
@@ -28,28 +23,26 @@ pub fn is_wrong_alloc(inst: &Inst, is_entry: bool) -> bool {
 
 /// Whether an instruction is a `blit` of too many bytes.
 pub fn is_long_blit(inst: &Inst) -> bool {
-    match inst {
-        Inst::Blit { count, .. } => *count > BLIT_BYTES,
-        _ => false,
-    }
+    matches!(inst, Inst::Blit { count, .. } if *count > BLIT_BYTES)
 }
 
 /// An `alloc` outside the first block, or of a size that it may not have.
 pub fn add_wrong_alloc(words: &mut TextMaker, function: &Func, line: usize) {
-    match instruction_at(function.blocks.as_slice(), line) {
-        Some((Inst::Alloc { size, .. }, true)) => {
-            words.add("an alloc of ");
-            add_count(words, *size);
-            words.add(" bytes: it takes from 1 to ");
-            add_count(words, ALLOC_BYTES);
-        }
-        _ => words.add("an alloc outside the first block"),
+    let most = Count(ALLOC_BYTES);
+    if let Some(entry) = function.blocks.as_slice().first()
+        && let Some(Inst::Alloc { size, .. }) = instruction_at(entry, line)
+    {
+        say!(words; "an alloc of {} bytes: it takes from 1 to {most}", Count(*size));
+    } else {
+        words.add("an alloc outside the first block");
     }
 }
 
 /// A `blit` of too many bytes.
 pub fn add_long_blit(words: &mut TextMaker, function: &Func, line: usize) {
-    if let Some((Inst::Blit { count, .. }, _)) = instruction_at(function.blocks.as_slice(), line) {
-        add_limit(words, *count, " bytes in a blit", BLIT_BYTES);
+    let mut blocks = function.blocks.as_slice().iter();
+    if let Some(Inst::Blit { count, .. }) = blocks.find_map(|block| instruction_at(block, line)) {
+        let most = Count(BLIT_BYTES);
+        say!(words; "{} bytes in a blit, at most {most}", Count(*count));
     }
 }

@@ -3,6 +3,7 @@ use il_lex::kind::Kind;
 use il_lex::scan::{Ahead, scan};
 use std::str;
 use text_maker::maker::TextMaker;
+use text_maker::say;
 
 /// Says what stands at the front of these bytes, which isn't what the grammar has there.
 pub fn add_unexpected(words: &mut TextMaker, rest: &[u8]) {
@@ -13,27 +14,19 @@ pub fn add_unexpected(words: &mut TextMaker, rest: &[u8]) {
             kind: Kind::Newline,
             ..
         } => words.add("the line ends here, where more has to stand"),
-        Ahead::Found { kind: _, gap, len } => add_token(words, token(rest, gap, len)),
+        Ahead::Found { kind: _, gap, len } => {
+            let behind = rest.get(gap..).unwrap_or(&[]);
+            add_token(words, behind.get(..len).unwrap_or(&[]));
+        }
     }
-}
-
-/// The bytes of a token behind a gap.
-fn token(rest: &[u8], gap: usize, len: usize) -> &[u8] {
-    let behind = rest.get(gap..).unwrap_or(&[]);
-    behind.get(..len).unwrap_or(&[])
 }
 
 fn add_token(words: &mut TextMaker, token: &[u8]) {
-    words.add("`");
-    match token.get(..40) {
-        Some(start) => {
-            words.add(shown(start));
-            words.add("..");
-        }
-        None => words.add(shown(token)),
-    }
-    words.add("` has no place here");
-    words.add(hint(token));
+    let (start, dots) = match token.get(..40) {
+        Some(start) => (start, ".."),
+        None => (token, ""),
+    };
+    say!(words; "`{}{dots}` has no place here{}", shown(start), hint(token));
 }
 
 fn shown(bytes: &[u8]) -> &str {
@@ -63,38 +56,20 @@ const HINTS: [(&[u8], &str); 17] = [
 
 /// What to know of a word, where it is one of these.
 fn hint(token: &[u8]) -> &'static str {
-    for (word, what) in &HINTS {
-        if *word == token {
-            return what;
-        }
-    }
-    ""
+    let found = HINTS.iter().find(|(word, _)| *word == token);
+    found.map_or("", |(_, what)| *what)
 }
 
 /// Says why no token begins behind the spacing.
 fn add_bad(words: &mut TextMaker, rest: &[u8]) {
-    match first_byte(rest) {
-        Some(b'\r') | Some(b'#') => words.add("byte 13 stands here; lines end with byte 10 alone"),
-        Some(b'"') => words.add("a string that isn't ended, or has what no string has"),
-        Some(b'$') | Some(b'%') | Some(b'@') => {
-            words.add("a name isn't a word of at most 255 bytes")
-        }
-        Some(b'-') | Some(b'0'..=b'9') => words.add("a number is out of its range"),
-        Some(b':') => words.add("there are no aggregate types"),
-        Some(byte) => {
-            words.add("no token begins with byte ");
-            words.add_number(u64::from(byte));
-        }
-        None => words.add("no token stands here"),
-    }
-}
-
-/// The first byte that is no spacing.
-fn first_byte(rest: &[u8]) -> Option<u8> {
-    for byte in rest {
-        if *byte != b' ' && *byte != b'\t' {
-            return Some(*byte);
-        }
-    }
-    None
+    let first = rest.iter().find(|byte| !matches!(byte, b' ' | b'\t'));
+    words.add(match first {
+        Some(b'\r' | b'#') => "byte 13 stands here; lines end with byte 10 alone",
+        Some(b'"') => "a string that isn't ended, or has what no string has",
+        Some(b'$' | b'%' | b'@') => "a name isn't a word of at most 255 bytes",
+        Some(b'-' | b'0'..=b'9') => "a number is out of its range",
+        Some(b':') => "there are no aggregate types",
+        Some(byte) => return say!(words; "no token begins with byte {byte}"),
+        None => "no token stands here",
+    });
 }

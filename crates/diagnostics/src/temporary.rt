@@ -1,5 +1,5 @@
 //! What is wrong with the temporaries of a function.
-use crate::name::{add_class, add_global, add_line, add_temp};
+use crate::name::{class_word, global, temp};
 use crate::place::{Does, Step, class_of};
 use il_ast::function::Func;
 use il_ast::operand::Val;
@@ -7,21 +7,19 @@ use il_ast::operation::Class;
 use il_ast::temp::Temp;
 use il_ast::text::Text;
 use text_maker::maker::TextMaker;
+use text_maker::say;
 
 /// A temporary of two classes.
 pub fn add_two_classes(words: &mut TextMaker, function: &Func, steps: &[Step], line: usize) {
     for step in steps {
-        if let Does::Assigns(temp) = step.does
+        if let Does::Assigns(assigned) = step.does
             && step.line == line
-            && let Some(other) = other_class(steps, temp, step.class)
+            && let Some(other) = other_class(steps, assigned, step.class)
         {
-            add_temp(words, function, temp);
-            words.add(" has class ");
-            add_class(words, step.class);
-            words.add(" here and class ");
-            add_class(words, other.class);
-            words.add(" at ");
-            add_line(words, other.line);
+            let name = temp(function, assigned);
+            let (here, there) = (class_word(step.class), class_word(other.class));
+            let at = other.line;
+            say!(words; "{name} has class {here} here and class {there} at line {at}");
             return;
         }
     }
@@ -29,13 +27,9 @@ pub fn add_two_classes(words: &mut TextMaker, function: &Func, steps: &[Step], l
 
 /// Another step that assigns the temporary, with another class.
 fn other_class(steps: &[Step], temp: Temp, class: Class) -> Option<&Step> {
-    for step in steps {
-        match step.does {
-            Does::Assigns(other) if other == temp && step.class != class => return Some(step),
-            _ => {}
-        }
-    }
-    None
+    steps
+        .iter()
+        .find(|step| step.assigns(temp) && step.class != class)
 }
 
 /// An operand that doesn't fit its place, or a result of a class that its operation hasn't.
@@ -62,19 +56,16 @@ fn add_wrong_use(
     steps: &[Step],
     step: &Step,
 ) -> bool {
-    let value = match step.does {
-        Does::Reads(value) | Does::Takes(_, value) => value,
-        Does::Returns(_) | Does::Assigns(_) => return false,
+    let Some(value) = step.read_within() else {
+        return false;
     };
     match value {
-        Val::Temp(temp) if step.class == Class::L && class_of(steps, temp) == Some(Class::W) => {
-            add_temp(words, function, temp);
-            words.add(" has class w and stands in an l place");
+        Val::Temp(read) if step.class == Class::L && class_of(steps, read) == Some(Class::W) => {
+            say!(words; "{} has class w and stands in an l place", temp(function, read));
             true
         }
         Val::Global(symbol) if step.class == Class::W => {
-            add_global(words, text, symbol);
-            words.add(" is an address and stands in a w place");
+            say!(words; "{} is an address and stands in a w place", global(text, symbol));
             true
         }
         _ => false,
@@ -86,8 +77,7 @@ pub fn add_wrong_return(words: &mut TextMaker, function: &Func) {
     match function.result {
         None => words.add("a value is returned by a function without a class"),
         Some(class) => {
-            words.add("the value doesn't fit the function's class, ");
-            add_class(words, class);
+            say!(words; "the value doesn't fit the function's class, {}", class_word(class));
         }
     }
 }
@@ -95,7 +85,7 @@ pub fn add_wrong_return(words: &mut TextMaker, function: &Func) {
 /// A temporary that is used and assigned nowhere.
 pub fn add_undefined(words: &mut TextMaker, function: &Func, steps: &[Step], line: usize) {
     match undefined(steps, line) {
-        Some(temp) => add_temp(words, function, temp),
+        Some(used) => say!(words; "{}", temp(function, used)),
         None => words.add("a temporary"),
     }
     words.add(" is used, and assigned nowhere in the function");
@@ -103,16 +93,7 @@ pub fn add_undefined(words: &mut TextMaker, function: &Func, steps: &[Step], lin
 
 /// The first temporary in a line that nothing assigns.
 fn undefined(steps: &[Step], line: usize) -> Option<Temp> {
-    for step in steps {
-        match step.does {
-            Does::Reads(Val::Temp(temp))
-            | Does::Takes(_, Val::Temp(temp))
-            | Does::Returns(Val::Temp(temp))
-                if step.line == line && class_of(steps, temp).is_none() => {
-                return Some(temp);
-            }
-            _ => {}
-        }
-    }
-    None
+    let of_line = steps.iter().filter(|step| step.line == line);
+    let mut read = of_line.filter_map(|step| step.temp_read());
+    read.find(|temp| class_of(steps, *temp).is_none())
 }

@@ -1,15 +1,15 @@
 //! Why one text is refused.
 ghost use Rattle.std.specs.Prelude.{◌≡◌, IfOk};
 
-use crate::broken::all_broken;
+use crate::broken::{all_broken, is_same};
 use crate::data::{add_repeated_global, add_wrong_alignment, add_wrong_fields};
 use crate::definition::function_at;
 use crate::label::{add_jump_to_entry, add_open_end, add_repeated_local, add_unknown_label};
 use crate::limit::text_limit;
-use crate::note::{Note, make_note};
+use crate::note::{Gathered, Note};
 use crate::phi::add_uncovered;
-use crate::place::steps;
-use crate::remark::{Remark, Remarks};
+use crate::place::{Step, steps};
+use crate::remark::{Remark, make_remark};
 use crate::size::{add_long_blit, add_wrong_alloc};
 use crate::syntax::add_unexpected;
 use crate::temporary::{add_misfit, add_two_classes, add_undefined, add_wrong_return};
@@ -38,10 +38,7 @@ pub fn rule(alloc: Global, bytes: &[u8], fault: BrokenRule) -> Result<String, Al
 
 /// A text that was read before.
 fn text_of(alloc: Global, bytes: &[u8]) -> Result<Text, AllocError> {
-    match read(alloc, bytes) {
-        Ok(text) => Ok(text),
-        Err(_) => Err(AllocError),
-    }
+    read(alloc, bytes).map_err(|_| AllocError)
 }
 
 /// So many mistakes of a text are told beside the one that it is refused for.
@@ -56,12 +53,12 @@ pub fn other_rules(
 ) -> Result<Vec<Remark>, AllocError> {
     let text = text_of(alloc, bytes)?;
     let others = all_broken(alloc, &text)?;
-    let mut remarks = Remarks::new(alloc, number);
+    let mut remarks = Gathered::new(alloc);
     let mut left = MOST_OTHERS;
     let mut last = fault;
     for other in others.as_slice() {
         if left > 0 && !is_same(*other, fault) && !is_same(*other, last) {
-            add_remark(alloc, &mut remarks, &text, *other);
+            remarks.add(remark_of(alloc, number, &text, *other));
             left -= 1;
             last = *other;
         }
@@ -69,16 +66,16 @@ pub fn other_rules(
     remarks.finish()
 }
 
-fn is_same(one: BrokenRule, other: BrokenRule) -> bool {
-    one.line == other.line && one.rule.number() == other.rule.number()
-}
-
-fn add_remark(alloc: Global, remarks: &mut Remarks, text: &Text, fault: BrokenRule) {
+/// What is said of one of a text's broken rules.
+fn remark_of(
+    alloc: Global,
+    number: usize,
+    text: &Text,
+    fault: BrokenRule,
+) -> Result<Remark, AllocError> {
     let mut words = TextMaker::new(alloc);
-    match add_rule(alloc, &mut words, text, fault) {
-        Ok(()) => remarks.add(Some(fault.rule), fault.line, words),
-        Err(_) => remarks.refuse(),
-    }
+    add_rule(alloc, &mut words, text, fault)?;
+    make_remark(Some(fault.rule), number, fault.line, words)
 }
 
 /// Which limit the text with this number passes, and where.
@@ -88,6 +85,7 @@ pub fn limit(alloc: Global, number: usize, bytes: &[u8]) -> Result<Note, AllocEr
     text_limit(alloc, number, &text_of(alloc, bytes)?)
 }
 
+/// Says which names break a rule.
 fn add_rule(
     alloc: Global,
     words: &mut TextMaker,
@@ -95,59 +93,38 @@ fn add_rule(
     fault: BrokenRule,
 ) -> Result<(), AllocError> {
     let line = fault.line;
-    match fault.rule {
-        Rule::DistinctGlobals => add_repeated_global(words, text, line),
-        Rule::DataFields => add_wrong_fields(words, text, line),
-        Rule::Alignment => add_wrong_alignment(words, text, line),
-        _ => {
-            if let Some(function) = function_at(text, line) {
-                return add_local_rule(alloc, words, text, function, fault);
-            }
+    match (fault.rule, function_at(text, line)) {
+        (Rule::DistinctGlobals, _) => add_repeated_global(words, text, line),
+        (Rule::DataFields, _) => add_wrong_fields(words, text, line),
+        (Rule::Alignment, _) => add_wrong_alignment(words, text, line),
+        (_, None) => {}
+        (Rule::DistinctLocals, Some(function)) => add_repeated_local(words, function, line),
+        (Rule::KnownLabels, Some(function)) => add_unknown_label(words, function, line),
+        (Rule::EntryNotTarget, Some(function)) => add_jump_to_entry(words, function),
+        (Rule::LastBlockEnds, Some(function)) => add_open_end(words, function, line),
+        (Rule::PhiCoversPredecessors, Some(function)) => add_uncovered(words, function, line),
+        (Rule::AllocInEntry, Some(function)) => add_wrong_alloc(words, function, line),
+        (Rule::ReturnFits, Some(function)) => add_wrong_return(words, function),
+        (Rule::BlitSize, Some(function)) => add_long_blit(words, function, line),
+        (Rule::OneType | Rule::OperandFits | Rule::DefinedTemporaries, Some(function)) => {
+            let steps = steps(alloc, function)?;
+            add_rule_of_steps(words, text, function, steps.as_slice(), fault);
         }
     }
     Ok(())
 }
 
-/// Which names of a function break a rule.
-fn add_local_rule(
-    alloc: Global,
-    words: &mut TextMaker,
-    text: &Text,
-    function: &Func,
-    fault: BrokenRule,
-) -> Result<(), AllocError> {
-    let line = fault.line;
-    match fault.rule {
-        Rule::DistinctLocals => add_repeated_local(words, function, line),
-        Rule::KnownLabels => add_unknown_label(words, function, line),
-        Rule::EntryNotTarget => add_jump_to_entry(words, function),
-        Rule::LastBlockEnds => add_open_end(words, function, line),
-        Rule::PhiCoversPredecessors => add_uncovered(words, function, line),
-        Rule::AllocInEntry => add_wrong_alloc(words, function, line),
-        Rule::ReturnFits => add_wrong_return(words, function),
-        Rule::BlitSize => add_long_blit(words, function, line),
-        Rule::OneType | Rule::OperandFits | Rule::DefinedTemporaries => {
-            return add_rule_of_steps(alloc, words, text, function, fault);
-        }
-        Rule::DistinctGlobals | Rule::DataFields | Rule::Alignment => {}
-    }
-    Ok(())
-}
-
-/// Which temporaries of a function break a rule.
+/// Says which temporaries of a function break a rule.
 fn add_rule_of_steps(
-    alloc: Global,
     words: &mut TextMaker,
     text: &Text,
     function: &Func,
+    steps: &[Step],
     fault: BrokenRule,
-) -> Result<(), AllocError> {
-    let line = fault.line;
-    let steps = steps(alloc, function)?;
+) {
     match fault.rule {
-        Rule::OneType => add_two_classes(words, function, steps.as_slice(), line),
-        Rule::OperandFits => add_misfit(words, text, function, steps.as_slice(), line),
-        _ => add_undefined(words, function, steps.as_slice(), line),
+        Rule::OneType => add_two_classes(words, function, steps, fault.line),
+        Rule::OperandFits => add_misfit(words, text, function, steps, fault.line),
+        _ => add_undefined(words, function, steps, fault.line),
     }
-    Ok(())
 }

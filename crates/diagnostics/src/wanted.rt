@@ -1,8 +1,7 @@
 //! Functions whose results are wanted.
-use crate::call::{Call, call_by_name, target};
-use il_ast::function::Func;
-use il_ast::program::{InText, Target};
-use il_ast::symbol::Symbol;
+use crate::call::{call_by_name, target};
+use il_ast::instruction::Inst;
+use il_ast::program::Target;
 use il_ast::value::Callee;
 use obj_link::linking::linked::Linked;
 use std::alloc::{AllocError, Global};
@@ -12,7 +11,17 @@ pub fn wanted(alloc: Global, linked: &Linked<'_>) -> Result<Vec<bool>, AllocErro
     let mut wanted = vec![in alloc; false; linked.functions.len()]?;
     mark(&mut wanted, linked.main);
     for function in linked.functions.as_slice() {
-        mark_called(&mut wanted, linked, function);
+        let insts = function
+            .item
+            .blocks
+            .as_slice()
+            .iter()
+            .flat_map(|block| block.insts.as_slice());
+        for inst in insts {
+            if let Some(number) = wanted_by(linked, function.text, &inst.item) {
+                mark(&mut wanted, number);
+            }
+        }
     }
     Ok(wanted)
 }
@@ -23,23 +32,13 @@ fn mark(wanted: &mut Vec<bool>, number: usize) {
     }
 }
 
-/// Marks the functions whose results the calls of a function want.
-fn mark_called(wanted: &mut Vec<bool>, linked: &Linked<'_>, function: &InText<&Func>) {
-    for block in function.item.blocks.as_slice() {
-        for inst in block.insts.as_slice() {
-            if let Some((name, call)) = call_by_name(&inst.item)
-                && let Some(number) = wanted_by(linked, function.text, name, &call)
-            {
-                mark(wanted, number);
-            }
-        }
+/// The function whose result an instruction wants, where it is a call by name.
+fn wanted_by(linked: &Linked<'_>, text: usize, inst: &Inst) -> Option<usize> {
+    if let Some((name, call)) = call_by_name(inst)
+        && let Some(Target::Code(Callee::Defined(number))) = target(linked, text, name)
+        && call.to.is_some()
+    {
+        return Some(number);
     }
-}
-
-/// The function whose result a call wants.
-fn wanted_by(linked: &Linked<'_>, text: usize, name: Symbol, call: &Call<'_>) -> Option<usize> {
-    match target(linked, text, name) {
-        Some(Target::Code(Callee::Defined(number))) if call.to.is_some() => Some(number),
-        _ => None,
-    }
+    None
 }

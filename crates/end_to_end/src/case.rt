@@ -3,7 +3,7 @@ use std::alloc::{AllocError, Global};
 use test_report::told::Told;
 
 /// Numbers that are known of a program, or that its runs are given.
-#[derive(Clone, Copy)]
+#[derive(Clone, Copy, Default)]
 pub struct Bounds {
     /// how many turns it is given, where not plenty
     pub limit: Option<u64>,
@@ -15,20 +15,8 @@ pub struct Bounds {
     pub registers: u64,
 }
 
-impl Bounds {
-    fn unknown() -> Bounds {
-        Bounds {
-            limit: None,
-            turns: None,
-            price: None,
-            additions: 0,
-            registers: 0,
-        }
-    }
-}
-
 /// How a program is checked beside what is done with each.
-#[derive(Clone, Copy)]
+#[derive(Clone, Copy, Default)]
 pub struct Marks {
     /// strategies of every kind are tried on it
     pub is_tried: bool,
@@ -38,17 +26,6 @@ pub struct Marks {
     pub is_cut: bool,
     /// it is large: it is compiled once
     pub is_large: bool,
-}
-
-impl Marks {
-    fn none() -> Marks {
-        Marks {
-            is_tried: false,
-            differs: false,
-            is_cut: false,
-            is_large: false,
-        }
-    }
 }
 
 /// A program, and what is known of it.
@@ -71,11 +48,7 @@ impl Case {
     pub fn new(alloc: Global, group: &str, name: &str) -> Result<Case, AllocError> {
         let group = String::from_str(alloc, group)?;
         let name = String::from_str(alloc, name)?;
-        Ok(Case::of(alloc, group, name))
-    }
-
-    fn of(alloc: Global, group: String, name: String) -> Case {
-        Case {
+        Ok(Case {
             group,
             name,
             texts: Vec::new(alloc),
@@ -86,9 +59,9 @@ impl Case {
             },
             needs: String::new(alloc),
             weights: String::new(alloc),
-            bounds: Bounds::unknown(),
-            marks: Marks::none(),
-        }
+            bounds: Bounds::default(),
+            marks: Marks::default(),
+        })
     }
 
     /// Whether the texts are refused.
@@ -98,43 +71,37 @@ impl Case {
 
     /// How many turns the interpreter is given.
     pub fn turns_given(&self) -> u64 {
-        match (self.bounds.limit, self.bounds.turns) {
-            (Some(limit), _) => limit,
-            (None, Some(turns)) => turns,
-            (None, None) => 1_000_000_000,
-        }
+        self.bounds
+            .limit
+            .or(self.bounds.turns)
+            .unwrap_or(1_000_000_000)
     }
 
     /// How many instructions the machine is given: the price where it is known.
     pub fn instructions_given(&self) -> u64 {
-        match (self.bounds.price, self.bounds.limit) {
-            (Some(price), _) => price,
-            (None, Some(limit)) => limit,
-            (None, None) => {
-                if self.wanted.is_lost() {
-                    1_000_000
-                } else {
-                    1_000_000_000
-                }
-            }
-        }
+        let plenty = if self.wanted.is_lost() {
+            1_000_000
+        } else {
+            1_000_000_000
+        };
+        self.bounds.price.or(self.bounds.limit).unwrap_or(plenty)
     }
+}
+
+/// A program of the table, with its texts and words as slices.
+#[derive(Drop)]
+pub struct Program<'p> {
+    pub case: &'p Case,
+    pub texts: &'p [&'p [u8]],
+    pub words: &'p [&'p [u8]],
 }
 
 /// The texts, as slices.
 pub fn slices(alloc: Global, texts: &[Vec<u8>]) -> Result<Vec<&[u8]>, AllocError> {
-    let mut slices = Vec::new(alloc);
-    for text in texts {
-        slices.push(text.as_slice())?;
-    }
-    Ok(slices)
+    texts.iter().map(|text| text.as_slice()).collect(alloc)
 }
 
 /// The words, as bytes.
 pub fn words_as_bytes(alloc: Global, words: &[String]) -> Result<Vec<&[u8]>, AllocError> {
-    let mut bytes = Vec::new(alloc);
-    for word in words {
-        bytes.push(word.as_bytes())?;
-    }
-    Ok(bytes)
+    words.iter().map(|word| word.as_bytes()).collect(alloc)
 }

@@ -23,20 +23,6 @@ impl Done {
     }
 }
 
-fn written(
-    alloc: Global,
-    status: u8,
-    out: MemorySink,
-    err: MemorySink,
-) -> Result<Done, AllocError> {
-    let message = str::from_utf8(err.bytes.as_slice()).unwrap_or("no text");
-    Ok(Done {
-        status,
-        message: String::from_str(alloc, message)?,
-        output: out.bytes,
-    })
-}
-
 /// Does what the words ask for, with these streams.
 pub fn perform_with(
     alloc: Global,
@@ -47,7 +33,12 @@ pub fn perform_with(
 ) -> Result<Done, AllocError> {
     let mut allocator = LinearScan::new(alloc);
     let status = command(alloc, words, &mut allocator, disk, &mut out, &mut err);
-    written(alloc, status, out, err)
+    let message = str::from_utf8(err.bytes.as_slice()).unwrap_or("no text");
+    Ok(Done {
+        status,
+        message: String::from_str(alloc, message)?,
+        output: out.bytes,
+    })
 }
 
 /// Does what the words ask for, with streams that take everything.

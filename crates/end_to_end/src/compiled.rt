@@ -8,6 +8,7 @@ use rv_machine::machine::Machine;
 use rv_machine::ram::Ram;
 use rv_machine::start::StartError;
 use std::alloc::{AllocError, Global};
+use test_report::report::Report;
 use test_report::told::Told;
 
 /// The executable of texts, or why there is none.
@@ -26,6 +27,22 @@ pub fn compile_with(
     match compile(alloc, texts, allocator) {
         Ok(file) => Ok(Compiled::File(file)),
         Err(error) => Ok(Compiled::Refused(refusal_told(alloc, error)?)),
+    }
+}
+
+/// The executable of texts by this strategy. It is empty where there is none, which the report has then.
+pub fn file_by(
+    what: &str,
+    texts: &[&[u8]],
+    allocator: &mut dyn Strategy,
+    report: &mut Report,
+) -> Result<Vec<u8>, AllocError> {
+    match compile_with(report.alloc, texts, allocator)? {
+        Compiled::File(file) => Ok(file),
+        Compiled::Refused(why) => {
+            report.fail(what, "a file", why.as_str())?;
+            Ok(Vec::new(report.alloc))
+        }
     }
 }
 

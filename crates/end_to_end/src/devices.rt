@@ -1,6 +1,7 @@
 //! Disks and streams that fail, and lines for want of memory.
 use crate::broken_disk::BrokenDisk;
 use crate::commanded::{Done, line_of_words, perform_words, perform_words_with};
+use crate::told::begin;
 use commands::failure::Failure;
 use commands::refusal::Refusal;
 use commands::tell::tell;
@@ -41,6 +42,26 @@ const ON_MEMORY: [(&str, &str); 6] = [
     ("symbols -o broken seven", "126 qbec: memory"),
 ];
 
+/// Words whose output is tried.
+const OUTPUTS: [&str; 6] = [
+    "interp halts",
+    "run made",
+    "dis made",
+    "symbols -o out seven",
+    "--help",
+    "build --help",
+];
+
+/// Words whose messages are tried.
+const MESSAGES: [&str; 6] = [
+    "interp halts",
+    "run made",
+    "run absent",
+    "interp seven",
+    "go",
+    "run",
+];
+
 /// A word that is no instruction.
 const FAULTS: [u32; 1] = [0];
 
@@ -56,47 +77,15 @@ fn executable(alloc: Global, code: &[u32]) -> Result<Vec<u8>, AllocError> {
     write_image(alloc, &Image::new(code, Vec::new(alloc)))
 }
 
-// Keeps an executable of a few words.
-fn store_code(
-    alloc: Global,
-    disk: &mut BrokenDisk,
-    path: &str,
-    code: &[u32],
-) -> Result<(), AllocError> {
-    let file = executable(alloc, code)?;
-    disk.store(path, file.as_slice())
-}
-
-fn store_all(alloc: Global, disk: &mut BrokenDisk) -> Result<(), AllocError> {
-    disk.store("halts", HALTS.as_bytes())?;
-    disk.store("seven", SEVEN.as_bytes())?;
-    let _ = perform_words(alloc, disk, "build -o made halts")?;
-    store_code(alloc, disk, "faults", &FAULTS)?;
-    store_code(alloc, disk, "exits", &EXITS)
-}
-
 /// The files `halts` and `seven`, `made`, an executable of the first, and executables of a few words: `faults` and `exits`.
 pub fn disk_of(alloc: Global) -> Result<BrokenDisk, AllocError> {
     let mut disk = BrokenDisk::new(alloc);
-    store_all(alloc, &mut disk)?;
+    disk.store("halts", HALTS.as_bytes())?;
+    disk.store("seven", SEVEN.as_bytes())?;
+    let _ = perform_words(alloc, &mut disk, "build -o made halts")?;
+    disk.store("faults", executable(alloc, &FAULTS)?.as_slice())?;
+    disk.store("exits", executable(alloc, &EXITS)?.as_slice())?;
     Ok(disk)
-}
-
-fn begin_fault(words: &str, fault: FileFault, report: &mut Report) -> Result<(), AllocError> {
-    let title = format!(in report.alloc; "{words} where the fault is {fault}")?;
-    report.begin(title.as_str())
-}
-
-fn check_line(
-    disk: &mut BrokenDisk,
-    words: &str,
-    wanted: &str,
-    report: &mut Report,
-) -> Result<(), AllocError> {
-    let before = disk.kept();
-    let line = line_of_words(report.alloc, disk, words)?;
-    report.compare("line", wanted, line.as_str())?;
-    report.holds("no file is written", disk.kept() == before)
 }
 
 fn check_disk(
@@ -105,10 +94,13 @@ fn check_disk(
     fault: FileFault,
     report: &mut Report,
 ) -> Result<(), AllocError> {
-    begin_fault(words, fault, report)?;
+    begin(report, format_args!("{words} where the fault is {fault}"))?;
     let mut disk = disk_of(report.alloc)?;
     disk.fault = fault;
-    check_line(&mut disk, words, wanted, report)
+    let before = disk.kept();
+    let line = line_of_words(report.alloc, &mut disk, words)?;
+    report.compare("line", wanted, line.as_str())?;
+    report.holds("no file is written", disk.kept() == before)
 }
 
 fn check_disks(
@@ -148,11 +140,8 @@ fn compare_lines(wanted: &Done, said: &Done, report: &mut Report) -> Result<(), 
 
 fn check_cannot_write(said: &Done, report: &mut Report) -> Result<(), AllocError> {
     let line = said.line(report.alloc)?;
-    report.compare(
-        "line",
-        "126 qbec: cannot write standard output",
-        line.as_str(),
-    )
+    let wanted = "126 qbec: cannot write standard output";
+    report.compare("line", wanted, line.as_str())
 }
 
 // A beginning of the whole output, of a byte for each call where a call takes one byte.
@@ -170,11 +159,8 @@ fn check_beginning(
         return compare_lines(whole, said, report);
     }
     check_cannot_write(said, report)?;
-    let before = fails_at.saturating_sub(1);
-    report.holds(
-        "as many bytes as calls",
-        most > 1 || length as u64 == before,
-    )
+    let is_each_call = length as u64 == fails_at.saturating_sub(1);
+    report.holds("as many bytes as calls", most > 1 || is_each_call)
 }
 
 // The output and the line with an output that takes so many bytes a call, and fails at that call.
@@ -191,15 +177,13 @@ fn check_output(
     check_beginning(whole, &said, most, fails_at, report)
 }
 
-fn begin_output(words: &str, most: usize, report: &mut Report) -> Result<(), AllocError> {
-    let title = format!(in report.alloc; "{words} to an output of {most} bytes a call")?;
-    report.begin(title.as_str())
-}
-
 fn check_outputs(words: &str, report: &mut Report) -> Result<(), AllocError> {
     let whole = done_whole(report.alloc, words)?;
     for (most, last) in [(1, 40), (3, 12), (100_000, 5)] {
-        begin_output(words, most, report)?;
+        begin(
+            report,
+            format_args!("{words} to an output of {most} bytes a call"),
+        )?;
         for fails_at in 0..last + 1 {
             check_output(words, &whole, most, fails_at, report)?;
         }
@@ -207,31 +191,17 @@ fn check_outputs(words: &str, report: &mut Report) -> Result<(), AllocError> {
     Ok(())
 }
 
-fn begin_closed(words: &str, report: &mut Report) -> Result<(), AllocError> {
-    let title = format!(in report.alloc; "{words} to an output that takes nothing")?;
-    report.begin(title.as_str())
-}
-
 // An output that takes no byte.
 fn check_closed(words: &str, report: &mut Report) -> Result<(), AllocError> {
-    begin_closed(words, report)?;
+    begin(
+        report,
+        format_args!("{words} to an output that takes nothing"),
+    )?;
     let out = MemorySink::new(report.alloc, 0, 0);
     let err = MemorySink::new(report.alloc, 1, 0);
     let said = done_with(report.alloc, words, out, err)?;
     check_cannot_write(&said, report)?;
     report.holds("nothing goes out", said.output.is_empty())
-}
-
-fn begin_message(words: &str, report: &mut Report) -> Result<(), AllocError> {
-    let title = format!(in report.alloc; "{words} where standard error fails")?;
-    report.begin(title.as_str())
-}
-
-fn check_begun(whole: &Done, said: &Done, report: &mut Report) -> Result<(), AllocError> {
-    report.holds("status", said.status == whole.status)?;
-    report.holds("output", said.output.as_slice() == whole.output.as_slice())?;
-    let message = said.message.as_str();
-    report.holds("message", whole.message.as_str().starts_with(message))
 }
 
 fn check_message_at(
@@ -243,12 +213,15 @@ fn check_message_at(
     let out = MemorySink::new(report.alloc, 1, 0);
     let err = MemorySink::new(report.alloc, 2, fails_at);
     let said = done_with(report.alloc, words, out, err)?;
-    check_begun(whole, &said, report)
+    report.holds("status", said.status == whole.status)?;
+    report.holds("output", said.output.as_slice() == whole.output.as_slice())?;
+    let message = said.message.as_str();
+    report.holds("message", whole.message.as_str().starts_with(message))
 }
 
 // A standard error that fails changes neither status nor output.
 fn check_message(words: &str, report: &mut Report) -> Result<(), AllocError> {
-    begin_message(words, report)?;
+    begin(report, format_args!("{words} where standard error fails"))?;
     let whole = done_whole(report.alloc, words)?;
     for fails_at in 1..9 {
         check_message_at(words, &whole, fails_at, report)?;
@@ -274,25 +247,11 @@ fn check_failure(
 pub fn check(report: &mut Report) -> Result<(), AllocError> {
     check_disks(&ON_A_DEVICE, FileFault::Device, report)?;
     check_disks(&ON_MEMORY, FileFault::Memory, report)?;
-    for words in [
-        "interp halts",
-        "run made",
-        "dis made",
-        "symbols -o out seven",
-        "--help",
-        "build --help",
-    ] {
+    for words in OUTPUTS {
         check_outputs(words, report)?;
         check_closed(words, report)?;
     }
-    for words in [
-        "interp halts",
-        "run made",
-        "run absent",
-        "interp seven",
-        "go",
-        "run",
-    ] {
+    for words in MESSAGES {
         check_message(words, report)?;
     }
     check_failure(

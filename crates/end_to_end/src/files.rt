@@ -4,7 +4,7 @@
 use crate::broken_disk::BrokenDisk;
 use crate::case::{Case, slices};
 use crate::commanded::line_of_words;
-use crate::compiled::{Compiled, compile_with};
+use crate::compiled::file_by;
 use crate::table::bytes_of;
 use regalloc::spill_all::SpillAll;
 use std::alloc::{AllocError, Global};
@@ -12,21 +12,12 @@ use std::rt::Files;
 use std::{fs, io, str};
 use test_report::report::Report;
 
-fn line_on(
-    alloc: Global,
-    disk: &mut BrokenDisk,
-    verb: &str,
-    bytes: &[u8],
-) -> Result<String, AllocError> {
-    disk.store("file", bytes)?;
-    let words = format!(in alloc; "{verb} file")?;
-    line_of_words(alloc, disk, words.as_str())
-}
-
 // The line of `verb` for a file of these bytes.
 fn line_for(alloc: Global, verb: &str, bytes: &[u8]) -> Result<String, AllocError> {
     let mut disk = BrokenDisk::new(alloc);
-    line_on(alloc, &mut disk, verb, bytes)
+    disk.store("file", bytes)?;
+    let words = format!(in alloc; "{verb} file")?;
+    line_of_words(alloc, &mut disk, words.as_str())
 }
 
 fn check_cuts(file: &[u8], report: &mut Report) -> Result<(), AllocError> {
@@ -43,10 +34,7 @@ fn check_cuts(file: &[u8], report: &mut Report) -> Result<(), AllocError> {
 fn changed(alloc: Global, file: &[u8], offset: usize, bytes: &[u8]) -> Result<Vec<u8>, AllocError> {
     let mut changed = Vec::new(alloc);
     for (k, old) in file.iter().enumerate() {
-        let new = match k.checked_sub(offset) {
-            Some(at) => bytes.get(at),
-            None => None,
-        };
+        let new = k.checked_sub(offset).and_then(|at| bytes.get(at));
         changed.push(*new.unwrap_or(old))?;
     }
     Ok(changed)
@@ -67,22 +55,13 @@ fn check_refused(
     report.holds(verb, numbers.split('|').any(|w| w == number))
 }
 
-fn changed_by(
-    alloc: Global,
-    file: &[u8],
-    offset: &str,
-    digits: &str,
-) -> Result<Vec<u8>, AllocError> {
-    let bytes = bytes_of(alloc, digits)?;
-    let offset = offset.parse::<usize>().unwrap_or(0);
-    changed(alloc, file, offset, bytes.as_slice())
-}
-
 fn check_change(file: &[u8], line: &str, report: &mut Report) -> Result<(), AllocError> {
     let (offset, rest) = line.split_once(' ').unwrap_or((line, ""));
     let (digits, numbers) = rest.split_once(' ').unwrap_or((rest, ""));
     report.begin(line)?;
-    let other = changed_by(report.alloc, file, offset, digits)?;
+    let bytes = bytes_of(report.alloc, digits)?;
+    let offset = offset.parse::<usize>().unwrap_or(0);
+    let other = changed(report.alloc, file, offset, bytes.as_slice())?;
     check_refused("run", other.as_slice(), numbers, report)?;
     check_refused("dis", other.as_slice(), numbers, report)
 }
@@ -97,25 +76,13 @@ fn check_file(file: &[u8], changes: &str, report: &mut Report) -> Result<(), All
     Ok(())
 }
 
-fn check_head(file: &[u8], report: &mut Report) -> Result<(), AllocError> {
-    report.begin("the head of a file")?;
-    report.holds("head", file.starts_with(HEAD))
-}
-
-fn compiled_case(alloc: Global, case: &Case) -> Result<Compiled, AllocError> {
-    let texts = slices(alloc, &case.texts)?;
-    compile_with(alloc, texts.as_slice(), &mut SpillAll::new(alloc))
-}
-
 fn check_case(case: &Case, changes: &str, report: &mut Report) -> Result<(), AllocError> {
-    let compiled = compiled_case(report.alloc, case)?;
-    match &compiled {
-        Compiled::File(file) => {
-            check_head(file.as_slice(), report)?;
-            check_file(file.as_slice(), changes, report)
-        }
-        Compiled::Refused(why) => report.fail("compile", "a file", why.as_str()),
-    }
+    report.begin("the head of a file")?;
+    let texts = slices(report.alloc, &case.texts)?;
+    let mut allocator = SpillAll::new(report.alloc);
+    let file = file_by("compile", texts.as_slice(), &mut allocator, report)?;
+    report.holds("head", file.as_slice().starts_with(HEAD))?;
+    check_file(file.as_slice(), changes, report)
 }
 
 /// The first 64 bytes of the file of a program without data.

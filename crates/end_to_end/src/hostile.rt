@@ -1,7 +1,8 @@
 //! Programs compiled with strategies of every kind: each executable does the same.
-use crate::case::{Case, slices, words_as_bytes};
-use crate::compiled::{Compiled, compile_with, ran};
+use crate::case::{Case, Program, slices, words_as_bytes};
+use crate::compiled::{file_by, ran};
 use crate::strategies::{Answer, Cut, Fixed, List};
+use crate::told::begin;
 use rv_machine::page_ram::PageRam;
 use std::alloc::AllocError;
 use test_report::report::Report;
@@ -44,69 +45,12 @@ const ANSWERS: [Answer; 40] = [
     Answer::Turned { by: 1 },
     Answer::Turned { by: 4 },
     Answer::Backward,
-    Answer::Moves {
-        from: Location::Register(5),
-        to: Location::Slot(0),
-        count: 1,
-    },
-    Answer::Moves {
-        from: Location::Register(5),
-        to: Location::Register(6),
-        count: 1,
-    },
-    Answer::Moves {
-        from: Location::Slot(0),
-        to: Location::Register(5),
-        count: 1000,
-    },
-    Answer::Moves {
-        from: Location::Slot(0),
-        to: Location::Register(2),
-        count: 1,
-    },
-    Answer::Moves {
-        from: Location::Slot(4294967295),
-        to: Location::Slot(0),
-        count: 1,
-    },
+    Answer::Moves(Location::Register(5), Location::Slot(0), 1),
+    Answer::Moves(Location::Register(5), Location::Register(6), 1),
+    Answer::Moves(Location::Slot(0), Location::Register(5), 1000),
+    Answer::Moves(Location::Slot(0), Location::Register(2), 1),
+    Answer::Moves(Location::Slot(4294967295), Location::Slot(0), 1),
 ];
-
-/// A program of the table, as slices.
-#[derive(Drop)]
-struct Program<'p> {
-    case: &'p Case,
-    texts: &'p [&'p [u8]],
-    words: &'p [&'p [u8]],
-}
-
-fn check_file(
-    program: &Program<'_>,
-    what: &str,
-    file: &[u8],
-    report: &mut Report,
-) -> Result<(), AllocError> {
-    let limit = program.case.instructions_given();
-    let said = ran::<PageRam>(report.alloc, file, program.words, limit)?;
-    report.compare_runs(what, &program.case.wanted, &said)
-}
-
-fn check_once(
-    program: &Program<'_>,
-    what: &str,
-    allocator: &mut Fixed,
-    report: &mut Report,
-) -> Result<(), AllocError> {
-    let compiled = compile_with(report.alloc, program.texts, allocator)?;
-    match &compiled {
-        Compiled::File(file) => check_file(program, what, file.as_slice(), report),
-        Compiled::Refused(why) => report.fail(what, "a file", why.as_str()),
-    }
-}
-
-fn begin(name: &str, answer: Answer, report: &mut Report) -> Result<(), AllocError> {
-    let title = format!(in report.alloc; "{name} by {answer:?}")?;
-    report.begin(title.as_str())
-}
 
 // The program's executable by this strategy ends as is wanted, twice, since a strategy may change its answer.
 fn check_answer(
@@ -114,10 +58,16 @@ fn check_answer(
     answer: Answer,
     report: &mut Report,
 ) -> Result<(), AllocError> {
-    begin(program.case.name.as_str(), answer, report)?;
+    let case = program.case;
+    begin(report, format_args!("{} by {answer:?}", case.name))?;
     let mut allocator = Fixed::new(report.alloc, answer);
-    check_once(program, "first time", &mut allocator, report)?;
-    check_once(program, "second time", &mut allocator, report)
+    for what in ["first time", "second time"] {
+        let file = file_by(what, program.texts, &mut allocator, report)?;
+        let limit = case.instructions_given();
+        let said = ran::<PageRam>(report.alloc, file.as_slice(), program.words, limit)?;
+        report.compare_runs(what, &case.wanted, &said)?;
+    }
+    Ok(())
 }
 
 fn check_answers(program: &Program<'_>, report: &mut Report) -> Result<(), AllocError> {

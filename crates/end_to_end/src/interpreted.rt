@@ -1,5 +1,5 @@
 //! Programs, interpreted.
-use crate::measures::{needs_of, weights_of};
+use crate::measures::measures_of;
 use crate::told::end_told;
 use il_interp::interpret::interpret;
 use il_types::checked::Checked;
@@ -82,12 +82,6 @@ pub fn interpreted(
         Ok(checked) => linked_told(alloc, checked.as_slice(), words, turns),
         Err(error) => refused(alloc, error),
     }
-}
-
-fn measures_of(alloc: Global, texts: &[Checked]) -> Result<(String, String), AllocError> {
-    let needs = needs_of(alloc, texts)?;
-    let weights = weights_of(alloc, texts)?;
-    Ok((needs, weights))
 }
 
 /// What the functions of the texts need and weigh.

@@ -28,6 +28,7 @@ mod texts;
 mod told;
 mod watched;
 
+use crate::case::Case;
 use crate::table::CaseTable;
 use std::alloc::{AllocError, Global};
 use std::rt::Files;
@@ -95,30 +96,34 @@ fn check_table(
     Ok(())
 }
 
-fn check_rest(table: &CaseTable, asked: &Asked<'_>, report: &mut Report) -> Result<(), AllocError> {
-    if asked.has("strategies") {
-        report.enter("strategies")?;
-        hostile::check(table.cases.as_slice(), report)?;
-    }
-    if asked.has("prefixes") {
-        report.enter("prefixes")?;
-        prefixes::check(table.cases.as_slice(), report)?;
-    }
-    if asked.has("devices") {
-        report.enter("devices")?;
-        devices::check(report)?;
-    }
-    if asked.has("sizes") {
-        report.enter("sizes")?;
-        sizes::check(report)?;
-    }
-    if asked.has("random") {
-        report.enter("random")?;
-        random::check(asked.count.unwrap_or(RANDOM), asked.seed, report)?;
-    }
-    if asked.has("small_functions") {
-        report.enter("small_functions")?;
-        random::check_small(asked.count.unwrap_or(SMALL), asked.seed, report)?;
+/// The groups beside those of the table.
+const GROUPS: [&str; 8] = [
+    "files",
+    "lines",
+    "strategies",
+    "prefixes",
+    "devices",
+    "sizes",
+    "random",
+    "small_functions",
+];
+
+fn check_group<R: Files + AllocGlobal>(
+    rt: &R,
+    group: &str,
+    cases: &[Case],
+    asked: &Asked<'_>,
+    report: &mut Report,
+) -> io::Result<()> {
+    match group {
+        "files" => files::check(rt, cases, report)?,
+        "lines" => lines::check(rt, report)?,
+        "strategies" => hostile::check(cases, report)?,
+        "prefixes" => prefixes::check(cases, report)?,
+        "devices" => devices::check(report)?,
+        "sizes" => sizes::check(report)?,
+        "random" => random::check(asked.count.unwrap_or(RANDOM), asked.seed, report)?,
+        _ => random::check_small(asked.count.unwrap_or(SMALL), asked.seed, report)?,
     }
     Ok(())
 }
@@ -135,15 +140,12 @@ pub fn programs_told<R: Files + AllocGlobal>(rt: &R, words: &[String]) -> io::Re
     let table = table_of(rt)?;
     let mut report = Report::new(rt.alloc());
     check_table(&table, &asked, &mut report)?;
-    if asked.has("files") {
-        report.enter("files")?;
-        files::check(rt, table.cases.as_slice(), &mut report)?;
+    for group in GROUPS {
+        if asked.has(group) {
+            report.enter(group)?;
+            check_group(rt, group, table.cases.as_slice(), &asked, &mut report)?;
+        }
     }
-    if asked.has("lines") {
-        report.enter("lines")?;
-        lines::check(rt, &mut report)?;
-    }
-    check_rest(&table, &asked, &mut report)?;
     report.finish()?;
     Ok(report.text)
 }

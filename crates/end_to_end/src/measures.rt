@@ -4,41 +4,24 @@ use il_types::checked::Checked;
 use il_types::cost::{capped_need, weight};
 use std::alloc::{AllocError, Global};
 use text_maker::maker::TextMaker;
-
-fn push_weights(text: &mut TextMaker, checked: &Checked) {
-    for definition in checked.text.definitions.as_slice() {
-        if let Definition::Function(function) = definition {
-            text.add_with_numbers("# ", &[weight(function)]);
-        }
-    }
-}
-
-fn push_needs(text: &mut TextMaker, checked: &Checked) {
-    for definition in checked.text.definitions.as_slice() {
-        if let Definition::Function(function) = definition {
-            text.add_with_numbers("# ", &[capped_need(function)]);
-        }
-    }
-}
+use text_maker::say;
 
 fn without_end(alloc: Global, text: TextMaker) -> Result<String, AllocError> {
     String::from_str(alloc, text.finish()?.as_str().trim_end())
 }
 
-/// The weights of all functions, in order.
-pub fn weights_of(alloc: Global, texts: &[Checked]) -> Result<String, AllocError> {
-    let mut text = TextMaker::new(alloc);
-    for checked in texts {
-        push_weights(&mut text, checked);
+/// What each function needs, and what it weighs, in order.
+pub fn measures_of(alloc: Global, texts: &[Checked]) -> Result<(String, String), AllocError> {
+    let mut needs = TextMaker::new(alloc);
+    let mut weights = TextMaker::new(alloc);
+    for definition in texts
+        .iter()
+        .flat_map(|checked| checked.text.definitions.as_slice())
+    {
+        if let Definition::Function(function) = definition {
+            say!(needs; "{} ", capped_need(function));
+            say!(weights; "{} ", weight(function));
+        }
     }
-    without_end(alloc, text)
-}
-
-/// What each function needs, in order.
-pub fn needs_of(alloc: Global, texts: &[Checked]) -> Result<String, AllocError> {
-    let mut text = TextMaker::new(alloc);
-    for checked in texts {
-        push_needs(&mut text, checked);
-    }
-    without_end(alloc, text)
+    Ok((without_end(alloc, needs)?, without_end(alloc, weights)?))
 }

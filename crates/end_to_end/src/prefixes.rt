@@ -1,6 +1,7 @@
 //! Beginnings of texts, and bytes that no text may have.
 use crate::case::Case;
 use crate::interpreted::interpreted;
+use crate::told::begin;
 use std::alloc::AllocError;
 use test_report::report::Report;
 
@@ -15,25 +16,20 @@ fn wanted_of_zero(length: usize, whole: usize) -> &'static str {
     }
 }
 
-// The first word.
+// The number of a refusal, or how a run ended.
 fn number(end: &str) -> &str {
-    if end.starts_with("E") {
-        end.split_once(' ').unwrap_or((end, "")).0
-    } else {
-        end
+    match end.split_once(' ') {
+        Some((number, _)) if end.starts_with("E") => number,
+        _ => end,
     }
-}
-
-fn check_prefix_of_zero(text: &[u8], wanted: &str, report: &mut Report) -> Result<(), AllocError> {
-    let said = interpreted(report.alloc, &[text], &[], 9)?;
-    report.compare("beginning", wanted, number(said.end.as_str()))
 }
 
 fn check_prefixes_of_zero(text: &[u8], report: &mut Report) -> Result<(), AllocError> {
     report.begin("each beginning of a text of one line")?;
     for length in 0..text.len() {
         let wanted = wanted_of_zero(length, text.len());
-        check_prefix_of_zero(&text[..length], wanted, report)?;
+        let said = interpreted(report.alloc, &[&text[..length]], &[], 9)?;
+        report.compare("beginning", wanted, number(said.end.as_str()))?;
     }
     Ok(())
 }
@@ -42,56 +38,33 @@ fn is_possible(number: &str) -> bool {
     number == "E1" || number == "E5" || !number.starts_with("E")
 }
 
-fn check_prefix(text: &[u8], report: &mut Report) -> Result<(), AllocError> {
-    let said = interpreted(report.alloc, &[text], &[], 100_000)?;
-    report.holds("beginning", is_possible(number(said.end.as_str())))
-}
-
-fn begin_prefixes(name: &str, report: &mut Report) -> Result<(), AllocError> {
-    let title = format!(in report.alloc; "each beginning of {name}")?;
-    report.begin(title.as_str())
-}
-
 // Each is refused as no text of the grammar or for want of a `main`, or accepted.
 fn check_prefixes(name: &str, text: &[u8], report: &mut Report) -> Result<(), AllocError> {
-    begin_prefixes(name, report)?;
+    begin(report, format_args!("each beginning of {name}"))?;
     for length in 0..text.len() {
-        check_prefix(&text[..length], report)?;
+        let said = interpreted(report.alloc, &[&text[..length]], &[], 100_000)?;
+        report.holds("beginning", is_possible(number(said.end.as_str())))?;
     }
     Ok(())
 }
 
-fn with_byte(text: &[u8], place: usize, byte: u8, report: &Report) -> Result<Vec<u8>, AllocError> {
-    let mut changed = Vec::new(report.alloc);
-    for (k, old) in text.iter().enumerate() {
-        if k == place {
-            changed.push(byte)?;
-        }
-        changed.push(*old)?;
-    }
-    Ok(changed)
-}
-
-fn begin_byte(byte: u8, report: &mut Report) -> Result<(), AllocError> {
-    let title = format!(in report.alloc; "byte {byte} at each place")?;
-    report.begin(title.as_str())
-}
-
-fn check_byte_at(
-    text: &[u8],
-    place: usize,
+fn check_byte_between(
+    front: &[u8],
     byte: u8,
+    back: &[u8],
     report: &mut Report,
 ) -> Result<(), AllocError> {
-    let changed = with_byte(text, place, byte, report)?;
+    let mut changed = Vec::from_slice(report.alloc, front)?;
+    changed.push(byte)?;
+    changed.extend_from_slice(back)?;
     let said = interpreted(report.alloc, &[changed.as_slice()], &[], 9)?;
     report.compare("byte", "E1", number(said.end.as_str()))
 }
 
 fn check_byte(text: &[u8], byte: u8, report: &mut Report) -> Result<(), AllocError> {
-    begin_byte(byte, report)?;
+    begin(report, format_args!("byte {byte} at each place"))?;
     for place in 0..text.len() {
-        check_byte_at(text, place, byte, report)?;
+        check_byte_between(&text[..place], byte, &text[place..], report)?;
     }
     Ok(())
 }

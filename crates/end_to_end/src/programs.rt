@@ -1,8 +1,8 @@
 //! A program of the table, in every way.
 use crate::broken_disk::BrokenDisk;
-use crate::case::{Case, slices, words_as_bytes};
+use crate::case::{Case, Program, slices, words_as_bytes};
 use crate::commanded::{Done, perform, perform_words};
-use crate::compiled::{Compiled, compile_with, ran};
+use crate::compiled::{Compiled, compile_with, file_by, ran};
 use crate::interpreted::{interpreted, measured};
 use crate::told::is_stop;
 use crate::watched::Watched;
@@ -15,66 +15,49 @@ use std::str;
 use test_report::report::Report;
 use test_report::told::Told;
 use text_maker::maker::TextMaker;
+use text_maker::say;
 
 /// Checks a case in every way that it can be.
 pub fn check(case: &Case, report: &mut Report) -> Result<(), AllocError> {
     report.begin(case.name.as_str())?;
-    check_program(case, report)?;
+    let texts = slices(report.alloc, &case.texts)?;
+    let words = words_as_bytes(report.alloc, &case.words)?;
+    let program = Program {
+        case,
+        texts: texts.as_slice(),
+        words: words.as_slice(),
+    };
+    check_ways(&program, report)?;
     check_commands(case, report)
 }
 
-fn check_program(case: &Case, report: &mut Report) -> Result<(), AllocError> {
-    let texts = slices(report.alloc, &case.texts)?;
-    let words = words_as_bytes(report.alloc, &case.words)?;
-    check_ways(case, texts.as_slice(), words.as_slice(), report)
-}
-
-fn check_ways(
-    case: &Case,
-    texts: &[&[u8]],
-    words: &[&[u8]],
-    report: &mut Report,
-) -> Result<(), AllocError> {
-    check_interpreted(case, texts, words, report)?;
-    check_turns(case, texts, words, report)?;
-    check_measures(case, texts, report)?;
-    if case.is_refused() {
-        return check_refused(case, texts, report);
+fn check_ways(program: &Program<'_>, report: &mut Report) -> Result<(), AllocError> {
+    check_interpreted(program, report)?;
+    check_measures(program, report)?;
+    if program.case.is_refused() {
+        return check_refused(program, report);
     }
-    check_compiled(case, texts, words, report)
+    check_compiled(program, report)
 }
 
-fn check_interpreted(
-    case: &Case,
-    texts: &[&[u8]],
-    words: &[&[u8]],
-    report: &mut Report,
-) -> Result<(), AllocError> {
+// With a turn less than is known it isn't over.
+fn check_interpreted(program: &Program<'_>, report: &mut Report) -> Result<(), AllocError> {
+    let (case, texts, words) = (program.case, program.texts, program.words);
     let said = interpreted(report.alloc, texts, words, case.turns_given())?;
-    report.compare_runs("interpreter", &case.wanted, &said)
-}
-
-// With a turn less it isn't over.
-fn check_turns(
-    case: &Case,
-    texts: &[&[u8]],
-    words: &[&[u8]],
-    report: &mut Report,
-) -> Result<(), AllocError> {
-    match case.bounds.turns {
-        Some(turns) => {
-            let said = interpreted(report.alloc, texts, words, turns.saturating_sub(1))?;
-            report.compare("a turn less", "limit", said.end.as_str())
-        }
-        None => Ok(()),
+    report.compare_runs("interpreter", &case.wanted, &said)?;
+    if let Some(turns) = case.bounds.turns {
+        let said = interpreted(report.alloc, texts, words, turns.saturating_sub(1))?;
+        report.compare("a turn less", "limit", said.end.as_str())?;
     }
+    Ok(())
 }
 
-fn check_measures(case: &Case, texts: &[&[u8]], report: &mut Report) -> Result<(), AllocError> {
+fn check_measures(program: &Program<'_>, report: &mut Report) -> Result<(), AllocError> {
+    let case = program.case;
     if case.needs.is_empty() && case.weights.is_empty() {
         return Ok(());
     }
-    let (needs, weights) = measured(report.alloc, texts)?;
+    let (needs, weights) = measured(report.alloc, program.texts)?;
     compare_told("needs", case.needs.as_str(), needs.as_str(), report)?;
     compare_told("weights", case.weights.as_str(), weights.as_str(), report)
 }
@@ -92,9 +75,10 @@ fn compare_told(
     report.compare(what, wanted, said)
 }
 
-fn check_refused(case: &Case, texts: &[&[u8]], report: &mut Report) -> Result<(), AllocError> {
-    let compiled = compile_with(report.alloc, texts, &mut SpillAll::new(report.alloc))?;
-    let wanted = case.wanted.end.as_str();
+fn check_refused(program: &Program<'_>, report: &mut Report) -> Result<(), AllocError> {
+    let mut allocator = SpillAll::new(report.alloc);
+    let compiled = compile_with(report.alloc, program.texts, &mut allocator)?;
+    let wanted = program.case.wanted.end.as_str();
     match &compiled {
         Compiled::File(_) => report.fail("compile", wanted, "a file"),
         Compiled::Refused(why) => report.compare("compile", wanted, why.as_str()),
@@ -116,42 +100,22 @@ fn check_run(case: &Case, what: &str, said: &Told, report: &mut Report) -> Resul
 }
 
 fn check_run_over<R: Ram>(
-    case: &Case,
+    program: &Program<'_>,
     what: &str,
     file: &[u8],
-    words: &[&[u8]],
     report: &mut Report,
 ) -> Result<(), AllocError> {
-    let said = ran::<R>(report.alloc, file, words, case.instructions_given())?;
-    check_run(case, what, &said, report)
+    let limit = program.case.instructions_given();
+    let said = ran::<R>(report.alloc, file, program.words, limit)?;
+    check_run(program.case, what, &said, report)
 }
 
-fn check_file(
-    case: &Case,
-    file: &[u8],
-    words: &[&[u8]],
-    report: &mut Report,
-) -> Result<(), AllocError> {
-    check_run_over::<PageRam>(case, "run over pages", file, words, report)?;
-    if case.marks.is_large {
+fn check_file(program: &Program<'_>, file: &[u8], report: &mut Report) -> Result<(), AllocError> {
+    check_run_over::<PageRam>(program, "run over pages", file, report)?;
+    if program.case.marks.is_large {
         return Ok(());
     }
-    check_run_over::<FlatRam>(case, "run over flat memory", file, words, report)
-}
-
-// The file with every register in a slot; it is empty where there is none.
-fn spilled(case: &Case, texts: &[&[u8]], report: &mut Report) -> Result<Vec<u8>, AllocError> {
-    let alloc = report.alloc;
-    if case.marks.is_large {
-        return Ok(Vec::new(alloc));
-    }
-    match compile_with(alloc, texts, &mut SpillAll::new(alloc))? {
-        Compiled::File(file) => Ok(file),
-        Compiled::Refused(why) => {
-            report.fail("compile in slots", "a file", why.as_str())?;
-            Ok(Vec::new(alloc))
-        }
-    }
+    check_run_over::<FlatRam>(program, "run over flat memory", file, report)
 }
 
 fn functions_of(alloc: Global, texts: &[&[u8]]) -> Result<u64, AllocError> {
@@ -159,49 +123,31 @@ fn functions_of(alloc: Global, texts: &[&[u8]]) -> Result<u64, AllocError> {
     Ok(weights.as_str().split_whitespace().count() as u64)
 }
 
-fn check_compiled(
-    case: &Case,
-    texts: &[&[u8]],
-    words: &[&[u8]],
-    report: &mut Report,
-) -> Result<(), AllocError> {
-    let spilled = spilled(case, texts, report)?;
-    if !case.marks.is_large {
-        check_file(case, spilled.as_slice(), words, report)?;
+// With every register in a slot, and by linear scan; a large program by that alone.
+fn check_compiled(program: &Program<'_>, report: &mut Report) -> Result<(), AllocError> {
+    if program.case.marks.is_large {
+        return check_scanned(program, &[], report);
     }
-    check_scanned(case, texts, words, spilled.as_slice(), report)
+    let mut allocator = SpillAll::new(report.alloc);
+    let spilled = file_by("compile in slots", program.texts, &mut allocator, report)?;
+    check_file(program, spilled.as_slice(), report)?;
+    check_scanned(program, spilled.as_slice(), report)
 }
 
 // By linear scan.
 fn check_scanned(
-    case: &Case,
-    texts: &[&[u8]],
-    words: &[&[u8]],
+    program: &Program<'_>,
     spilled: &[u8],
     report: &mut Report,
 ) -> Result<(), AllocError> {
+    let case = program.case;
     let mut allocator = Watched::new(report.alloc);
-    let compiled = compile_with(report.alloc, texts, &mut allocator)?;
-    check_scanned_file(case, &compiled, words, spilled, report)?;
-    let functions = functions_of(report.alloc, texts)?;
+    let file = file_by("compile", program.texts, &mut allocator, report)?;
+    let differs = spilled != file.as_slice();
+    report.holds("bytes differ", differs || !case.marks.differs)?;
+    check_file(program, file.as_slice(), report)?;
+    let functions = functions_of(report.alloc, program.texts)?;
     check_watched(case, &allocator, functions, report)
-}
-
-fn check_scanned_file(
-    case: &Case,
-    compiled: &Compiled,
-    words: &[&[u8]],
-    spilled: &[u8],
-    report: &mut Report,
-) -> Result<(), AllocError> {
-    match compiled {
-        Compiled::File(file) => {
-            let differs = spilled != file.as_slice();
-            report.holds("bytes differ", differs || !case.marks.differs)?;
-            check_file(case, file.as_slice(), words, report)
-        }
-        Compiled::Refused(why) => report.fail("compile", "a file", why.as_str()),
-    }
 }
 
 // Linear scan is asked for each function, and once more where the function doesn't fit with calls in place; each time its answer is accepted.
@@ -211,10 +157,8 @@ fn check_watched(
     functions: u64,
     report: &mut Report,
 ) -> Result<(), AllocError> {
-    report.holds(
-        "each certificate is accepted",
-        allocator.accepted == allocator.asked,
-    )?;
+    let asked = allocator.asked;
+    report.holds("each certificate is accepted", allocator.accepted == asked)?;
     report.holds(
         "a value is moved",
         0 < allocator.moves || !case.marks.is_cut,
@@ -223,10 +167,8 @@ fn check_watched(
         "registers are named",
         allocator.named >= case.bounds.registers,
     )?;
-    report.holds(
-        "once or twice for each function",
-        functions <= allocator.asked && allocator.asked <= functions.saturating_mul(2),
-    )
+    let is_asked = functions <= asked && asked <= functions.saturating_mul(2);
+    report.holds("once or twice for each function", is_asked)
 }
 
 // The status and the line of a run that ended so.
@@ -247,40 +189,30 @@ fn check_done(case: &Case, what: &str, done: &Done, report: &mut Report) -> Resu
     let wanted = line_of(report.alloc, case.wanted.end.as_str())?;
     let line = done.line(report.alloc)?;
     report.compare(what, wanted.as_str(), line.as_str())?;
-    report.holds(
-        what,
-        done.output.as_slice() == case.wanted.output.as_slice(),
-    )
+    let is_put_out = done.output.as_slice() == case.wanted.output.as_slice();
+    report.holds(what, is_put_out)
 }
 
 fn check_commands(case: &Case, report: &mut Report) -> Result<(), AllocError> {
     let mut disk = BrokenDisk::new(report.alloc);
-    check_on(case, &mut disk, report)
-}
-
-fn check_on(case: &Case, disk: &mut BrokenDisk, report: &mut Report) -> Result<(), AllocError> {
-    let alloc = report.alloc;
     for (number, text) in case.texts.iter().enumerate() {
-        store_text(alloc, disk, number, text.as_slice())?;
+        let path = format!(in report.alloc; "text{number}")?;
+        disk.store(path.as_str(), text.as_slice())?;
     }
     if case.texts.len() > 0 {
-        check_build(case, disk, report)?;
+        check_build(case, &mut disk, report)?;
     }
     if case.texts.len() == 1 {
-        let turns = case.turns_given();
-        check_words(case, disk, "interp", turns, "text0", report)?;
+        check_words(
+            case,
+            &mut disk,
+            "interp",
+            case.turns_given(),
+            "text0",
+            report,
+        )?;
     }
     Ok(())
-}
-
-fn store_text(
-    alloc: Global,
-    disk: &mut BrokenDisk,
-    number: usize,
-    text: &[u8],
-) -> Result<(), AllocError> {
-    let path = format!(in alloc; "text{number}")?;
-    disk.store(path.as_str(), text)
 }
 
 // `interp` or `run` of a file, with the case's words.
@@ -305,10 +237,10 @@ fn said_of(
     alloc: Global,
 ) -> Result<Done, AllocError> {
     let limit = format!(in alloc; "{limit}")?;
-    run_words(case, disk, verb, limit.as_str(), path, alloc)
+    said_within(case, disk, verb, limit.as_str(), path, alloc)
 }
 
-fn run_words<'x>(
+fn said_within<'x>(
     case: &'x Case,
     disk: &mut BrokenDisk,
     verb: &'x str,
@@ -324,16 +256,6 @@ fn run_words<'x>(
     perform(alloc, disk, words.as_slice())
 }
 
-fn additions_in(code: &str) -> usize {
-    let mut count = 0usize;
-    for line in code.lines() {
-        if line.contains("  add") {
-            count = count.saturating_add(1);
-        }
-    }
-    count
-}
-
 // The additions of a long loop stand in the code, and in no table that it builds on the stack.
 fn check_additions(
     case: &Case,
@@ -344,23 +266,19 @@ fn check_additions(
         return Ok(());
     }
     let shown = perform_words(report.alloc, disk, "dis out")?;
-    let count = additions_in(str::from_utf8(shown.output.as_slice()).unwrap_or(""));
+    let code = str::from_utf8(shown.output.as_slice()).unwrap_or("");
+    let count = code.lines().filter(|line| line.contains("  add")).count();
     report.holds("instructions that add", count >= case.bounds.additions)
 }
 
-// The words that build a program of so many texts.
-fn build_words(alloc: Global, texts: usize) -> Result<String, AllocError> {
+// Builds the case's texts.
+fn build(case: &Case, disk: &mut BrokenDisk, alloc: Global) -> Result<Done, AllocError> {
     let mut words = TextMaker::new(alloc);
     words.add("build -o out");
-    for number in 0..texts {
-        words.add_with_numbers(" text#", &[number as u64]);
+    for number in 0..case.texts.len() {
+        say!(words; " text{number}");
     }
-    words.finish()
-}
-
-fn build(case: &Case, disk: &mut BrokenDisk, alloc: Global) -> Result<Done, AllocError> {
-    let words = build_words(alloc, case.texts.len())?;
-    perform_words(alloc, disk, words.as_str())
+    perform_words(alloc, disk, words.finish()?.as_str())
 }
 
 fn check_built(case: &Case, built: &Done, report: &mut Report) -> Result<(), AllocError> {
@@ -393,10 +311,8 @@ fn compare_stops(wanted: &Told, said: &Done, report: &mut Report) -> Result<(), 
     if !is_stop(end) || !tells_stop(report.alloc, end, line.as_str())? {
         report.fail("run", end, line.as_str())?;
     }
-    report.holds(
-        "output of run",
-        said.output.as_slice() == wanted.output.as_slice(),
-    )
+    let is_put_out = said.output.as_slice() == wanted.output.as_slice();
+    report.holds("output of run", is_put_out)
 }
 
 // What a program puts out before it has no meaning any more, `run` puts out first; it ends as the machine does, whatever that is.

@@ -1,9 +1,10 @@
 //! Random programs: interpreted, and compiled with several strategies and run over both kinds of memory within their price.
-use crate::compiled::{Compiled, compile_with, ran};
+use crate::compiled::{file_by, ran};
 use crate::interpreted::interpreted;
 use crate::strategies::{Answer, Fixed};
 use crate::texts::random_text::random_text;
 use crate::texts::small_functions::small_functions;
+use crate::told::begin;
 use crate::watched::Watched;
 use regalloc::spill_all::SpillAll;
 use regalloc::strategy::Strategy;
@@ -50,22 +51,6 @@ struct Program<'p> {
     limit: u64,
 }
 
-// The file by this strategy; it is empty where there is none.
-fn compiled(
-    what: &str,
-    text: &[u8],
-    allocator: &mut dyn Strategy,
-    report: &mut Report,
-) -> Result<Vec<u8>, AllocError> {
-    match compile_with(report.alloc, &[text], allocator)? {
-        Compiled::File(file) => Ok(file),
-        Compiled::Refused(why) => {
-            report.fail(what, "a file", why.as_str())?;
-            Ok(Vec::new(report.alloc))
-        }
-    }
-}
-
 fn check_run<R: Ram>(
     what: &str,
     file: &[u8],
@@ -82,81 +67,52 @@ fn check_strategy(
     program: &Program<'_>,
     report: &mut Report,
 ) -> Result<(), AllocError> {
-    let file = compiled(what, program.text, allocator, report)?;
+    let file = file_by(what, &[program.text], allocator, report)?;
     check_run::<PageRam>(what, file.as_slice(), program, report)
 }
 
 // By linear scan, over both kinds of memory.
 fn check_scan(program: &Program<'_>, report: &mut Report) -> Result<(), AllocError> {
     let mut scan = Watched::new(report.alloc);
-    let file = compiled("linear scan", program.text, &mut scan, report)?;
+    let file = file_by("linear scan", &[program.text], &mut scan, report)?;
     report.holds("each certificate is accepted", scan.accepted == scan.asked)?;
-    check_scan_file(file.as_slice(), program, report)
-}
-
-fn check_scan_file(
-    file: &[u8],
-    program: &Program<'_>,
-    report: &mut Report,
-) -> Result<(), AllocError> {
-    check_run::<PageRam>("linear scan", file, program, report)?;
-    check_run::<FlatRam>("linear scan over flat memory", file, program, report)
-}
-
-fn check_answer(
-    what: &str,
-    answer: Answer,
-    program: &Program<'_>,
-    report: &mut Report,
-) -> Result<(), AllocError> {
-    let mut allocator = Fixed::new(report.alloc, answer);
-    check_strategy(what, &mut allocator, program, report)
+    check_run::<PageRam>("linear scan", file.as_slice(), program, report)?;
+    check_run::<FlatRam>(
+        "linear scan over flat memory",
+        file.as_slice(),
+        program,
+        report,
+    )
 }
 
 fn check_program(program: &Program<'_>, report: &mut Report) -> Result<(), AllocError> {
-    check_strategy("slots", &mut SpillAll::new(report.alloc), program, report)?;
+    let alloc = report.alloc;
+    check_strategy("slots", &mut SpillAll::new(alloc), program, report)?;
     check_scan(program, report)?;
-    check_answer("second time", Answer::EverySecondTime, program, report)?;
-    check_answer("one in x5", Answer::OneInX5(2), program, report)
+    let mut second_time = Fixed::new(alloc, Answer::EverySecondTime);
+    check_strategy("second time", &mut second_time, program, report)?;
+    let mut one_in_x5 = Fixed::new(alloc, Answer::OneInX5(2));
+    check_strategy("one in x5", &mut one_in_x5, program, report)
 }
 
-fn check_wanted(text: &[u8], wanted: &Told, report: &mut Report) -> Result<(), AllocError> {
+fn check_text(text: &[u8], report: &mut Report) -> Result<(), AllocError> {
+    let wanted = interpreted(report.alloc, &[text], &[], PLENTY)?;
     report.holds("it exits", wanted.end.as_str().starts_with("exit "))?;
     let limit = most_price(turns_of(report.alloc, text)?);
     let program = Program {
         text,
-        wanted,
+        wanted: &wanted,
         limit,
     };
     check_program(&program, report)
 }
 
-fn check_text(text: &[u8], report: &mut Report) -> Result<(), AllocError> {
-    let wanted = interpreted(report.alloc, &[text], &[], PLENTY)?;
-    check_wanted(text, &wanted, report)
-}
-
-fn begin(what: &str, seed: u64, report: &mut Report) -> Result<(), AllocError> {
-    let title = format!(in report.alloc; "{what} of seed {seed}")?;
-    report.begin(title.as_str())
-}
-
-fn check_seed(seed: u64, report: &mut Report) -> Result<(), AllocError> {
-    begin("random program", seed, report)?;
-    let text = random_text(report.alloc, seed)?;
-    check_text(text.as_bytes(), report)
-}
-
-fn check_small_seed(seed: u64, report: &mut Report) -> Result<(), AllocError> {
-    begin("small functions", seed, report)?;
-    let text = small_functions(report.alloc, seed)?;
-    check_text(text.as_bytes(), report)
-}
-
 /// Checks so many random programs, from this seed on.
 pub fn check(count: u64, seed: u64, report: &mut Report) -> Result<(), AllocError> {
     for number in 0..count {
-        check_seed(seed.wrapping_add(number), report)?;
+        let seed = seed.wrapping_add(number);
+        begin(report, format_args!("random program of seed {seed}"))?;
+        check_text(random_text(report.alloc, seed)?.as_bytes(), report)?;
     }
     Ok(())
 }
@@ -164,7 +120,9 @@ pub fn check(count: u64, seed: u64, report: &mut Report) -> Result<(), AllocErro
 /// Checks so many random programs of many small functions, from this seed on.
 pub fn check_small(count: u64, seed: u64, report: &mut Report) -> Result<(), AllocError> {
     for number in 0..count {
-        check_small_seed(seed.wrapping_add(number), report)?;
+        let seed = seed.wrapping_add(number);
+        begin(report, format_args!("small functions of seed {seed}"))?;
+        check_text(small_functions(report.alloc, seed)?.as_bytes(), report)?;
     }
     Ok(())
 }

@@ -1,10 +1,12 @@
 //! Programs of 0 to 130 functions, argument words and texts, with ample memory: none is refused, whatever its size.
-use crate::compiled::{Compiled, compile_with, ran};
+use crate::compiled::{file_by, ran};
+use crate::told::begin;
 use regalloc::linear_scan::LinearScan;
 use rv_machine::page_ram::PageRam;
 use std::alloc::{AllocError, Global};
 use test_report::report::Report;
 use text_maker::maker::TextMaker;
+use text_maker::say;
 
 /// Of everything there are at most so many.
 const MOST: usize = 130;
@@ -20,8 +22,8 @@ fn functions(alloc: Global, count: usize) -> Result<String, AllocError> {
     let mut text = TextMaker::new(alloc);
     text.add("export function w $main() {\n@s\n");
     for next in 1..=count as u64 {
-        text.add_with_numbers("%r =w call $f#()\nret %r\n}\n", &[next]);
-        text.add_with_numbers("function w $f#() {\n@s\n", &[next]);
+        say!(text; "%r =w call $f{next}()\nret %r\n}}\n");
+        say!(text; "function w $f{next}() {{\n@s\n");
     }
     text.add("ret 7\n}\n");
     text.finish()
@@ -30,68 +32,36 @@ fn functions(alloc: Global, count: usize) -> Result<String, AllocError> {
 /// A text of one function of its own, whose name others have too.
 const PRIVATE: &str = "function w $f() {\n@s\nret 3\n}\n";
 
-/// The exit status of a file with these words, as the report has it.
-fn check_file(
-    what: &str,
-    file: &[u8],
-    words: &[&[u8]],
-    wanted: usize,
-    report: &mut Report,
-) -> Result<(), AllocError> {
-    let said = ran::<PageRam>(report.alloc, file, words, INSTRUCTIONS)?;
-    let wanted = format!(in report.alloc; "exit {wanted}")?;
-    report.compare(what, wanted.as_str(), said.end.as_str())
-}
-
+/// Checks that the program of the texts exits with a number.
 fn check_texts(
-    what: &str,
     texts: &[&[u8]],
     words: &[&[u8]],
     wanted: usize,
     report: &mut Report,
 ) -> Result<(), AllocError> {
-    let mut allocator = LinearScan::new(report.alloc);
-    let compiled = compile_with(report.alloc, texts, &mut allocator)?;
-    match &compiled {
-        Compiled::File(file) => check_file(what, file.as_slice(), words, wanted, report),
-        Compiled::Refused(why) => report.fail(what, "a file", why.as_str()),
-    }
-}
-
-fn begin(count: usize, what: &str, report: &mut Report) -> Result<(), AllocError> {
-    let title = format!(in report.alloc; "{count} {what}")?;
-    report.begin(title.as_str())
+    let file = file_by("compile", texts, &mut LinearScan::new(report.alloc), report)?;
+    let said = ran::<PageRam>(report.alloc, file.as_slice(), words, INSTRUCTIONS)?;
+    let wanted = format!(in report.alloc; "exit {wanted}")?;
+    report.compare("run", wanted.as_str(), said.end.as_str())
 }
 
 fn check_functions(count: usize, report: &mut Report) -> Result<(), AllocError> {
-    begin(count, "functions", report)?;
+    begin(report, format_args!("{count} functions"))?;
     let text = functions(report.alloc, count)?;
-    check_texts("functions", &[text.as_bytes()], &[], 7, report)
+    check_texts(&[text.as_bytes()], &[], 7, report)
 }
 
 fn check_words(count: usize, report: &mut Report) -> Result<(), AllocError> {
-    begin(count, "words", report)?;
-    let mut words: Vec<&[u8]> = Vec::new(report.alloc);
-    for _ in 0..count {
-        words.push("word".as_bytes())?;
-    }
-    check_texts(
-        "words",
-        &[COUNTS.as_bytes()],
-        words.as_slice(),
-        count,
-        report,
-    )
+    begin(report, format_args!("{count} words"))?;
+    let words = vec![in report.alloc; "word".as_bytes(); count]?;
+    check_texts(&[COUNTS.as_bytes()], words.as_slice(), count, report)
 }
 
 fn check_many_texts(count: usize, report: &mut Report) -> Result<(), AllocError> {
-    begin(count, "texts beside main", report)?;
-    let mut texts: Vec<&[u8]> = Vec::new(report.alloc);
-    for _ in 0..count {
-        texts.push(PRIVATE.as_bytes())?;
-    }
+    begin(report, format_args!("{count} texts beside main"))?;
+    let mut texts = vec![in report.alloc; PRIVATE.as_bytes(); count]?;
     texts.push(COUNTS.as_bytes())?;
-    check_texts("texts", texts.as_slice(), &[], 0, report)
+    check_texts(texts.as_slice(), &[], 0, report)
 }
 
 /// Checks a program of each size.

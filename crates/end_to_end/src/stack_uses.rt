@@ -20,10 +20,7 @@ fn needs_of(alloc: Global, linked: &Linked<'_>) -> Result<Vec<u64>, AllocError> 
 }
 
 fn need_at(needs: &[u64], place: Option<Place>) -> u64 {
-    match place {
-        Some(place) => needs.get(place.function).copied().unwrap_or(0),
-        None => 0,
-    }
+    place.map_or(0, |place| needs.get(place.function).copied().unwrap_or(0))
 }
 
 /// What the activations need that are there.
@@ -59,9 +56,8 @@ fn greatest_of(alloc: Global, linked: &Linked<'_>) -> Result<u64, AllocError> {
 
 /// The greatest use of the stack in the first turns of a run without argument words, in bytes: 0 where the texts are no program.
 pub fn greatest_use(alloc: Global, texts: &[&[u8]]) -> Result<u64, AllocError> {
-    let checked = match checked_texts(alloc, texts) {
-        Ok(checked) => checked,
-        Err(_) => return Ok(0),
+    let Ok(checked) = checked_texts(alloc, texts) else {
+        return Ok(0);
     };
     match resolve(alloc, checked.as_slice()) {
         Ok(linked) => greatest_of(alloc, &linked),
@@ -73,8 +69,5 @@ pub fn greatest_use(alloc: Global, texts: &[&[u8]]) -> Result<u64, AllocError> {
 pub fn bound_shown(output: &str) -> Option<u64> {
     let (_, last) = output.split_once("\nat most ")?;
     let (bytes, _) = last.split_once(' ')?;
-    match bytes.parse::<u64>() {
-        Ok(bytes) => Some(bytes),
-        Err(_) => None,
-    }
+    bytes.parse::<u64>().ok()
 }

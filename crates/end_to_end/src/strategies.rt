@@ -18,7 +18,7 @@ pub enum List {
 }
 
 /// What is done to a list.
-#[derive(Clone, Copy, Debug)]
+#[derive(Clone, Copy, Debug, PartialEq, Eq)]
 pub enum Cut {
     Shorter,
     Longer,
@@ -35,9 +35,7 @@ pub enum Answer {
     /// this place for each register
     Everywhere(Location),
     /// the right slots, but for one register too few, or too many
-    Slots {
-        more: bool,
-    },
+    Slots { more: bool },
     /// the right slots, with one of the certificate's lists cut
     OneList(List, Cut),
     /// a slot for each register, but where it is read another than where it was written
@@ -51,17 +49,11 @@ pub enum Answer {
     /// x5 to x27, in turn by the register's number
     InTurn,
     /// x10 to x17 for the first eight registers, each so many further round than where a parameter of that number comes in, and slots for the others
-    Turned {
-        by: u32,
-    },
+    Turned { by: u32 },
     /// x17 to x10 for them
     Backward,
     /// the right slots, with so many moves from place to place before each point
-    Moves {
-        from: Location,
-        to: Location,
-        count: u32,
-    },
+    Moves(Location, Location, u32),
 }
 
 /// Answers that.
@@ -86,38 +78,20 @@ impl Fixed {
 fn place(answer: Answer, register: u32) -> Location {
     match answer {
         Answer::Everywhere(place) => place,
-        Answer::OneInX5(one) => {
-            if register == one {
-                Location::Register(5)
-            } else {
-                Location::Slot(register)
-            }
-        }
+        Answer::OneInX5(one) if register == one => Location::Register(5),
         Answer::InTurn => Location::Register((register % 23) as u8 + 5),
-        Answer::Turned { by } => {
-            if register < 8 {
-                Location::Register((register.wrapping_add(by) % 8) as u8 + 10)
-            } else {
-                Location::Slot(register)
-            }
+        Answer::Turned { by } if register < 8 => {
+            Location::Register((register.wrapping_add(by) % 8) as u8 + 10)
         }
-        Answer::Backward => {
-            if register < 8 {
-                Location::Register(17 - register as u8)
-            } else {
-                Location::Slot(register)
-            }
-        }
+        Answer::Backward if register < 8 => Location::Register(17 - register as u8),
         _ => Location::Slot(register),
     }
 }
 
 fn list_of(alloc: Global, answer: Answer, length: u32) -> Result<Vec<Location>, AllocError> {
-    let mut list = Vec::new(alloc);
-    for register in 0..length {
-        list.push(place(answer, register))?;
-    }
-    Ok(list)
+    (0..length)
+        .map(|register| place(answer, register))
+        .collect(alloc)
 }
 
 // Slots from 1 on, round to 0.
@@ -148,25 +122,6 @@ fn left(cut: Cut, length: usize) -> usize {
     }
 }
 
-fn is_longer(cut: Cut) -> bool {
-    match cut {
-        Cut::Longer => true,
-        Cut::Shorter | Cut::Empty => false,
-    }
-}
-
-fn push_lists<T: Copy + Drop>(
-    alloc: Global,
-    all: &mut Seq<Seq<T>>,
-    lists: &[Seq<T>],
-    count: usize,
-) -> Result<(), AllocError> {
-    for list in lists.iter().take(count) {
-        all.push(list.try_clone(alloc)?)?;
-    }
-    Ok(())
-}
-
 // The first of these lists, and one more without an item where that is asked for.
 fn cut_lists<T: Copy + Drop>(
     alloc: Global,
@@ -174,8 +129,10 @@ fn cut_lists<T: Copy + Drop>(
     cut: Cut,
 ) -> Result<Seq<Seq<T>>, AllocError> {
     let mut all = Seq::new(alloc);
-    push_lists(alloc, &mut all, lists, left(cut, lists.len()))?;
-    if is_longer(cut) {
+    for list in lists.iter().take(left(cut, lists.len())) {
+        all.push(list.try_clone(alloc)?)?;
+    }
+    if cut == Cut::Longer {
         all.push(Seq::new(alloc))?;
     }
     Ok(all)
@@ -186,7 +143,7 @@ fn cut_places(alloc: Global, places: &[Location], cut: Cut) -> Result<Seq<Locati
     for place in places.iter().take(left(cut, places.len())) {
         all.push(*place)?;
     }
-    if is_longer(cut) {
+    if cut == Cut::Longer {
         all.push(Location::Slot(0))?;
     }
     Ok(all)
@@ -244,57 +201,31 @@ fn length(answer: Answer, registers: u32) -> u32 {
     }
 }
 
-// The certificate of the answer's list.
-fn listed(
-    alloc: Global,
-    answer: Answer,
-    function: &VFunc,
-    live: &Live,
-) -> Result<Certificate, AllocError> {
-    let list = list_of(alloc, answer, length(answer, function.registers))?;
-    certificate_of(alloc, function, live, &list)
-}
-
-fn of_other_slots(alloc: Global, function: &VFunc, live: &Live) -> Result<Certificate, AllocError> {
-    let list = other_slots(alloc, function.registers)?;
-    certificate_of(alloc, function, live, &list)
-}
-
-// Has what the other certificate says of points.
-fn take_points(certificate: &mut Certificate, other: Certificate) {
-    certificate.moves = other.moves;
-    certificate.places = other.places;
-}
-
-// Does to the certificate of the answer's list what the answer asks for.
-fn change(
-    alloc: Global,
-    certificate: &mut Certificate,
-    answer: Answer,
-    function: &VFunc,
-    live: &Live,
-) -> Result<(), AllocError> {
-    match answer {
-        Answer::Blank => *certificate = blank(alloc),
-        Answer::OneList(list, cut) => cut_list(alloc, certificate, list, cut)?,
-        Answer::OtherSlots => take_points(certificate, of_other_slots(alloc, function, live)?),
-        Answer::Moves { from, to, count } => {
-            let points = certificate.moves.len();
-            certificate.moves = all_moves(alloc, Transfer { from, to }, count, points)?
-        }
-        _ => {}
-    }
-    Ok(())
-}
-
+// The certificate of the answer's list, with what the answer asks for done to it.
 fn certificate(
     alloc: Global,
     answer: Answer,
     function: &VFunc,
     live: &Live,
 ) -> Result<Certificate, AllocError> {
-    let mut certificate = listed(alloc, answer, function, live)?;
-    change(alloc, &mut certificate, answer, function, live)?;
+    let registers = function.registers;
+    let list = list_of(alloc, answer, length(answer, registers))?;
+    let mut certificate = certificate_of(alloc, function, live, &list)?;
+    match answer {
+        Answer::Blank => certificate = blank(alloc),
+        Answer::OneList(list, cut) => cut_list(alloc, &mut certificate, list, cut)?,
+        Answer::OtherSlots => {
+            let list = other_slots(alloc, registers)?;
+            let other = certificate_of(alloc, function, live, &list)?;
+            certificate.moves = other.moves;
+            certificate.places = other.places;
+        }
+        Answer::Moves(from, to, count) => {
+            let points = certificate.moves.len();
+            certificate.moves = all_moves(alloc, Transfer { from, to }, count, points)?
+        }
+        _ => {}
+    }
     Ok(certificate)
 }
 

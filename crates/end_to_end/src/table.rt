@@ -20,7 +20,7 @@ use crate::case::{Bounds, Case, Marks};
 use crate::texts::made::push_made;
 use std::alloc::{AllocError, Global};
 use std::rt::Files;
-use std::{fs, io};
+use std::{fs, io, str};
 
 /// What the next lines are.
 #[derive(Clone, Copy, PartialEq, Eq)]
@@ -68,19 +68,12 @@ impl CaseTable {
             }
             "file" => {
                 let bytes = fs::read(rt, rest)?;
-                self.push_text(bytes)?
+                self.end(Lines::Text, bytes)?
             }
             "text" => self.begin(Lines::Text, "")?,
             "main" => self.begin(Lines::Main, "export function w $main() {\n@s\n")?,
             "prints" => self.begin(Lines::Printed, "")?,
             _ => self.take_key(key, rest)?,
-        }
-        Ok(())
-    }
-
-    fn push_text(&mut self, text: Vec<u8>) -> Result<(), AllocError> {
-        if let Some(case) = self.cases.last_mut() {
-            case.texts.push(text)?;
         }
         Ok(())
     }
@@ -106,17 +99,18 @@ impl CaseTable {
             self.block.push_str("}\n")?;
         }
         let bytes = self.block.as_bytes().to_vec(self.alloc)?;
-        if lines == Lines::Printed {
-            self.set_output(bytes);
-            return Ok(());
-        }
-        self.push_text(bytes)
+        self.end(lines, bytes)
     }
 
-    fn set_output(&mut self, bytes: Vec<u8>) {
+    /// The last case has these bytes as its output, or as another text.
+    fn end(&mut self, lines: Lines, bytes: Vec<u8>) -> Result<(), AllocError> {
         if let Some(case) = self.cases.last_mut() {
-            case.wanted.output = bytes;
+            match lines {
+                Lines::Printed => case.wanted.output = bytes,
+                _ => case.texts.push(bytes)?,
+            }
         }
+        Ok(())
     }
 
     fn take_key(&mut self, key: &str, rest: &str) -> Result<(), AllocError> {
@@ -197,7 +191,10 @@ fn take_words(
             let (count, word) = rest.split_once(' ').unwrap_or(("0", rest));
             push_many(alloc, words, number(count), word)
         }
-        "long" => push_long(alloc, words, number(rest)),
+        "long" => {
+            let word = "p".repeat(alloc, number(rest) as usize)?;
+            push_many(alloc, words, 1, word.as_str())
+        }
         _ => push_many(alloc, words, 1, "a\0b"),
     }
 }
@@ -221,34 +218,12 @@ fn push_many(
     Ok(())
 }
 
-fn push_long(alloc: Global, words: &mut Vec<String>, length: u64) -> Result<(), AllocError> {
-    let mut word = String::new(alloc);
-    for _ in 0..length {
-        word.push('p')?;
-    }
-    words.push(word)?;
-    Ok(())
-}
-
-fn digit(byte: u8) -> u8 {
-    match byte {
-        b'0'..=b'9' => byte - b'0',
-        b'a'..=b'f' => byte - b'a' + 10,
-        _ => 0,
-    }
-}
-
-// The bytes that hexadecimal digits stand for.
+// The bytes that pairs of hexadecimal digits stand for.
 pub fn bytes_of(alloc: Global, digits: &str) -> Result<Vec<u8>, AllocError> {
     let mut bytes = Vec::new(alloc);
-    let text = digits.as_bytes();
-    for (number, high) in text.iter().enumerate() {
-        if number % 2 == 0 {
-            match text.get(number.saturating_add(1)) {
-                Some(low) => bytes.push(digit(*high).wrapping_mul(16).wrapping_add(digit(*low)))?,
-                None => return Ok(bytes),
-            }
-        }
+    for pair in digits.as_bytes().chunks(2) {
+        let pair = str::from_utf8(pair).unwrap_or("");
+        bytes.push(u8::from_str_radix(pair, 16).unwrap_or(0))?;
     }
     Ok(bytes)
 }

@@ -2,6 +2,8 @@
 use il_ast::value::End;
 use rv_machine::stop::Stop;
 use std::alloc::{AllocError, Global};
+use std::fmt::Display;
+use test_report::report::Report;
 
 /// How a run of the interpreter ended.
 pub fn end_told(alloc: Global, end: End) -> Result<String, AllocError> {
@@ -31,4 +33,10 @@ pub fn stop_told(alloc: Global, stop: Stop) -> Result<String, AllocError> {
         Stop::Memory => String::from_str(alloc, "memory"),
         Stop::Fault(_, _) => String::from_str(alloc, "fault"),
     }
+}
+
+/// The checks from here on belong to the case of this title.
+pub fn begin<T: Display + Drop>(report: &mut Report, title: T) -> Result<(), AllocError> {
+    let title = format!(in report.alloc; "{title}")?;
+    report.begin(title.as_str())
 }

@@ -1,7 +1,7 @@
 //! Linear scan, watched.
 use alloc_check::accept::accept;
 use cfg_live::sets::Live;
-use regalloc::certificate::{Certificate, Equality};
+use regalloc::certificate::Certificate;
 use regalloc::linear_scan::LinearScan;
 use regalloc::strategy::Strategy;
 use std::alloc::Global;
@@ -33,29 +33,22 @@ impl Watched {
 }
 
 fn move_count(certificate: &Certificate) -> u64 {
-    let mut count = 0u64;
-    for moves in certificate.moves.as_slice() {
-        count = count.saturating_add(moves.len() as u64);
-    }
-    count
-}
-
-fn named_in(places: &[Equality]) -> u64 {
-    let mut count = 0u64;
-    for equality in places {
-        if let Location::Register(_) = equality.place {
-            count = count.saturating_add(1);
-        }
-    }
-    count
+    let moves = certificate.moves.as_slice().iter();
+    moves.fold(
+        0,
+        |count: u64, moves| count.saturating_add(moves.len() as u64),
+    )
 }
 
 fn named_count(certificate: &Certificate) -> u64 {
-    let mut count = 0u64;
-    for places in certificate.places.as_slice() {
-        count = count.saturating_add(named_in(places.as_slice()));
-    }
-    count
+    let places = certificate
+        .places
+        .as_slice()
+        .iter()
+        .flat_map(|places| places.as_slice());
+    places
+        .filter(|is| matches!(is.place, Location::Register(_)))
+        .fold(0, |count: u64, _| count.saturating_add(1))
 }
 
 impl Strategy for Watched {

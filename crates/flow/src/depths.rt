@@ -39,10 +39,7 @@ struct Search {
 
 /// The block that the next way on leads to.
 fn next_of(blocks: &[Block<u32>], step: Step) -> Option<usize> {
-    match blocks.get(step.block) {
-        Some(block) => successor(&block.jump, step.tried),
-        None => None,
-    }
+    successor(&blocks.get(step.block)?.jump, step.tried)
 }
 
 fn mark(visits: &mut [Visit], block: usize, visit: Visit) {
@@ -88,27 +85,18 @@ fn search_on(search: &mut Search, blocks: &[Block<u32>]) -> Result<(), AllocErro
     }
 }
 
-/// Each block is entered and left once, and has at most two ways on.
-fn search_all(search: &mut Search, blocks: &[Block<u32>]) -> Result<(), AllocError> {
-    enter(search, 0)?;
-    for _ in 0..blocks.len().saturating_mul(3) {
-        search_on(search, blocks)?;
-    }
-    if 1 < search.back.len() {
-        search.back.sort()
-    } else {
-        Ok(())
-    }
-}
-
-/// The edges to blocks that lie on the way to their own beginning, in order.
+/// The edges to blocks that lie on the way to their own beginning, in order. Each block is entered and left once, and has at most two ways on.
 fn back_edges(alloc: Global, blocks: &[Block<u32>]) -> Result<Vec<Edge>, AllocError> {
     let mut search = Search {
         visits: vec![in alloc; Visit::New; blocks.len()]?,
         way: Vec::with_capacity(alloc, blocks.len())?,
         back: Vec::new(alloc),
     };
-    search_all(&mut search, blocks)?;
+    enter(&mut search, 0)?;
+    for _ in 0..blocks.len().saturating_mul(3) {
+        search_on(&mut search, blocks)?;
+    }
+    search.back.sort()?;
     Ok(search.back)
 }
 
@@ -121,19 +109,15 @@ struct Nest {
 
 /// Counts the loop with this head for the block, unless that was done.
 fn count(nests: &mut [Nest], block: usize, head: usize) -> bool {
-    match nests.get_mut(block) {
-        Some(nest) => {
-            if nest.head == Some(head) {
-                return false;
-            }
-            *nest = Nest {
-                depth: nest.depth.saturating_add(1),
-                head: Some(head),
-            };
-            true
-        }
-        None => false,
+    let Some(nest) = nests.get_mut(block) else {
+        return false;
+    };
+    let is_new = nest.head != Some(head);
+    if is_new {
+        nest.depth = nest.depth.saturating_add(1);
+        nest.head = Some(head);
     }
+    is_new
 }
 
 fn push_new(
@@ -173,28 +157,6 @@ fn count_loop(
 /// Where loops are so many and so large that finding their blocks would take far longer than the text, the rest is left uncounted.
 const STEPS_A_BLOCK: usize = 64;
 
-/// Counts the loops of these jumps back for their blocks.
-fn count_loops(
-    alloc: Global,
-    nests: &mut [Nest],
-    edges: &[Few<usize>],
-    back: &[Edge],
-) -> Result<(), AllocError> {
-    let mut steps = nests.len().saturating_mul(STEPS_A_BLOCK);
-    for edge in back {
-        steps = count_loop(alloc, nests, edges, *edge, steps)?;
-    }
-    Ok(())
-}
-
-fn listed_depths(alloc: Global, nests: &[Nest]) -> Result<Vec<u32>, AllocError> {
-    let mut depths = vec![in alloc; 0u32; nests.len()]?;
-    for (depth, nest) in depths.iter_mut().zip(nests) {
-        *depth = nest.depth;
-    }
-    Ok(depths)
-}
-
 /// In how many loops each block lies, of which these are the jumps back.
 fn count_depths(
     alloc: Global,
@@ -207,8 +169,11 @@ fn count_depths(
         head: None,
     };
     let mut nests = vec![in alloc; nest; blocks]?;
-    count_loops(alloc, nests.as_mut_slice(), edges, back)?;
-    listed_depths(alloc, nests.as_slice())
+    let mut steps = blocks.saturating_mul(STEPS_A_BLOCK);
+    for edge in back {
+        steps = count_loop(alloc, nests.as_mut_slice(), edges, *edge, steps)?;
+    }
+    nests.iter().map(|nest| nest.depth).collect(alloc)
 }
 
 /// In how many loops each block lies, where the lists of predecessors are there.

@@ -49,50 +49,38 @@ pub fn predecessors(alloc: Global, blocks: &[Block<u32>]) -> Result<Vec<Few<usiz
 
 /// The blocks that lead to this one, of lists for all.
 pub fn predecessors_of(predecessors: &[Few<usize>], block: usize) -> &[usize] {
-    match predecessors.get(block) {
-        Some(list) => list.as_slice(),
-        None => &[],
-    }
+    predecessors.get(block).map_or(&[], |list| list.as_slice())
 }
 
 /// Puts a block on the list of those that are to be looked at, unless it was found before.
 fn find(found: &mut [bool], due: &mut Vec<usize>, block: Option<usize>) -> Result<(), AllocError> {
-    let Some(block) = block else {
-        return Ok(());
-    };
-    match found.get_mut(block) {
-        Some(mark) if !*mark => {
-            *mark = true;
-            due.push(block)?;
-            Ok(())
-        }
-        _ => Ok(()),
-    }
-}
-
-/// Marks all blocks to which a way leads from the first. Each is looked at once.
-fn find_all(alloc: Global, found: &mut [bool], blocks: &[Block<u32>]) -> Result<(), AllocError> {
-    let mut due = Vec::with_capacity(alloc, blocks.len())?;
-    find(found, &mut due, Some(0))?;
-    for _ in 0..blocks.len() {
-        let Some(number) = due.pop() else {
-            return Ok(());
-        };
-        if let Some(block) = blocks.get(number) {
-            find(found, &mut due, successor(&block.jump, 0))?;
-            find(found, &mut due, successor(&block.jump, 1))?;
-        }
+    if let Some(block) = block
+        && let Some(mark) = found.get_mut(block)
+        && !*mark
+    {
+        *mark = true;
+        due.push(block)?;
     }
     Ok(())
 }
 
-/// For each block whether a way leads to it from the first. It takes time and memory as there are blocks.
+/// For each block whether a way leads to it from the first. Each is looked at once: it takes time and memory as there are blocks.
 ///
 /// # Errors
 ///
 /// Only where memory was refused.
 pub fn reachable(alloc: Global, blocks: &[Block<u32>]) -> Result<Vec<bool>, AllocError> {
     let mut found = vec![in alloc; false; blocks.len()]?;
-    find_all(alloc, found.as_mut_slice(), blocks)?;
+    let mut due = Vec::with_capacity(alloc, blocks.len())?;
+    find(found.as_mut_slice(), &mut due, Some(0))?;
+    for _ in 0..blocks.len() {
+        let Some(number) = due.pop() else {
+            break;
+        };
+        if let Some(block) = blocks.get(number) {
+            find(found.as_mut_slice(), &mut due, successor(&block.jump, 0))?;
+            find(found.as_mut_slice(), &mut due, successor(&block.jump, 1))?;
+        }
+    }
     Ok(found)
 }

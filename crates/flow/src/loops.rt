@@ -34,14 +34,12 @@ const ROW: usize = 16;
 
 /// Notes that the block is in the loop of that number; says whether that is new.
 fn find(found: &mut [usize], block: usize, number: usize) -> bool {
-    match found.get_mut(block) {
-        Some(last) => {
-            let is_new = *last != number;
-            *last = number;
-            is_new
-        }
-        None => false,
-    }
+    let Some(last) = found.get_mut(block) else {
+        return false;
+    };
+    let is_new = *last != number;
+    *last = number;
+    is_new
 }
 
 fn find_all(
@@ -65,16 +63,12 @@ fn find_members(
     number: usize,
 ) -> Result<bool, AllocError> {
     for next in 1..search.steps {
-        match blocks.get(next).copied() {
-            Some(block) => {
-                let predecessors = predecessors_of(search.predecessors.as_slice(), block);
-                find_all(search.found.as_mut_slice(), blocks, predecessors, number)?;
-            }
-            None => {
-                search.steps = search.steps.saturating_sub(next);
-                return Ok(true);
-            }
-        }
+        let Some(block) = blocks.get(next).copied() else {
+            search.steps = search.steps.saturating_sub(next);
+            return Ok(true);
+        };
+        let predecessors = predecessors_of(search.predecessors.as_slice(), block);
+        find_all(search.found.as_mut_slice(), blocks, predecessors, number)?;
     }
     search.steps = 0;
     Ok(false)
@@ -86,16 +80,16 @@ fn is_found(search: &Search, block: usize, number: usize) -> bool {
 
 /// The only block outside a loop that leads to its head.
 fn before(search: &Search, head: usize, number: usize) -> Option<usize> {
-    let mut before = None;
-    for source in predecessors_of(search.predecessors.as_slice(), head) {
-        if !is_found(search, *source, number) {
-            if before.is_some() {
-                return None;
-            }
-            before = Some(*source);
-        }
+    let sources = predecessors_of(search.predecessors.as_slice(), head);
+    let mut outside = sources
+        .iter()
+        .filter(|source| !is_found(search, **source, number));
+    let before = outside.next()?;
+    if outside.next().is_none() {
+        Some(*before)
+    } else {
+        None
     }
-    before
 }
 
 /// The only block of the loop that leads to a block, if there is one.
@@ -193,6 +187,7 @@ fn complete(
     Ok(true)
 }
 
+/// Adds the loop of a jump back, if one block alone leads into it.
 fn push_loop(
     alloc: Global,
     search: &mut Search,
@@ -214,62 +209,16 @@ fn push_loop(
     Ok(())
 }
 
-fn push_back(
-    alloc: Global,
-    search: &mut Search,
-    code: &[Block<u32>],
-    loops: &mut Vec<Loop>,
-    from: usize,
-    to: Option<usize>,
-) -> Result<(), AllocError> {
-    match to {
-        Some(head) if head <= from && 0 < head => push_loop(alloc, search, code, loops, head, from),
-        _ => Ok(()),
-    }
-}
-
-fn push_loops(
-    alloc: Global,
-    search: &mut Search,
-    code: &[Block<u32>],
-    loops: &mut Vec<Loop>,
-) -> Result<(), AllocError> {
-    for (number, block) in code.iter().enumerate() {
-        for choice in 0..2usize {
-            let to = successor(&block.jump, choice);
-            push_back(alloc, search, code, loops, number, to)?;
-        }
-    }
-    Ok(())
-}
-
-/// No block is found yet.
-fn no_search(alloc: Global, blocks: &[Block<u32>]) -> Result<Search, AllocError> {
-    Ok(Search {
-        predecessors: predecessors(alloc, blocks)?,
-        found: vec![in alloc; 0usize; blocks.len()]?,
-        steps: blocks.len().saturating_mul(STEPS_A_BLOCK),
-    })
-}
-
 /// Whether the block of that number leads to itself or one before it.
 pub fn is_back(number: usize, to: Option<usize>) -> bool {
-    match to {
-        Some(to) => to <= number,
-        None => false,
-    }
+    to.is_some_and(|to| to <= number)
 }
 
 /// Whether some block does.
 fn leads_back(blocks: &[Block<u32>]) -> bool {
-    for (number, block) in blocks.iter().enumerate() {
-        if is_back(number, successor(&block.jump, 0))
-            || is_back(number, successor(&block.jump, 1))
-        {
-            return true;
-        }
-    }
-    false
+    blocks.iter().enumerate().any(|(number, block)| {
+        is_back(number, successor(&block.jump, 0)) || is_back(number, successor(&block.jump, 1))
+    })
 }
 
 /// Adds the loops that one block alone leads into.
@@ -285,8 +234,22 @@ pub fn find_loops(
     if !leads_back(blocks) {
         return Ok(());
     }
-    let mut search = no_search(alloc, blocks)?;
-    push_loops(alloc, &mut search, blocks, loops)
+    let mut search = Search {
+        predecessors: predecessors(alloc, blocks)?,
+        found: vec![in alloc; 0usize; blocks.len()]?,
+        steps: blocks.len().saturating_mul(STEPS_A_BLOCK),
+    };
+    for (number, block) in blocks.iter().enumerate() {
+        for to in [successor(&block.jump, 0), successor(&block.jump, 1)] {
+            if let Some(head) = to
+                && head <= number
+                && 0 < head
+            {
+                push_loop(alloc, &mut search, blocks, loops, head, number)?;
+            }
+        }
+    }
+    Ok(())
 }
 
 /// The numbers of the loops by their sizes, the largest first, each behind what it is sorted by.
@@ -295,10 +258,9 @@ pub fn find_loops(
 ///
 /// Only where memory was refused.
 pub fn largest_first(alloc: Global, loops: &[Loop]) -> Result<Vec<(usize, usize)>, AllocError> {
-    let mut order = Vec::with_capacity(alloc, loops.len())?;
-    for (number, nest) in loops.iter().enumerate() {
-        order.push((usize::MAX - nest.blocks.len(), number))?;
-    }
+    let sizes = loops.iter().enumerate();
+    let keys = sizes.map(|(number, nest)| (usize::MAX - nest.blocks.len(), number));
+    let mut order: Vec<(usize, usize)> = keys.collect(alloc)?;
     order.sort()?;
     Ok(order)
 }

@@ -11,13 +11,14 @@ use Rattle.il_ast.specs.declared.instruction.Lined.{Lined}
 use Rattle.il_ast.specs.declared.program.InText.{InText}
 use Rattle.il_ast.specs.declared.program.Program.{Program}
 use Rattle.il_ast.specs.declared.value.End.{End}
+use Rattle.il_ast.specs.declared.value.End.TheVariants.{Undefined}
 use Rattle.il_ast.specs.declared.value.Value.{Value}
 use Rattle.il_ast.specs.declared.value.Value.TheVariants.{Integer}
 use Rattle.il_ast.specs.Memory.{Memory}
 use Rattle.il_ast.specs.Effect.{phi_value, Env, phi_values, with_phis, place_of, enter, enter_place, enter_at, entered, effect, turn_of, turn_in, end_effect, jump_effect}
 use Rattle.il_interp.specs.declared.state.Frame.{Frame}
 use Rattle.il_interp.specs.declared.state.State.{State}
-use Rattle.il_interp.specs.Machine.{On, act_of, env_of, locals_of, react, stepped, turn_in_function, step, go_on, machine}
+use Rattle.il_interp.specs.Machine.{On, Over, act_of, env_of, locals_of, react, stepped, turn_in_function, step, go_on, machine}
 use Rattle.il_interp.specs.Pieces.{rest_of}
 use Rattle.il_interp.specs.Rows.{GoesOn, held}
 use Rattle.il_interp.specs.Hops.{Ends, Enters, GoesAlong, held_in, standing_in, standing_with}
@@ -49,17 +50,37 @@ enters_with p st k phis None temps h = absurd (let no : ⊥ = cc in no)
 enters_with p st k phis (Some vs) temps h =
     let same : with_phis st.frame.temps phis vs ≡ temps = cc in ap (λ ts. On (standing_in st (record st.frame { block = k; next = 0; temps = ts }))) same
 
+-- a label that leads to a block, whose phis take these values
+pub entering : (p : Program) (f : InText Func) (st : State) (from label k : ℕ) (b : Block) (phis : List Phi) (values : Option (List Value)) → place_of f.item.blocks label ≡ Some k
+    → slice_get f.item.blocks k ≡ Some b → phis ≡ b.phis → phi_values (env_of p f).globals st.frame.temps from phis ≡ values
+    → react p st (enter (env_of p f) from (locals_of st.frame) st.memory label) ≡ react p st (entered (locals_of st.frame) st.memory k phis values)
+entering p f st from label k b phis values hl hb hp hv =
+    let env = env_of p f in
+    let here = locals_of st.frame in
+    ap (λ o. react p st (enter_place env from here st.memory o)) hl
+    ∙ (ap (λ o. react p st (enter_at env from here st.memory k o)) hb
+    ∙ (ap (λ ps. react p st (entered here st.memory k ps (phi_values env.globals st.frame.temps from ps))) (sym hp)
+    ∙ ap (λ o. react p st (entered here st.memory k phis o)) hv))
+
+-- or to none
+pub entering_none : (p : Program) (f : InText Func) (st : State) (from label : ℕ) → option_and_then (λ (k : ℕ). slice_get f.item.blocks k) (place_of f.item.blocks label) ≡ None
+    → react p st (enter (env_of p f) from (locals_of st.frame) st.memory label) ≡ Over st.output Undefined
+entering_none p f st from label h = at (place_of f.item.blocks label) h
+  where
+    at : (o : Option ℕ) → option_and_then (λ (k : ℕ). slice_get f.item.blocks k) o ≡ None → react p st (enter_place (env_of p f) from (locals_of st.frame) st.memory o) ≡ Over st.output Undefined
+    at None h = refl
+    at (Some k) h = ap (λ o. react p st (enter_at (env_of p f) from (locals_of st.frame) st.memory k o)) h
+
 pub enters : (p : Program) (f : InText Func) (from label k : ℕ) (b : Block) (old : Frame) (temps : List (Option Value)) → place_of f.item.blocks label ≡ Some k → slice_get f.item.blocks k ≡ Some b
     → ((globals : List Value) → option_map (with_phis old.temps b.phis) (phi_values globals old.temps from b.phis) ≡ Some temps)
     → Enters p f from label old (record old { block = k; next = 0; temps = temps })
 enters p f from label k b old temps hl hb h st hs =
     let env = env_of p f in
-    ap (λ o. react p st (enter_place env from (locals_of old) st.memory o)) hl
-    ∙ (ap (λ o. react p st (enter_at env from (locals_of old) st.memory k o)) hb
-    ∙ (ap (λ (fr : Frame). react p st (entered (locals_of fr) st.memory k b.phis (phi_values env.globals fr.temps from b.phis))) (sym hs)
+    ap (λ (fr : Frame). react p st (enter env from (locals_of fr) st.memory label)) (sym hs)
+    ∙ (entering p f st from label k b b.phis (phi_values env.globals st.frame.temps from b.phis) hl hb refl refl
     ∙ (enters_with p st k b.phis (phi_values env.globals st.frame.temps from b.phis) temps
     (ap (λ (fr : Frame). option_map (with_phis fr.temps b.phis) (phi_values env.globals fr.temps from b.phis)) hs ∙ h env.globals)
-    ∙ ap (λ (fr : Frame). On (standing_in st (record fr { block = k; next = 0; temps = temps }))) hs)))
+    ∙ ap (λ (fr : Frame). On (standing_in st (record fr { block = k; next = 0; temps = temps }))) hs))
 
 pub ends : (p : Program) (f : InText Func) (b : Block) (j : Lined Jump) (label : ℕ) (old new : Frame) → b.jump ≡ Some j
     → ((env : Env) (from : ℕ) (owned : List ℕ) (m : Memory) → jump_effect env from (held_in old.temps owned) m j.item ≡ enter env from (held_in old.temps owned) m label)

@@ -88,10 +88,6 @@ one_further p text insts old cur new next at x le hx d inv f b st hf ht hb hi hh
     ap (λ k. machine p k st) count
     ∙ (inv f b st hf ht hb hi hh hn (suc n) ∙ ap (go_on (machine p n)) (turn_is p text insts at x cur new f b st hf ht hb hi hx d))
 
--- what changed nothing is left out
-pub the_same : (p : Program) (text : ℕ) (insts : List (Lined Inst)) (old cur new : Held) (next at : ℕ) → new ≡ cur → GoesOn p text insts old next cur at → GoesOn p text insts old next new at
-the_same p text insts old cur new next at e inv f b st hf ht hb hi hh hn n = inv f b st hf ht hb hi hh hn n ∙ ap (λ x. machine p n (further_on st at x)) (sym e)
-
 -- ---- one turn
 
 rests : (p : Program) (new : State) (end : Option End) (n : ℕ) → go_on (machine p n) (stepped new end) ≡ rest_of p new end n

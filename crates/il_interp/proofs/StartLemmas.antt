@@ -1,6 +1,5 @@
 -- Cells of the start memory, one further.
-use Rattle.std.proofs.Common.{◌≡◌, ℕ, zero, suc, ◌+◌, ◌-◌, ◌/◌, ◌%◌, ◌<◌, ◌≤◌, List, [], ◌∷◌, ◌++◌, map, take, refl, ap, sym, ◌∙◌, arith, append_assoc}
-use Rattle.std.proofs.lemmas.List.{append-nil}
+use Rattle.std.proofs.Common.{◌≡◌, ℕ, zero, suc, ◌+◌, ◌-◌, ◌/◌, ◌%◌, ◌<◌, List, [], ◌∷◌, ◌++◌, map, take, refl, ap, sym, ◌∙◌, arith, append_assoc}
 use Rattle.il_ast.specs.declared.value.Value.{Value}
 use Rattle.il_ast.specs.declared.value.Value.TheVariants.{Pointer}
 use Rattle.il_ast.specs.declared.value.Cell.{Cell}
@@ -39,17 +38,6 @@ number_next n i r block new whole lt inv nw =
     ap (λ xs. xs ++ map Plain (bytes_of (n - (i + 1)) (r / 256))) nw
     ∙ (append_assoc block (Plain (r % 256) ∷ []) (map Plain (bytes_of (n - (i + 1)) (r / 256)))
     ∙ (ap (λ k. block ++ map Plain (bytes_of k r)) (sym count) ∙ inv))
-
--- nothing is left
-pub number_end : (n i r : ℕ) (block whole : List Cell) → n ≤ i → block ++ map Plain (bytes_of (n - i) r) ≡ whole → block ≡ whole
-number_end n i r block whole le inv =
-    let none : n - i ≡ 0 = omega arith in
-    sym (append-nil block) ∙ (ap (λ k. block ++ map Plain (bytes_of k r)) (sym none) ∙ inv)
-
-pub pointers_end : (f n i : ℕ) (block whole : List Cell) → n ≤ i → block ++ pointers_from (f + i) (n - i) ≡ whole → block ≡ whole
-pointers_end f n i block whole le inv =
-    let none : n - i ≡ 0 = omega arith in
-    sym (append-nil block) ∙ (ap (λ k. block ++ pointers_from (f + i) k) (sym none) ∙ inv)
 
 pub three_parts : (a b c d o w l : Memory) → a ≡ [] → b ≡ a ++ o → c ≡ b ++ w → d ≡ c ++ l → d ≡ o ++ (w ++ l)
 three_parts a b c d o w l ae be ce de =

@@ -3,6 +3,7 @@ use Rattle.std.specs.Prelude.{◌≡◌, ℕ, ◌+◌, ◌-◌, ◌%◌, ◌^◌
 use Rattle.il_ast.specs.declared.operation.Class.{Class}
 use Rattle.il_ast.specs.declared.operation.Class.TheVariants.{W, L}
 use Rattle.il_ast.specs.declared.instruction.Inst.{Inst}
+use Rattle.il_ast.specs.declared.instruction.Inst.TheVariants.{Alloc, Blit, Call}
 use Rattle.il_ast.specs.declared.instruction.Lined.{Lined}
 use Rattle.il_ast.specs.declared.block.Block.{Block}
 use Rattle.il_ast.specs.declared.function.Func.{Func}
@@ -10,7 +11,7 @@ use Rattle.il_ast.specs.declared.program.InText.{InText}
 use Rattle.il_ast.specs.declared.program.Program.{Program}
 use Rattle.il_ast.specs.declared.value.Value.{Value}
 use Rattle.il_ast.specs.Memory.{Memory}
-use Rattle.il_ast.specs.Effect.{Done, inst_effect}
+use Rattle.il_ast.specs.Effect.{Done, Fails, inst_effect}
 use Rattle.il_interp.specs.declared.state.State.{State}
 use Rattle.il_interp.specs.Machine.{machine}
 
@@ -34,6 +35,21 @@ Does globals old inst new =
     (owned : List ℕ) →
     inst_effect globals (record { temps = old.temps; owned = owned }) old.memory inst
     ≡ Done 1 (record { temps = new.temps; owned = owned }) new.memory
+
+-- the instructions that are done in a row
+abbrev pub IsInRow : Inst → Type 0
+IsInRow (Alloc to alignment size) = ⊥
+IsInRow (Blit from to count) = ⊥
+IsInRow (Call to callee args) = ⊥
+IsInRow inst = Unit {0}
+
+-- with these values of global names, an instruction is undefined, or not one of these, and what
+-- was held stays
+abbrev pub Undone : (globals : List Value) → (old : Held) → Inst → (new : Held) → Type 0
+Undone globals old inst new =
+    (IsInRow inst → (owned : List ℕ) →
+    inst_effect globals (record { temps = old.temps; owned = owned }) old.memory inst ≡ Fails)
+    × (new ≡ old)
 
 -- the state, at another instruction of its block, with this held
 abbrev pub further_on : State → ℕ → Held → State

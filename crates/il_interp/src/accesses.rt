@@ -36,10 +36,8 @@ fn loaded(memory: &BlockMemory, op: UnaryOp, class: Class, block: u128, offset: 
     match op {
         UnaryOp::LoadLong => memory.load_number(block, offset, Size::Long),
         UnaryOp::Load(extension) => {
-            match memory.load_number(block, offset, extension_size(extension)) {
-                Some(number) => Some(extended(extension, class, number)),
-                None => None,
-            }
+            let number = memory.load_number(block, offset, extension_size(extension))?;
+            Some(extended(extension, class, number))
         }
         UnaryOp::Neg | UnaryOp::Copy | UnaryOp::Extend(_) => None,
     }
@@ -49,31 +47,25 @@ fn loaded(memory: &BlockMemory, op: UnaryOp, class: Class, block: u128, offset: 
 pub fn load(temps: &mut Slots, memory: &BlockMemory, to: &Dest, op: &UnaryOp, at: &Val) -> bool
     ensures { MatchBool result ((globals : List ValueOf) → Does globals (held temps.old memory.now) (Unary to.now op.now at.now) (held temps.new memory.now)) (temps.new ≡ temps.old) }
 {
-    match pointed(temps, at) {
-        Some((block, offset)) => match loaded(memory, *op, to.class, block, offset) {
-            Some(number) => {
-                temps.set_number(to.temp.number(), number);
-                true
-            }
-            None => false,
-        },
-        None => false,
+    if let Some((block, offset)) = pointed(temps, at)
+        && let Some(number) = loaded(memory, *op, to.class, block, offset)
+    {
+        temps.set_number(to.temp.number(), number);
+        return true;
     }
+    false
 }
 
 /// `store value, at`, where the value is an integer and the store is defined. Answers whether it was done.
 pub fn store(temps: &Slots, memory: &mut BlockMemory, size: &Size, value: &Val, at: &Val) -> bool
     ensures { MatchBool result ((globals : List ValueOf) → Does globals (held temps.now memory.old) (Store size.now value.now at.now) (held temps.now memory.new)) (memory.new ≡ memory.old) }
 {
-    match number_at(temps, value) {
-        Some(number) => match pointed(temps, at) {
-            Some((block, offset)) => {
-                memory.store_number(block, offset, *size, in_class(stored_class(*size), number))
-            }
-            None => false,
-        },
-        None => false,
+    if let Some(number) = number_at(temps, value)
+        && let Some((block, offset)) = pointed(temps, at)
+    {
+        return memory.store_number(block, offset, *size, in_class(stored_class(*size), number));
     }
+    false
 }
 
 /// `to = add left, right`, where `left` is a temporary that holds a pointer, and `right` an integer. Answers
@@ -81,17 +73,12 @@ pub fn store(temps: &Slots, memory: &mut BlockMemory, size: &Size, value: &Val, 
 pub fn add(temps: &mut Slots, to: &Dest, op: &BinaryOp, left: &Val, right: &Val) -> bool
     ensures { MatchBool result ((globals : List ValueOf) (m : Memory) → Does globals (held temps.old m) (Binary to.now op.now left.now right.now) (held temps.new m)) (temps.new ≡ temps.old) }
 {
-    match to.class {
-        Class::W => false,
-        Class::L => match op {
-            BinaryOp::Add => match left {
-                Val::Temp(base) => match number_at(temps, right) {
-                    Some(by) => temps.set_moved(to.temp.number(), base.number(), by),
-                    None => false,
-                },
-                Val::Int(_) | Val::Global(_) => false,
-            },
-            _ => false,
-        },
+    if let Class::L = to.class
+        && let BinaryOp::Add = op
+        && let Val::Temp(base) = left
+        && let Some(by) = number_at(temps, right)
+    {
+        return temps.set_moved(to.temp.number(), base.number(), by);
     }
+    false
 }

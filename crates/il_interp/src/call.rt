@@ -12,7 +12,7 @@ ghost use Rattle.il_ast.specs.Effect.{inst_effect};
 ghost use Rattle.il_ast.specs.Meaning.{same_classes, result_fits};
 ghost use Rattle.il_interp.specs.Prepared.{program_of};
 ghost use Rattle.il_interp.specs.Room.{LeavesRoom};
-ghost use Rattle.il_interp.specs.Machine.{locals_of, inst_next, stepped, call_of, entered, function_step, named_step};
+ghost use Rattle.il_interp.specs.Machine.{locals_of, inst_next, stepped, call_of, function_step, named_step};
 
 use crate::native::{exit, write};
 use crate::operand::{all_operands, function_at, operand};
@@ -58,12 +58,10 @@ fn classes_fit(args: &[Arg], classes: &[Class]) -> bool
 fn result_fits(to: &Option<Dest>, class: Option<Class>) -> bool
     ensures { result ≡ result_fits (option_map (λ (d : DestOf). d.class) to.now) class }
 {
-    match *to {
-        None => true,
-        Some(to) => match class {
-            None => false,
-            Some(class) => to.class == class,
-        },
+    match (*to, class) {
+        (None, _) => true,
+        (Some(to), Some(class)) => to.class == class,
+        (Some(_), None) => false,
     }
 }
 
@@ -170,13 +168,9 @@ fn call_function(
         Some(left) => left,
         None => return Ok(Some(End::Stack)),
     };
-    match first_frame(alloc, number, left, function, values) {
-        Ok(frame) => match push_frame(state, to, frame) {
-            Ok(()) => Ok(None),
-            Err(error) => Err(error),
-        },
-        Err(error) => Err(error),
-    }
+    let frame = first_frame(alloc, number, left, function, values)?;
+    push_frame(state, to, frame)?;
+    Ok(None)
 }
 
 /// A call of a function value, whose arguments are known.
@@ -195,22 +189,13 @@ fn call_named(
         Callee::Defined(number) => {
             call_function(alloc, prepared, state, to, number, args, values)
         }
-        Callee::SystemWrite => {
+        Callee::SystemWrite
             if classes_fit(args, &[Class::W, Class::L, Class::L])
-                && result_fits(to, Some(Class::L))
-            {
-                write(state, to, values)
-            } else {
-                Ok(Some(End::Undefined))
-            }
+                && result_fits(to, Some(Class::L)) => { write(state, to, values) }
+        Callee::SystemExit if classes_fit(args, &[Class::W]) && result_fits(to, None) => {
+            Ok(exit(state, to, values))
         }
-        Callee::SystemExit => {
-            if classes_fit(args, &[Class::W]) && result_fits(to, None) {
-                Ok(exit(state, to, values))
-            } else {
-                Ok(Some(End::Undefined))
-            }
-        }
+        Callee::SystemWrite | Callee::SystemExit => Ok(Some(End::Undefined)),
     }
 }
 
@@ -229,26 +214,20 @@ pub fn call(
     ensures { IfOk result (λ end. inst_next (program_of prepared.now) state.old (inst_effect (globals_of (program_of prepared.now) text) (locals_of state.old.frame) state.old.memory (Call to.now callee args.now)) ≡ stepped state.new end) }
 {
     let linked = prepared.linked;
-    let callee = match operand(linked, text, &state.frame.temps, Class::L, callee) {
-        Some(callee) => callee,
-        None => return Ok(Some(End::Undefined)),
-    };
-    match all_operands(alloc, linked, text, &state.frame.temps, args)? {
-        Some(values) => match callee {
-            Value::Function(function) => {
-                state.frame.next += 1;
-                call_named(
-                    alloc,
-                    prepared,
-                    state,
-                    to,
-                    function,
-                    args,
-                    values.as_slice(),
-                )
-            }
-            Value::Integer(_) | Value::Pointer { .. } => Ok(Some(End::Undefined)),
-        },
-        None => Ok(Some(End::Undefined)),
+    if let Some(callee) = operand(linked, text, &state.frame.temps, Class::L, callee)
+        && let Some(values) = all_operands(alloc, linked, text, &state.frame.temps, args)?
+        && let Value::Function(function) = callee
+    {
+        state.frame.next += 1;
+        return call_named(
+            alloc,
+            prepared,
+            state,
+            to,
+            function,
+            args,
+            values.as_slice(),
+        );
     }
+    Ok(Some(End::Undefined))
 }

@@ -1,6 +1,6 @@
 //! Where the arguments of phis stand.
 use il_ast::block::{Block, Phi};
-use il_ast::instruction::{Jump, Lined};
+use il_ast::instruction::Jump;
 use il_ast::label::Label;
 use il_ast::list::Seq;
 use std::alloc::{AllocError, Global};
@@ -25,55 +25,23 @@ fn no_edges(alloc: Global, blocks: usize) -> Result<Vec<Edges>, AllocError> {
 }
 
 /// Notes the place of an argument at the edges by which a jump leads to a label.
-fn push_to(
-    edges: &mut Edges,
-    jump: &Option<Lined<Jump>>,
-    label: Label,
-    place: usize,
-) -> Result<(), AllocError> {
-    let jump = match jump {
-        Some(jump) => jump.item,
-        None => return Ok(()),
-    };
-    match jump {
-        Jump::Goto(to) => {
-            if to.number() == label.number() {
-                edges.first.push(place)?;
-            }
-        }
+fn push_to(edges: &mut Edges, jump: Jump, label: Label, place: usize) -> Result<(), AllocError> {
+    let (first, second) = match jump {
+        Jump::Goto(to) => (to == label, false),
         Jump::Branch {
             nonzero,
             otherwise,
             ..
-        } => {
-            if nonzero.number() == label.number() {
-                edges.first.push(place)?;
-            }
-            if otherwise.number() == label.number() {
-                edges.second.push(place)?;
-            }
-        }
-        Jump::Return(_) => {}
-        Jump::Halt => {}
+        } => (nonzero == label, otherwise == label),
+        Jump::Return(_) | Jump::Halt => (false, false),
+    };
+    if first {
+        edges.first.push(place)?;
+    }
+    if second {
+        edges.second.push(place)?;
     }
     Ok(())
-}
-
-/// Notes the place of an argument at the edges from the block at `source`.
-fn push_from(
-    edges: &mut [Edges],
-    blocks: &[Block],
-    source: usize,
-    label: Label,
-    place: usize,
-) -> Result<(), AllocError> {
-    match blocks.get(source) {
-        Some(block) => match edges.get_mut(source) {
-            Some(edges) => push_to(edges, &block.jump, label, place),
-            None => Ok(()),
-        },
-        None => Ok(()),
-    }
 }
 
 /// Notes the places of a phi's arguments. `places` has where the block of each label stands.
@@ -85,23 +53,13 @@ fn push_phi(
     phi: &Phi,
 ) -> Result<(), AllocError> {
     for (place, arg) in phi.args.as_slice().iter().enumerate() {
-        match places.get(arg.from.number()) {
-            Some(Some(source)) => push_from(edges, blocks, *source, label, place)?,
-            Some(None) => {}
-            None => {}
+        if let Some(Some(source)) = places.get(arg.from.number())
+            && let Some(block) = blocks.get(*source)
+            && let Some(jump) = &block.jump
+            && let Some(edges) = edges.get_mut(*source)
+        {
+            push_to(edges, jump.item, label, place)?;
         }
-    }
-    Ok(())
-}
-
-fn push_phis(
-    edges: &mut [Edges],
-    blocks: &[Block],
-    places: &[Option<usize>],
-    block: &Block,
-) -> Result<(), AllocError> {
-    for phi in block.phis.as_slice() {
-        push_phi(edges, blocks, places, block.label, phi)?;
     }
     Ok(())
 }
@@ -115,7 +73,9 @@ pub fn edges_of(
 ) -> Result<Vec<Edges>, AllocError> {
     let mut edges = no_edges(alloc, blocks.len())?;
     for block in blocks {
-        push_phis(edges.as_mut_slice(), blocks, places, block)?;
+        for phi in block.phis.as_slice() {
+            push_phi(edges.as_mut_slice(), blocks, places, block.label, phi)?;
+        }
     }
     Ok(edges)
 }

@@ -6,11 +6,10 @@ ghost use Rattle.obj_link.specs.Shown.{shown};
 ghost use Rattle.il_interp.specs.Prepared.{program_of};
 ghost use Rattle.il_interp.specs.Hops.{Ends, Enters, GoesAlong, held_in};
 
-use crate::jump::places_to;
+use crate::jump::{landing, places_to};
 use crate::numbers::{in_class, number_at};
-use crate::operand::function_at;
+use crate::operand::{block_at, function_at};
 use crate::phi_numbers::take_numbers;
-use crate::prepare::place_at;
 use crate::prepared::Prepared;
 use crate::rows::operate_in_row;
 use crate::slots::Slots;
@@ -35,16 +34,15 @@ fn target(temps: &Slots, jump: Jump) -> Option<(Label, bool)>
             on,
             nonzero,
             otherwise,
-        } => match number_at(temps, &on) {
-            Some(number) => if in_class(Class::W, number) == 0 {
-                Some((otherwise, false))
+        } => {
+            let number = number_at(temps, &on)?;
+            Some(if in_class(Class::W, number) == 0 {
+                (otherwise, false)
             } else {
-                Some((nonzero, true))
-            },
-            None => None,
-        },
-        Jump::Return(_) => None,
-        Jump::Halt => None,
+                (nonzero, true)
+            })
+        }
+        Jump::Return(_) | Jump::Halt => None,
     }
 }
 
@@ -63,12 +61,8 @@ fn enter(
     ensures same { IfOk result (λ done. frame.new.function ≡ frame.old.function) }
     ensures enters { IfOk result (λ done. MatchBool done (Enters (program_of prepared.now) (shown function.now) from label frame.old frame.new) (frame.new ≡ frame.old)) }
 {
-    let place = match place_at(prepared, frame.function, label.number()) {
-        Some(place) => place,
-        None => return Ok(false),
-    };
-    match function.item.blocks.as_slice().get(place) {
-        Some(block) => {
+    match landing(prepared, function, frame.function, label) {
+        Some((place, block)) => {
             let phis = block.phis.as_slice();
             if take_numbers(&mut frame.temps, from, places, phis, numbers)? {
                 frame.block = place;
@@ -94,24 +88,21 @@ fn hop(
     ensures same { IfOk result (λ done. frame.new.function ≡ frame.old.function) }
     ensures ends { IfOk result (λ done. MatchBool done (Ends (program_of prepared.now) (shown function.now) block.now frame.old frame.new) (frame.new ≡ frame.old)) }
 {
-    match &block.jump {
-        Some(jump) => match target(&frame.temps, jump.item) {
-            Some((label, first)) => {
-                let places = places_to(prepared, frame, first);
-                enter(
-                    prepared,
-                    function,
-                    block.label,
-                    frame,
-                    label,
-                    places,
-                    numbers,
-                )
-            }
-            None => Ok(false),
-        },
-        None => Ok(false),
+    if let Some(jump) = &block.jump
+        && let Some((label, first)) = target(&frame.temps, jump.item)
+    {
+        let places = places_to(prepared, frame, first);
+        return enter(
+            prepared,
+            function,
+            block.label,
+            frame,
+            label,
+            places,
+            numbers,
+        );
     }
+    Ok(false)
 }
 
 /// Does the turns of a block that are instructions of a row, from where it stands on, and a jump on integers
@@ -173,7 +164,7 @@ pub fn hop_along(
     };
     let mut left = most;
     while left > 0 {
-        let block = match function.item.blocks.as_slice().get(frame.block) {
+        let block = match block_at(function, frame.block) {
             Some(block) => block,
             None => return Ok(most - left),
         };

@@ -1,5 +1,5 @@
 //! Programs, run.
-ghost use Rattle.std.specs.Prelude.{◌≡◌, ◌&&◌, map, length, false, Err, IfOk, MatchResult, MatchOption, slice_get, None, Some};
+ghost use Rattle.std.specs.Prelude.{◌≡◌, ◌&&◌, map, false, Err, IfOk, MatchResult, None, Some};
 ghost use Rattle.il_ast.specs.declared.operation.Class.TheVariants.{W};
 ghost use Rattle.il_ast.specs.declared.function.Param.{Param as ParamOf};
 ghost use Rattle.il_ast.specs.Meaning.{main_args, main_classes, same_classes, result_fits, meaning};
@@ -7,10 +7,10 @@ ghost use Rattle.obj_link.specs.ProgramOf.{program};
 ghost use Rattle.obj_link.specs.Arguments.{are_arguments};
 ghost use Rattle.il_interp.specs.declared.error.RunError.TheVariants.{Words};
 ghost use Rattle.il_interp.specs.Prepared.{program_of};
-ghost use Rattle.il_interp.specs.Machine.{main_frame, started};
+ghost use Rattle.il_interp.specs.Machine.{started};
 ghost use Rattle.il_interp.specs.Begun.{begun_next, Refuses};
 
-use crate::call::{first_frame, fits, room_left};
+use crate::call::{first_frame, room_left};
 use crate::error::RunError;
 use crate::operand::function_at;
 use crate::prepare::prepare;
@@ -18,13 +18,10 @@ use crate::prepared::Prepared;
 use crate::run::run;
 use crate::start::start_memory;
 use crate::state::{Output, Pile, State};
-use il_ast::function::{Func, Param};
+use il_ast::function::Func;
 use il_ast::limits;
-use il_ast::operand::{Arg, Dest, Val};
 use il_ast::operation::Class;
-use il_ast::temp::Temp;
 use il_ast::value::{End, Value};
-use il_mem::memory::BlockMemory;
 use obj_link::arguments::are_arguments;
 use obj_link::linking::linked::Linked;
 use std::alloc::{AllocError, Global};
@@ -34,7 +31,6 @@ use std::alloc::{AllocError, Global};
 ///
 /// `RunError::Words` says that the words pass a limit (1,024 words; 65,536 bytes with their closing
 /// zeros; no byte 0), `RunError::Memory` that memory was refused.
-
 pub fn interpret(
     alloc: Global,
     linked: &Linked<'_>,
@@ -111,21 +107,10 @@ fn main_args(
 fn main_fits(function: &Func) -> bool
     ensures { result ≡ same_classes (main_classes function.now.params) (map (λ (x : ParamOf). x.class) function.now.params) && result_fits (Some W) function.now.result }
 {
-    let wanted = Some(Dest {
-        temp: Temp::at(0),
-        class: Class::W,
-    });
-    if function.params.len() == 0 {
-        fits(&[], &wanted, function)
-    } else {
-        let count = Arg {
-            class: Class::W,
-            value: Val::Int(0),
-        };
-        let list = Arg {
-            class: Class::L,
-            value: Val::Int(0),
-        };
-        fits(&[count, list], &wanted, function)
-    }
+    let params_fit = match function.params.as_slice() {
+        [] => true,
+        [count, list] => count.class == Class::W && list.class == Class::L,
+        _ => false,
+    };
+    params_fit && function.result == Some(Class::W)
 }

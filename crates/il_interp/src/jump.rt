@@ -1,11 +1,12 @@
 //! Jumps.
-ghost use Rattle.std.specs.Prelude.{◌≡◌, ℕ, List, map, Some, None, slice_get, IfOk, IfSome, OnOk, MatchBool, MatchOption, nat_eq, true};
+ghost use Rattle.std.specs.Prelude.{◌≡◌, ℕ, Some, None, slice_get, IfOk, MatchBool, MatchOption, nat_eq, true};
 ghost use Rattle.std.specs.List.{find};
+ghost use Rattle.std.specs.Option.{option_and_then};
 ghost use Rattle.il_ast.specs.declared.block.PhiArg.{PhiArg as PhiArgOf};
 ghost use Rattle.il_ast.specs.declared.instruction.Jump.TheVariants.{Return};
 ghost use Rattle.il_ast.specs.Start.{globals_of};
 ghost use Rattle.il_ast.specs.Memory.{Memory, free_all};
-ghost use Rattle.il_ast.specs.Effect.{branch_to, phi_value, phi_values, with_phis, enter, jump_effect};
+ghost use Rattle.il_ast.specs.Effect.{branch_to, phi_value, phi_values, place_of, with_phis, enter, jump_effect};
 ghost use Rattle.il_ast.specs.Meaning.{end_of};
 ghost use Rattle.obj_link.specs.Shown.{shown};
 ghost use Rattle.obj_link.specs.ProgramOf.{program};
@@ -14,13 +15,13 @@ ghost use Rattle.il_interp.specs.Prepared.{program_of};
 ghost use Rattle.il_interp.specs.Targets.{Leads};
 ghost use Rattle.il_interp.specs.Machine.{env_of, locals_of, received, return_to, react, stepped};
 
-use crate::operand::operand;
+use crate::operand::{block_at, operand};
 use crate::phi_numbers::phi_number;
 use crate::prepare::{edges_at, place_at};
 use crate::prepared::Prepared;
 use crate::slots::Slots;
 use crate::state::{Frame, State};
-use il_ast::block::{Phi, PhiArg};
+use il_ast::block::{Block, Phi, PhiArg};
 use il_ast::function::Func;
 use il_ast::instruction::Jump;
 use il_ast::label::Label;
@@ -56,18 +57,8 @@ fn phi_value(
     requires { are_distinct phi.now.args ≡ true }
     ensures { result ≡ phi_value (globals_of (program linked.now) text) temps.now from phi.now }
 {
-    match argument(phi.args.as_slice(), from, place) {
-        Some(arg) => operand(linked, text, temps, phi.to.class, arg.value),
-        None => None,
-    }
-}
-
-/// The place that is noted for a phi, or 0.
-fn place_of(places: &[usize], phi: usize) -> usize {
-    match places.get(phi) {
-        Some(place) => *place,
-        None => 0,
-    }
+    let arg = argument(phi.args.as_slice(), from, place)?;
+    operand(linked, text, temps, phi.to.class, arg.value)
 }
 
 /// Reads the values of phis, of which none is written yet. Answers whether there is one for each.
@@ -86,7 +77,7 @@ fn read_phis(
 {
     values.clear();
     for phi in phis {
-        let place = place_of(places, values.len());
+        let place = places.get(values.len()).copied().unwrap_or(0);
         match phi_number(temps, from, place, phi) {
             Some(number) => values.push(Value::Integer(number))?,
             None => match phi_value(linked, text, temps, from, place, phi) {
@@ -114,6 +105,21 @@ fn write_phis(temps: &mut Slots, phis: &[Phi], values: &[Value])
     }
 }
 
+/// The place and the block of a label of a function.
+pub fn landing<'a>(
+    prepared: &Prepared<'_>,
+    function: &InText<&'a Func>,
+    number: usize,
+    label: Label,
+) -> Option<(usize, &'a Block)>
+    requires { slice_get (program_of prepared.now).functions number ≡ Some (shown function.now) }
+    ensures { MatchOption result (option_and_then (λ (k : ℕ). slice_get (shown function.now).item.blocks k) (place_of (shown function.now).item.blocks label) ≡ None) (λ found. (place_of (shown function.now).item.blocks label ≡ Some found.0) × (slice_get (shown function.now).item.blocks found.0 ≡ Some found.1.now)) }
+{
+    let place = place_at(prepared, number, label.number())?;
+    let block = block_at(function, place)?;
+    Some((place, block))
+}
+
 /// A jump to a label from the block of another one. `places` has where to look for the argument of each
 /// phi there.
 fn enter(
@@ -128,22 +134,12 @@ fn enter(
     requires { slice_get (program_of prepared.now).functions state.old.frame.function ≡ Some (shown function.now) }
     ensures { IfOk result (λ end. react (program_of prepared.now) state.old (enter (env_of (program_of prepared.now) (shown function.now)) from (locals_of state.old.frame) state.old.memory label) ≡ stepped state.new end) }
 {
-    let place = match place_at(prepared, state.frame.function, label.number()) {
-        Some(place) => place,
-        None => return Ok(Some(End::Undefined)),
-    };
-    match function.item.blocks.as_slice().get(place) {
-        Some(block) => {
+    match landing(prepared, function, state.frame.function, label) {
+        Some((place, block)) => {
             let phis = block.phis.as_slice();
-            if read_phis(
-                prepared.linked,
-                function.text,
-                &state.frame.temps,
-                from,
-                places,
-                phis,
-                values,
-            )? {
+            let temps = &state.frame.temps;
+            let text = function.text;
+            if read_phis(prepared.linked, text, temps, from, places, phis, values)? {
                 write_phis(&mut state.frame.temps, phis, values.as_slice());
                 state.frame.block = place;
                 state.frame.next = 0;
@@ -171,15 +167,13 @@ fn free_all(memory: &mut BlockMemory, blocks: &[u128])
 pub fn receive(state: &mut State, to: &Option<Dest>, value: Option<Value>) -> Option<End>
     ensures { received state.old to.now value ≡ stepped state.new result }
 {
-    match *to {
-        None => None,
-        Some(to) => match value {
-            None => Some(End::Undefined),
-            Some(found) => {
-                state.frame.temps.set(to.temp.number(), found);
-                None
-            }
-        },
+    match (*to, value) {
+        (None, _) => None,
+        (Some(_), None) => Some(End::Undefined),
+        (Some(to), Some(found)) => {
+            state.frame.temps.set(to.temp.number(), found);
+            None
+        }
     }
 }
 
@@ -228,16 +222,15 @@ fn returns(
 ) -> Option<End>
     ensures { react (program linked.now) state.old (jump_effect (env_of (program linked.now) (shown function.now)) from (locals_of state.old.frame) state.old.memory (Return value)) ≡ stepped state.new result }
 {
-    match value {
-        None => give_back(state, None),
-        Some(value) => match function.item.result {
-            None => Some(End::Undefined),
-            Some(class) => match operand(linked, function.text, &state.frame.temps, class, value) {
-                Some(found) => give_back(state, Some(found)),
-                None => Some(End::Undefined),
-            },
-        },
+    let Some(value) = value else {
+        return give_back(state, None);
+    };
+    if let Some(class) = function.item.result
+        && let Some(found) = operand(linked, function.text, &state.frame.temps, class, value)
+    {
+        return give_back(state, Some(found));
     }
+    Some(End::Undefined)
 }
 
 /// Where to look for the arguments of phis after a jump to the first label that it has, or to the second.
@@ -268,15 +261,12 @@ fn target(
             on,
             nonzero,
             otherwise,
-        } => match operand(linked, function.text, &frame.temps, Class::W, on) {
-            Some(found) => {
-                let label = branch_to(found, nonzero, otherwise);
-                Some((label, label.number() == nonzero.number()))
-            }
-            None => None,
-        },
-        Jump::Return(_) => None,
-        Jump::Halt => None,
+        } => {
+            let found = operand(linked, function.text, &frame.temps, Class::W, on)?;
+            let label = branch_to(found, nonzero, otherwise);
+            Some((label, label == nonzero))
+        }
+        Jump::Return(_) | Jump::Halt => None,
     }
 }
 

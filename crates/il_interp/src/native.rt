@@ -29,19 +29,15 @@ pub fn write(
 ) -> Result<Option<End>, AllocError>
     ensures { IfOk result (λ end. native_step state.old to.now (write_call values.now state.old.memory) ≡ stepped state.new end) }
 {
-    match values {
-        [descriptor, place, count] => match *descriptor {
-            Value::Integer(number) => {
-                if number == 1 {
-                    write_integer(state, to, *place, *count)
-                } else {
-                    Ok(answer(state, to, NOT_OPEN))
-                }
-            }
-            Value::Pointer { .. } | Value::Function(_) => Ok(Some(End::Undefined)),
-        },
-        _ => Ok(Some(End::Undefined)),
+    if let [descriptor, place, count] = values
+        && let Value::Integer(number) = *descriptor
+    {
+        if number == 1 {
+            return write_integer(state, to, *place, *count);
+        }
+        return Ok(answer(state, to, NOT_OPEN));
     }
+    Ok(Some(End::Undefined))
 }
 
 #[tactic(auto, using(crate::proofs::NativeLemmas::undefined_is))]
@@ -72,16 +68,13 @@ fn write_bytes(
     if count == 0 {
         return Ok(answer(state, to, 0));
     }
-    match place {
-        Value::Pointer { block, offset } => match state.memory.bytes(block, offset, count)? {
-            Some(bytes) => {
-                state.output.append(bytes.as_slice())?;
-                Ok(receive(state, to, Some(Value::Integer(count))))
-            }
-            None => Ok(Some(End::Undefined)),
-        },
-        Value::Integer(_) | Value::Function(_) => Ok(Some(End::Undefined)),
+    if let Value::Pointer { block, offset } = place
+        && let Some(bytes) = state.memory.bytes(block, offset, count)?
+    {
+        state.output.append(bytes.as_slice())?;
+        return Ok(receive(state, to, Some(Value::Integer(count))));
     }
+    Ok(Some(End::Undefined))
 }
 
 /// `exit (w status)`
@@ -89,11 +82,10 @@ fn write_bytes(
 pub fn exit(state: &mut State, to: &Option<Dest>, values: &[Value]) -> Option<End>
     ensures { native_step state.old to.now (exit_call values.now) ≡ stepped state.new result }
 {
-    match values {
-        [status] => match *status {
-            Value::Integer(number) => Some(End::Exit((number % 256) as u8)),
-            Value::Pointer { .. } | Value::Function(_) => Some(End::Undefined),
-        },
-        _ => Some(End::Undefined),
+    if let [status] = values
+        && let Value::Integer(number) = *status
+    {
+        return Some(End::Exit((number % 256) as u8));
     }
+    Some(End::Undefined)
 }

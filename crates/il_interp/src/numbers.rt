@@ -45,10 +45,8 @@ fn on_numbers(op: BinaryOp, class: Class, a: u64, b: u64) -> Option<u64>
         BinaryOp::Compare(on, compared) => Some(u64::from(numbers_hold(on, compared, a, b))),
         _ => match class {
             Class::W => {
-                match on_words(op, (a % 0x1_0000_0000) as u32, (b % 0x1_0000_0000) as u32) {
-                    Some(n) => Some(u64::from(n)),
-                    None => None,
-                }
+                let made = on_words(op, (a % 0x1_0000_0000) as u32, (b % 0x1_0000_0000) as u32)?;
+                Some(u64::from(made))
             }
             Class::L => on_longs(op, a, b),
         },
@@ -60,17 +58,12 @@ fn on_numbers(op: BinaryOp, class: Class, a: u64, b: u64) -> Option<u64>
 pub fn binary(temps: &mut Slots, to: &Dest, op: &BinaryOp, left: &Val, right: &Val) -> bool
     ensures { MatchBool result ((globals : List ValueOf) (m : Memory) → Does globals (held temps.old m) (Binary to.now op.now left.now right.now) (held temps.new m)) (temps.new ≡ temps.old) }
 {
-    match number_at(temps, left) {
-        Some(a) => match number_at(temps, right) {
-            Some(b) => match on_numbers(*op, to.class, a, b) {
-                Some(made) => {
-                    temps.set_number(to.temp.number(), made);
-                    true
-                }
-                None => false,
-            },
-            None => false,
-        },
-        None => false,
+    if let Some(a) = number_at(temps, left)
+        && let Some(b) = number_at(temps, right)
+        && let Some(made) = on_numbers(*op, to.class, a, b)
+    {
+        temps.set_number(to.temp.number(), made);
+        return true;
     }
+    false
 }

@@ -8,6 +8,7 @@ ghost use Rattle.obj_link.specs.ProgramOf.{program};
 ghost use Rattle.il_interp.specs.Operands.{FitsPlace};
 
 use crate::slots::Slots;
+use il_ast::block::Block;
 use il_ast::function::Func;
 use il_ast::operand::{Arg, Val};
 use il_ast::operation::Class;
@@ -23,6 +24,14 @@ pub fn function_at<'a>(linked: &'a Linked<'_>, number: usize) -> Option<&'a InTe
     ensures { MatchOption result (slice_get (program linked.now).functions number ≡ None) (λ found. slice_get (program linked.now).functions number ≡ Some (shown found.now)) }
 {
     linked.functions.as_slice().get(number)
+}
+
+/// The block of a function at a place.
+#[tactic(auto, using(crate::proofs::ListLemmas::mapped))]
+pub fn block_at<'a>(function: &InText<&'a Func>, place: usize) -> Option<&'a Block>
+    ensures { MatchOption result (slice_get (shown function.now).item.blocks place ≡ None) (λ found. slice_get (shown function.now).item.blocks place ≡ Some found.now) }
+{
+    function.item.blocks.as_slice().get(place)
 }
 
 fn target_value(target: Target) -> Value
@@ -73,13 +82,12 @@ pub fn operand(
     ensures value { result ≡ operand (globals_of (program linked.now) text) temps.now class value }
     ensures fits { IfSome result (λ found. FitsPlace class found) }
 {
-    match value_at(linked, text, temps, value) {
-        Some(found) => fitted(class, found),
-        None => None,
-    }
+    in_place(class, value_at(linked, text, temps, value)?)
 }
 
-fn fitted(class: Class, value: Value) -> Option<Value>
+/// What a place of a class takes of a value: the low 32 bits of an integer for a word, any value for a
+/// long.
+fn in_place(class: Class, value: Value) -> Option<Value>
     ensures value { result ≡ in_place class value }
     ensures fits { IfSome result (λ found. FitsPlace class found) }
 {

@@ -1,8 +1,7 @@
 //! The operations of the language.
 ghost use Rattle.std.specs.Prelude.{◌≡◌, ◌<◌, ◌^◌};
-ghost use Rattle.std.specs.Option.{option_and_then};
 ghost use Rattle.il_ast.specs.declared.operation.Class.TheVariants.{W};
-ghost use Rattle.il_ast.specs.Values.{byte_count, in_place};
+ghost use Rattle.il_ast.specs.Values.{byte_count};
 ghost use Rattle.il_ast.specs.Operations.{operand_class, left_class, right_class, on_integers, extension_bytes, extended, widened, operate_one, operate_two};
 ghost use Rattle.il_interp.specs.Negated.{negated};
 ghost use Rattle.il_interp.specs.Operands.{FitsPlace};
@@ -13,20 +12,6 @@ use il_ast::condition::{longs_hold, words_hold};
 use il_ast::operation::{BinaryOp, Class, Extension, Size, UnaryOp};
 use il_ast::value::Value;
 use il_mem::memory::BlockMemory;
-
-/// What a place of a class takes of a value: the low 32 bits of an integer for a word, any value for a
-/// long.
-pub fn in_place(class: Class, value: Value) -> Option<Value>
-    ensures { result ≡ in_place class value }
-{
-    match class {
-        Class::W => match value {
-            Value::Integer(n) => Some(Value::Integer(n % 0x1_0000_0000)),
-            Value::Pointer { .. } | Value::Function(_) => None,
-        },
-        Class::L => Some(value),
-    }
-}
 
 /// The operation on two values, each of the class of its place; none where it is undefined.
 #[tactic(auto, unfolding(il_ast::specs::Operations::operate_two))]
@@ -42,10 +27,9 @@ pub fn operate_two(
     ensures { result ≡ operate_two memory.now op class left right }
 {
     match (left, right) {
-        (Value::Integer(a), Value::Integer(b)) => match on_integers(op, class, a, b) {
-            Some(n) => Some(Value::Integer(n)),
-            None => None,
-        },
+        (Value::Integer(a), Value::Integer(b)) => {
+            Some(Value::Integer(on_integers(op, class, a, b)?))
+        }
         _ => on_places(memory, op, left, right),
     }
 }
@@ -60,10 +44,7 @@ fn on_integers(op: BinaryOp, class: Class, a: u64, b: u64) -> Option<u64>
         BinaryOp::Compare(on, Class::W) => Some(u64::from(words_hold(on, a as u32, b as u32))),
         BinaryOp::Compare(on, Class::L) => Some(u64::from(longs_hold(on, a, b))),
         _ => match class {
-            Class::W => match on_words(op, a as u32, b as u32) {
-                Some(n) => Some(u64::from(n)),
-                None => None,
-            },
+            Class::W => Some(u64::from(on_words(op, a as u32, b as u32)?)),
             Class::L => on_longs(op, a, b),
         },
     }
@@ -80,10 +61,13 @@ pub fn operate_one(memory: &BlockMemory, op: UnaryOp, class: Class, value: Value
         UnaryOp::Copy => Some(value),
         UnaryOp::Extend(extension) => widened(extension, class, value),
         UnaryOp::LoadLong => memory.load(value, Size::Long),
-        UnaryOp::Load(extension) => match memory.load(value, extension_size(extension)) {
-            Some(loaded) => widened(extension, class, loaded),
-            None => None,
-        },
+        UnaryOp::Load(extension) => {
+            widened(
+                extension,
+                class,
+                memory.load(value, extension_size(extension))?,
+            )
+        }
     }
 }
 

@@ -19,13 +19,9 @@ pub fn phi_number(temps: &Slots, from: Label, place: usize, phi: &Phi) -> Option
     requires { are_distinct phi.now.args ≡ true }
     ensures { IfSome result (λ number. (globals : List ValueOf) → phi_value globals temps.now from phi.now ≡ Some (Integer number)) }
 {
-    match argument_at(phi.args.as_slice(), from, place) {
-        Some(arg) => match number_at(temps, &arg.value) {
-            Some(number) => Some(in_class(phi.to.class, number)),
-            None => None,
-        },
-        None => None,
-    }
+    let arg = argument_at(phi.args.as_slice(), from, place)?;
+    let number = number_at(temps, &arg.value)?;
+    Some(in_class(phi.to.class, number))
 }
 
 /// Reads the numbers that phis take, of which none is written yet. Answers whether all take integers, whose
@@ -92,17 +88,13 @@ fn take_one(temps: &mut Slots, from: Label, places: &[usize], phi: &Phi) -> bool
     requires { are_distinct phi.now.args ≡ true }
     ensures { MatchBool result ((globals : List ValueOf) → option_map (with_phis temps.old (phi.now ∷ [])) (phi_values globals temps.old from (phi.now ∷ [])) ≡ Some temps.new) (temps.new ≡ temps.old) }
 {
-    let place = match places {
-        [place] => *place,
-        _ => return false,
-    };
-    match phi_number(temps, from, place, phi) {
-        Some(number) => {
-            temps.set_number(phi.to.temp.number(), number);
-            true
-        }
-        None => false,
+    if let [place] = places
+        && let Some(number) = phi_number(temps, from, *place, phi)
+    {
+        temps.set_number(phi.to.temp.number(), number);
+        return true;
     }
+    false
 }
 
 /// The same of two.
@@ -111,21 +103,15 @@ fn take_two(temps: &mut Slots, from: Label, places: &[usize], one: &Phi, two: &P
     requires two { are_distinct two.now.args ≡ true }
     ensures { MatchBool result ((globals : List ValueOf) → option_map (with_phis temps.old (one.now ∷ two.now ∷ [])) (phi_values globals temps.old from (one.now ∷ two.now ∷ [])) ≡ Some temps.new) (temps.new ≡ temps.old) }
 {
-    let (first, second) = match places {
-        [first, second] => (*first, *second),
-        _ => return false,
-    };
-    match phi_number(temps, from, first, one) {
-        Some(a) => match phi_number(temps, from, second, two) {
-            Some(b) => {
-                temps.set_number(one.to.temp.number(), a);
-                temps.set_number(two.to.temp.number(), b);
-                true
-            }
-            None => false,
-        },
-        None => false,
+    if let [first, second] = places
+        && let Some(a) = phi_number(temps, from, *first, one)
+        && let Some(b) = phi_number(temps, from, *second, two)
+    {
+        temps.set_number(one.to.temp.number(), a);
+        temps.set_number(two.to.temp.number(), b);
+        return true;
     }
+    false
 }
 
 /// Gives phis their values where these all are integers, and their arguments the ones at `places`. Answers

@@ -100,42 +100,27 @@ impl Running<'_> {
 
     /// Where the last turn was due, or where the next one is, if the run goes on. None where the run isn't watched.
     pub fn place(&self) -> Option<Place> {
-        match &self.watch {
-            Some(watch) => Some(watch.place()),
-            None => None,
-        }
+        self.watch.as_ref().map(|watch| watch.place())
     }
 
     /// Of the last turns before that one, the one with this number, counted from 0 for the oldest that is remembered.
     pub fn turn(&self, number: usize) -> Option<Turn> {
-        match &self.watch {
-            Some(watch) => watch.turn(number),
-            None => None,
-        }
+        self.watch.as_ref()?.turn(number)
     }
 
     /// How many turns before that one are remembered.
     pub fn turns(&self) -> usize {
-        match &self.watch {
-            Some(watch) => watch.count(),
-            None => 0,
-        }
+        self.watch.as_ref().map_or(0, |watch| watch.count())
     }
 
     /// How many blocks of memory there were when it began to be watched: those of data, argument words and their list.
     pub fn start_blocks(&self) -> u128 {
-        match &self.watch {
-            Some(watch) => watch.first(),
-            None => 0,
-        }
+        self.watch.as_ref().map_or(0, |watch| watch.first())
     }
 
     /// Where a block of memory was made, if an `alloc` made it and that is remembered.
     pub fn maker(&self, block: u128) -> Option<Place> {
-        match &self.watch {
-            Some(watch) => watch.maker(block),
-            None => None,
-        }
+        self.watch.as_ref()?.maker(block)
     }
 
     /// How many bytes a block of memory has, where it is live.
@@ -157,10 +142,10 @@ impl Running<'_> {
 
     /// Whether the activation that had the last turn is still there: it isn't where that turn was its return.
     fn is_there(&self) -> bool {
-        match &self.watch {
-            Some(watch) => watch.depth() == self.state.below.len(),
-            None => true,
-        }
+        let depth = self.state.below.len();
+        self.watch
+            .as_ref()
+            .is_none_or(|watch| watch.depth() == depth)
     }
 
     /// What a temporary of the activation holds that had the last turn, if it has a value.
@@ -187,23 +172,20 @@ impl Running<'_> {
     /// Where the call stands that the activation waits for which had the last turn, for the number 0; for the number 1 the call that made that one, and so on.
     pub fn caller(&self, number: usize) -> Option<Place> {
         if self.is_there() {
-            return call_of(self.state.below.get(number));
+            return Some(call_of(self.state.below.get(number)?));
         }
         match number.checked_sub(1) {
-            Some(below) => call_of(self.state.below.get(below)),
-            None => call_of(Some(&self.state.frame)),
+            Some(below) => Some(call_of(self.state.below.get(below)?)),
+            None => Some(call_of(&self.state.frame)),
         }
     }
 }
 
 /// Where the call stands that an activation waits for: right before its next instruction.
-fn call_of(frame: Option<&Frame>) -> Option<Place> {
-    match frame {
-        Some(frame) => Some(Place {
-            function: frame.function,
-            block: frame.block,
-            next: frame.next.saturating_sub(1),
-        }),
-        None => None,
+fn call_of(frame: &Frame) -> Place {
+    Place {
+        function: frame.function,
+        block: frame.block,
+        next: frame.next.saturating_sub(1),
     }
 }

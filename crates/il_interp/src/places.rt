@@ -17,10 +17,10 @@ pub fn on_places(memory: &BlockMemory, op: BinaryOp, left: Value, right: Value) 
     match op {
         BinaryOp::Add => added(left, right),
         BinaryOp::Sub => subtracted(left, right),
-        BinaryOp::Compare(on, _) => match compare_places(memory, on, left, right) {
-            Some(holds) => Some(Value::Integer(u64::from(holds))),
-            None => None,
-        },
+        BinaryOp::Compare(on, _) => {
+            let holds = compare_places(memory, on, left, right)?;
+            Some(Value::Integer(u64::from(holds)))
+        }
         _ => None,
     }
 }
@@ -28,70 +28,52 @@ pub fn on_places(memory: &BlockMemory, op: BinaryOp, left: Value, right: Value) 
 fn added(left: Value, right: Value) -> Option<Value>
     ensures { (m : Memory) → result ≡ on_places m Add left right }
 {
-    match left {
-        Value::Pointer { block, offset } => match right {
-            Value::Integer(n) => Some(Value::Pointer {
-                block,
-                offset: offset.wrapping_add(n),
-            }),
-            _ => None,
-        },
-        Value::Integer(n) => match right {
-            Value::Pointer { block, offset } => Some(Value::Pointer {
-                block,
-                offset: offset.wrapping_add(n),
-            }),
-            _ => None,
-        },
-        Value::Function(_) => None,
+    match (left, right) {
+        (Value::Pointer { block, offset }, Value::Integer(n))
+        | (Value::Integer(n), Value::Pointer { block, offset }) => Some(Value::Pointer {
+            block,
+            offset: offset.wrapping_add(n),
+        }),
+        _ => None,
     }
 }
 
 fn subtracted(left: Value, right: Value) -> Option<Value>
     ensures { (m : Memory) → result ≡ on_places m Sub left right }
 {
-    match left {
-        Value::Pointer { block, offset } => match right {
-            Value::Integer(n) => Some(Value::Pointer {
-                block,
-                offset: offset.wrapping_sub(n),
-            }),
+    match (left, right) {
+        (Value::Pointer { block, offset }, Value::Integer(n)) => Some(Value::Pointer {
+            block,
+            offset: offset.wrapping_sub(n),
+        }),
+        (
+            Value::Pointer { block, offset },
             Value::Pointer {
                 block: other,
                 offset: place,
-            } => {
-                if block == other {
-                    Some(Value::Integer(offset.wrapping_sub(place)))
-                } else {
-                    None
-                }
-            }
-            Value::Function(_) => None,
-        },
-        Value::Integer(_) | Value::Function(_) => None,
+            },
+        ) if block == other => Some(Value::Integer(offset.wrapping_sub(place))),
+        _ => None,
     }
 }
 
 fn compare_places(memory: &BlockMemory, on: Condition, left: Value, right: Value) -> Option<bool>
     ensures { result ≡ compare_places memory.now on left right }
 {
-    match left {
-        Value::Pointer { block, offset } => match right {
+    match (left, right) {
+        (
+            Value::Pointer { block, offset },
             Value::Pointer {
                 block: other,
                 offset: place,
-            } => compare_pointers(memory, on, block, offset, other, place),
-            Value::Integer(n) => compare_with_zero(memory, on, n, block, offset),
-            Value::Function(_) => None,
-        },
-        Value::Integer(n) => match right {
-            Value::Pointer { block, offset } => compare_with_zero(memory, on, n, block, offset),
-            Value::Integer(_) | Value::Function(_) => None,
-        },
-        Value::Function(f) => match right {
-            Value::Function(g) => on_functions(on, is_same_callee(f, g)),
-            Value::Integer(_) | Value::Pointer { .. } => None,
-        },
+            },
+        ) => compare_pointers(memory, on, block, offset, other, place),
+        (Value::Pointer { block, offset }, Value::Integer(n))
+        | (Value::Integer(n), Value::Pointer { block, offset }) => {
+            compare_with_zero(memory, on, n, block, offset)
+        }
+        (Value::Function(f), Value::Function(g)) => on_functions(on, is_same_callee(f, g)),
+        _ => None,
     }
 }
 

@@ -96,8 +96,5 @@ pub fn place_at(prepared: &Prepared<'_>, number: usize, label: usize) -> Option<
 
 /// The edges from a block of a function.
 pub fn edges_at<'a>(prepared: &'a Prepared<'_>, number: usize, block: usize) -> Option<&'a Edges> {
-    match prepared.edges.get(number) {
-        Some(table) => table.as_slice().get(block),
-        None => None,
-    }
+    prepared.edges.get(number)?.as_slice().get(block)
 }

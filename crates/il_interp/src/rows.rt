@@ -1,9 +1,9 @@
 //! Instructions that are done one after another within a block: all but calls, and but those that make blocks or copy bytes.
-ghost use Rattle.std.specs.Prelude.{◌≡◌, ◌-◌, ◌≤◌, MatchBool};
+ghost use Rattle.std.specs.Prelude.{◌-◌, ◌≤◌, MatchOption};
 ghost use Rattle.il_ast.specs.declared.instruction.Inst.TheVariants.{Unary, Binary, Store};
 ghost use Rattle.il_ast.specs.Start.{globals_of};
 ghost use Rattle.obj_link.specs.ProgramOf.{program};
-ghost use Rattle.il_interp.specs.Rows.{held, Does, GoesOn};
+ghost use Rattle.il_interp.specs.Rows.{held, Does, GoesOn, Undone};
 
 use crate::operand::operand;
 use crate::operate::{operate_one, operate_two};
@@ -16,7 +16,7 @@ use il_mem::memory::BlockMemory;
 use il_types::classes::{left_class, operand_class, right_class, stored_class};
 use obj_link::linking::linked::Linked;
 
-/// `to = op value`, of any value. Answers whether it was done: not where it is undefined.
+/// `to = op value`, of any value. None, and nothing changes, where it is undefined.
 #[inline(never)]
 #[tactic(auto, unfolding(il_ast::specs::Effect::inst_effect))]
 fn on_value(
@@ -27,22 +27,16 @@ fn on_value(
     to: &Dest,
     op: UnaryOp,
     value: Val,
-) -> bool
-    ensures { MatchBool result (Does (globals_of (program linked.now) text) (held temps.old memory.now) (Unary to.now op value) (held temps.new memory.now)) (temps.new ≡ temps.old) }
+) -> Option<()>
+    ensures { MatchOption result (Undone (globals_of (program linked.now) text) (held temps.old memory.now) (Unary to.now op value) (held temps.new memory.now)) (λ _. Does (globals_of (program linked.now) text) (held temps.old memory.now) (Unary to.now op value) (held temps.new memory.now)) }
 {
-    match operand(linked, text, temps, operand_class(op, to.class), value) {
-        Some(found) => match operate_one(memory, op, to.class, found) {
-            Some(made) => {
-                temps.set(to.temp.number(), made);
-                true
-            }
-            None => false,
-        },
-        None => false,
-    }
+    let found = operand(linked, text, temps, operand_class(op, to.class), value)?;
+    let made = operate_one(memory, op, to.class, found)?;
+    temps.set(to.temp.number(), made);
+    Some(())
 }
 
-/// `to = op value`. Answers whether it was done: not where it is undefined.
+/// `to = op value`. None, and nothing changes, where it is undefined.
 fn unary(
     linked: &Linked<'_>,
     text: usize,
@@ -51,17 +45,17 @@ fn unary(
     to: &Dest,
     op: &UnaryOp,
     value: &Val,
-) -> bool
-    ensures { MatchBool result (Does (globals_of (program linked.now) text) (held temps.old memory.now) (Unary to.now op.now value.now) (held temps.new memory.now)) (temps.new ≡ temps.old) }
+) -> Option<()>
+    ensures { MatchOption result (Undone (globals_of (program linked.now) text) (held temps.old memory.now) (Unary to.now op.now value.now) (held temps.new memory.now)) (λ _. Does (globals_of (program linked.now) text) (held temps.old memory.now) (Unary to.now op.now value.now) (held temps.new memory.now)) }
 {
     if accesses::load(temps, memory, to, op, value) {
-        true
+        Some(())
     } else {
         on_value(linked, text, temps, memory, to, *op, *value)
     }
 }
 
-/// `to = op left, right`, of any values. Answers whether it was done: not where it is undefined.
+/// `to = op left, right`, of any values. None, and nothing changes, where it is undefined.
 #[inline(never)]
 #[tactic(auto, unfolding(il_ast::specs::Effect::inst_effect))]
 fn on_values(
@@ -73,25 +67,17 @@ fn on_values(
     op: BinaryOp,
     left: Val,
     right: Val,
-) -> bool
-    ensures { MatchBool result (Does (globals_of (program linked.now) text) (held temps.old memory.now) (Binary to.now op left right) (held temps.new memory.now)) (temps.new ≡ temps.old) }
+) -> Option<()>
+    ensures { MatchOption result (Undone (globals_of (program linked.now) text) (held temps.old memory.now) (Binary to.now op left right) (held temps.new memory.now)) (λ _. Does (globals_of (program linked.now) text) (held temps.old memory.now) (Binary to.now op left right) (held temps.new memory.now)) }
 {
-    match operand(linked, text, temps, left_class(op, to.class), left) {
-        Some(first) => match operand(linked, text, temps, right_class(op, to.class), right) {
-            Some(second) => match operate_two(memory, op, to.class, first, second) {
-                Some(made) => {
-                    temps.set(to.temp.number(), made);
-                    true
-                }
-                None => false,
-            },
-            None => false,
-        },
-        None => false,
-    }
+    let first = operand(linked, text, temps, left_class(op, to.class), left)?;
+    let second = operand(linked, text, temps, right_class(op, to.class), right)?;
+    let made = operate_two(memory, op, to.class, first, second)?;
+    temps.set(to.temp.number(), made);
+    Some(())
 }
 
-/// `to = op left, right`. Answers whether it was done: not where it is undefined.
+/// `to = op left, right`. None, and nothing changes, where it is undefined.
 fn binary(
     linked: &Linked<'_>,
     text: usize,
@@ -101,17 +87,17 @@ fn binary(
     op: &BinaryOp,
     left: &Val,
     right: &Val,
-) -> bool
-    ensures { MatchBool result (Does (globals_of (program linked.now) text) (held temps.old memory.now) (Binary to.now op.now left.now right.now) (held temps.new memory.now)) (temps.new ≡ temps.old) }
+) -> Option<()>
+    ensures { MatchOption result (Undone (globals_of (program linked.now) text) (held temps.old memory.now) (Binary to.now op.now left.now right.now) (held temps.new memory.now)) (λ _. Does (globals_of (program linked.now) text) (held temps.old memory.now) (Binary to.now op.now left.now right.now) (held temps.new memory.now)) }
 {
     if numbers::binary(temps, to, op, left, right) || accesses::add(temps, to, op, left, right) {
-        true
+        Some(())
     } else {
         on_values(linked, text, temps, memory, to, *op, *left, *right)
     }
 }
 
-/// `store value, at`, of any value. Answers whether it was done: not where it is undefined.
+/// `store value, at`, of any value. None, and nothing changes, where it is undefined.
 #[inline(never)]
 #[tactic(auto, unfolding(il_ast::specs::Effect::inst_effect))]
 fn store_value(
@@ -122,19 +108,15 @@ fn store_value(
     size: Size,
     value: Val,
     at: Val,
-) -> bool
-    ensures { MatchBool result (Does (globals_of (program linked.now) text) (held temps.now memory.old) (Store size value at) (held temps.now memory.new)) (memory.new ≡ memory.old) }
+) -> Option<()>
+    ensures { MatchOption result (Undone (globals_of (program linked.now) text) (held temps.now memory.old) (Store size value at) (held temps.now memory.new)) (λ _. Does (globals_of (program linked.now) text) (held temps.now memory.old) (Store size value at) (held temps.now memory.new)) }
 {
-    match operand(linked, text, temps, stored_class(size), value) {
-        Some(found) => match operand(linked, text, temps, Class::L, at) {
-            Some(place) => memory.store(place, found, size).is_some(),
-            None => false,
-        },
-        None => false,
-    }
+    let found = operand(linked, text, temps, stored_class(size), value)?;
+    let place = operand(linked, text, temps, Class::L, at)?;
+    memory.store(place, found, size)
 }
 
-/// `store value, at`. Answers whether it was done: not where it is undefined.
+/// `store value, at`. None, and nothing changes, where it is undefined.
 fn store(
     linked: &Linked<'_>,
     text: usize,
@@ -143,25 +125,25 @@ fn store(
     size: &Size,
     value: &Val,
     at: &Val,
-) -> bool
-    ensures { MatchBool result (Does (globals_of (program linked.now) text) (held temps.now memory.old) (Store size.now value.now at.now) (held temps.now memory.new)) (memory.new ≡ memory.old) }
+) -> Option<()>
+    ensures { MatchOption result (Undone (globals_of (program linked.now) text) (held temps.now memory.old) (Store size.now value.now at.now) (held temps.now memory.new)) (λ _. Does (globals_of (program linked.now) text) (held temps.now memory.old) (Store size.now value.now at.now) (held temps.now memory.new)) }
 {
     if accesses::store(temps, memory, size, value, at) {
-        true
+        Some(())
     } else {
         store_value(linked, text, temps, memory, *size, *value, *at)
     }
 }
 
-/// Does an instruction of a text, where it is one of these and is defined. Answers whether it was done.
-fn instruction(
+/// Does an instruction of a text, where it is one of these. None, and nothing changes, where it is undefined or another one.
+pub fn instruction(
     linked: &Linked<'_>,
     text: usize,
     temps: &mut Slots,
     memory: &mut BlockMemory,
     inst: &Inst,
-) -> bool
-    ensures { MatchBool result (Does (globals_of (program linked.now) text) (held temps.old memory.old) inst.now (held temps.new memory.new)) (held temps.new memory.new ≡ held temps.old memory.old) }
+) -> Option<()>
+    ensures { MatchOption result (Undone (globals_of (program linked.now) text) (held temps.old memory.old) inst.now (held temps.new memory.new)) (λ _. Does (globals_of (program linked.now) text) (held temps.old memory.old) inst.now (held temps.new memory.new)) }
 {
     match inst {
         Inst::Binary {
@@ -172,7 +154,7 @@ fn instruction(
         } => binary(linked, text, temps, memory, to, op, left, right),
         Inst::Unary { to, op, value } => unary(linked, text, temps, memory, to, op, value),
         Inst::Store { size, value, at } => store(linked, text, temps, memory, size, value, at),
-        Inst::Alloc { .. } | Inst::Blit { .. } | Inst::Call { .. } => false,
+        Inst::Alloc { .. } | Inst::Blit { .. } | Inst::Call { .. } => None,
     }
 }
 
@@ -201,8 +183,9 @@ pub fn operate_in_row(
         count
     };
     for at in next..end {
-        if !instruction(linked, text, temps, memory, &insts[at].item) {
-            return at;
+        match instruction(linked, text, temps, memory, &insts[at].item) {
+            Some(()) => {}
+            None => return at,
         }
     }
     end

@@ -83,10 +83,7 @@ impl Slots {
     pub fn get(&self, at: usize) -> Option<Value>
         ensures { result ≡ option_flatten (slice_get self.now at) }
     {
-        match self.slots.get(at) {
-            Some(slot) => value_in(*slot),
-            None => None,
-        }
+        value_in(*self.slots.get(at)?)
     }
 
     /// The number that a temporary holds, if that is an integer.

@@ -48,35 +48,24 @@ impl Place {
 
     /// The block of the text that the turn is due in.
     pub fn in_block<'a>(self, linked: &Linked<'a>) -> Option<&'a Block> {
-        match linked.functions.as_slice().get(self.function) {
-            Some(function) => function.item.blocks.as_slice().get(self.block),
-            None => None,
-        }
+        let function = linked.functions.as_slice().get(self.function)?;
+        function.item.blocks.as_slice().get(self.block)
     }
 
     /// The instruction that is due, or none where it is the jump.
     pub fn instruction<'a>(self, linked: &Linked<'a>) -> Option<&'a Inst> {
-        match self.in_block(linked) {
-            Some(block) => match block.insts.as_slice().get(self.next) {
-                Some(inst) => Some(&inst.item),
-                None => None,
-            },
-            None => None,
-        }
+        let block = self.in_block(linked)?;
+        Some(&block.insts.as_slice().get(self.next)?.item)
     }
 
     /// The line of the text at which the turn is due.
     pub fn line(self, linked: &Linked<'_>) -> usize {
-        let block = match self.in_block(linked) {
-            Some(block) => block,
-            None => return 1,
+        let Some(block) = self.in_block(linked) else {
+            return 1;
         };
         match block.insts.as_slice().get(self.next) {
             Some(inst) => inst.line,
-            None => match &block.jump {
-                Some(jump) => jump.line,
-                None => block.line,
-            },
+            None => block.jump.as_ref().map_or(block.line, |jump| jump.line),
         }
     }
 }
@@ -111,9 +100,9 @@ fn place_of(frame: &Frame) -> Place {
 /// What the instruction at a place assigns, where it isn't a call.
 fn assigned_at(linked: &Linked<'_>, place: Place) -> Option<Dest> {
     match place.instruction(linked) {
-        Some(Inst::Unary { to, .. }) => Some(*to),
-        Some(Inst::Binary { to, .. }) => Some(*to),
-        Some(Inst::Alloc { to, .. }) => Some(*to),
+        Some(Inst::Unary { to, .. } | Inst::Binary { to, .. } | Inst::Alloc { to, .. }) => {
+            Some(*to)
+        }
         _ => None,
     }
 }
@@ -153,11 +142,11 @@ impl Watch {
         if self.last == 0 {
             return Ok(());
         }
-        let assigned = match assigned_at(linked, self.place) {
+        let place = self.place;
+        let assigned = match assigned_at(linked, place) {
             Some(to) => state.frame.temps.get(to.temp.number()),
             None => None,
         };
-        let place = self.place;
         self.note_turn(Turn { place, assigned })
     }
 
@@ -176,12 +165,9 @@ impl Watch {
             self.turns.push(turn)?;
             return Ok(());
         }
-        match self.turns.get_mut(self.oldest) {
-            Some(oldest) => {
-                *oldest = turn;
-                self.oldest = self.oldest.saturating_add(1);
-            }
-            None => {}
+        if let Some(oldest) = self.turns.get_mut(self.oldest) {
+            *oldest = turn;
+            self.oldest = self.oldest.saturating_add(1);
         }
         if self.oldest >= self.turns.len() {
             self.oldest = 0;
@@ -226,10 +212,7 @@ impl Watch {
 
     /// Where the block with this number was made, if that is remembered.
     pub(crate) fn maker(&self, block: u128) -> Option<Place> {
-        if block < self.first {
-            return None;
-        }
-        if self.made.saturating_sub(block) >= MOST_MAKERS as u128 {
+        if block < self.first || self.made.saturating_sub(block) >= MOST_MAKERS as u128 {
             return None;
         }
         self.makers.get(maker_at(block - self.first)).copied()

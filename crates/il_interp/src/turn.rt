@@ -1,15 +1,15 @@
 //! One turn.
 ghost use Rattle.std.specs.Prelude.{◌≡◌, ◌+◌, ◌<◌, ◌^◌, Some, slice_get, IfOk};
 ghost use Rattle.il_ast.specs.Start.{globals_of};
-ghost use Rattle.il_ast.specs.Effect.{inst_effect, turn_of, turn_in, end_effect};
+ghost use Rattle.il_ast.specs.Effect.{inst_effect, turn_of};
 ghost use Rattle.obj_link.specs.Shown.{shown};
 ghost use Rattle.il_interp.specs.Prepared.{program_of};
 ghost use Rattle.il_interp.specs.Machine.{act_of, env_of, locals_of, inst_next, react, stepped, step};
 
 use crate::call::call;
-use crate::instruction::{allocate, binary, blit, store, unary};
+use crate::instruction::{allocate, blit, in_row};
 use crate::jump::jump;
-use crate::operand::function_at;
+use crate::operand::{block_at, function_at};
 use crate::prepared::Prepared;
 use crate::state::State;
 use il_ast::block::Block;
@@ -32,19 +32,14 @@ fn instruction(
 {
     let linked = prepared.linked;
     match inst {
-        Inst::Unary { to, op, value } => Ok(unary(linked, text, state, *to, *op, *value)),
-        Inst::Binary {
-            to,
-            op,
-            left,
-            right,
-        } => Ok(binary(linked, text, state, *to, *op, *left, *right)),
+        Inst::Unary { .. } | Inst::Binary { .. } | Inst::Store { .. } => {
+            Ok(in_row(linked, text, state, inst))
+        }
         Inst::Alloc {
             to,
             alignment,
             size,
         } => allocate(linked, text, state, *to, *alignment, *size),
-        Inst::Store { size, value, at } => Ok(store(linked, text, state, *size, *value, *at)),
         Inst::Blit { from, to, count } => Ok(blit(linked, text, state, *from, *to, *count)),
         Inst::Call { to, callee, args } => {
             call(alloc, prepared, text, state, to, *callee, args.as_slice())
@@ -88,11 +83,10 @@ pub fn turn(
 ) -> Result<Option<End>, AllocError>
     ensures { IfOk result (λ end. step (program_of prepared.now) state.old ≡ stepped state.new end) }
 {
-    match function_at(prepared.linked, state.frame.function) {
-        Some(function) => match function.item.blocks.as_slice().get(state.frame.block) {
-            Some(block) => turn_in_block(alloc, prepared, function, block, state, values),
-            None => Ok(Some(End::Undefined)),
-        },
-        None => Ok(Some(End::Undefined)),
+    if let Some(function) = function_at(prepared.linked, state.frame.function)
+        && let Some(block) = block_at(function, state.frame.block)
+    {
+        return turn_in_block(alloc, prepared, function, block, state, values);
     }
+    Ok(Some(End::Undefined))
 }

@@ -28,7 +28,7 @@ pub(crate) fn is_word_start(b: u8) -> bool
 fn is_word_part(b: u8) -> bool
     ensures { result ≡ is_word_part b }
 {
-    is_word_start(b) || b.is_ascii_digit() || b == b'$'
+    b.is_ascii_alphabetic() || b.is_ascii_digit() || matches!(b, b'_' | b'.' | b'$')
 }
 
 fn is_symbol(b: u8) -> bool

@@ -30,11 +30,6 @@ abbrev pub GivesText : Step (List ℕ) → State → State → Result (Bor (List
 GivesText step old new result =
     MatchResult result (λ text. step old ≡ Some (text.now, new)) (λ e. e ≡ Syntax → step old ≡ None)
 
--- a table of words, as the code keeps it
-abbrev pub rows_of : {A : Type 0} → List (Bor (List ℕ) × A) → List (List ℕ × A)
-rows_of [] = []
-rows_of (row ∷ rows) = (row.0.now, row.1) ∷ rows_of rows
-
 -- what a step reads, behind what has been read
 abbrev pub appended : {A : Type 0} → List A → Option (List A × State) → Option (List A × State)
 appended xs read = option_map (λ x. (xs ++ x.0, x.1)) read

@@ -1,4 +1,5 @@
 pub mod State
+pub mod Keys
 pub mod Rules
 pub mod Words
 pub mod Grammar

@@ -19,15 +19,6 @@ use il_ast::instruction::{Inst, Jump, Lined};
 use il_ast::label::Label;
 use il_ast::list::Seq;
 
-/// Reads a line of a block before its jump.
-fn statement_line(reader: &mut Reader<'_>) -> Result<Statement, Unread>
-    ensures { Gives (on_line statement) reader.old reader.new result }
-{
-    let statement = statement(reader)?;
-    line_ends(reader)?;
-    Ok(statement)
-}
-
 /// Reads a label on its line.
 fn label_line(reader: &mut Reader<'_>) -> Result<Label, Unread>
     ensures { Gives (on_line label) reader.old reader.new result }
@@ -70,19 +61,21 @@ fn push_line(
         (λ begun_now. with_line begun phis.old insts.old (on_line statement reader.old) ≡ Some (((phis.new, insts.new), begun_now), reader.new))
         (λ e. e ≡ Syntax → with_line begun phis.old insts.old (on_line statement reader.old) ≡ None) }
 {
-    match statement_line(reader)? {
+    let is_inst = match statement(reader)? {
         Statement::Phi(phi) => {
-            if begun {
-                return Err(Unread::Syntax);
-            }
             phis.push(phi)?;
-            Ok(false)
+            false
         }
         Statement::Inst(inst) => {
             insts.push(inst)?;
-            Ok(true)
+            true
         }
+    };
+    line_ends(reader)?;
+    if begun && !is_inst {
+        return Err(Unread::Syntax);
     }
+    Ok(is_inst)
 }
 
 /// Reads the lines of a block before its jump behind others, where no instruction is among these.

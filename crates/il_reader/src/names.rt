@@ -1,24 +1,60 @@
 //! Names, numbered in order of first appearance.
-ghost use Rattle.std.specs.Prelude.{◌≡◌, ◌<◌, [], length, map, OnOk, IfOk, IfSome};
+ghost use Rattle.std.specs.Prelude.{◌≡◌, ◌<◌, [], ◌∷◌, nat_eq, length, map, OnOk, IfOk, IfSome};
+ghost use Rattle.std.specs.Cmp.Lexicographic.{pointwise, nat_list_eq_equiv};
+ghost use Rattle.std.specs.Cmp.{partial_equiv_from_equiv, on_per, on_equiv};
+ghost use Rattle.std.specs.Cmp.Rules.{hashing};
+ghost use Rattle.std.proofs.Common.{rules};
 ghost use Rattle.il_reader.specs.State.{place, with_name};
+ghost use Rattle.il_reader.specs.Keys.{key_bytes};
 
 use crate::words::is_text;
 use il_ast::list::Seq;
 use il_ast::name::Name;
 use indexmap::IndexSet;
 use std::alloc::{AllocError, Global};
+use std::hash::{Hash, Hasher};
 use std::marker::Model;
 
 /// Among so few names one is looked for without its hash.
 const FEW: usize = 8;
 
+/// A name in a set. Its bytes are hashed at once, and compared one by one.
+#[derive(Clone, Copy)]
+struct Key<'a> {
+    bytes: &'a [u8],
+}
+
+impl<'a> PartialEq for Key<'a> {
+    ghost eq = { λ one other. pointwise nat_eq (key_bytes one) (key_bytes other) };
+
+    ghost laws = { on_per key_bytes (partial_equiv_from_equiv nat_list_eq_equiv) };
+
+    fn eq(&self, other: &Self) -> bool {
+        is_text(other.bytes, self.bytes)
+    }
+}
+
+impl<'a> Eq for Key<'a> {
+    ghost laws = { on_equiv key_bytes nat_list_eq_equiv };
+}
+
+impl<'a> Hash for Key<'a> {
+    ghost hash_input = { λ key. key_bytes key ∷ [] };
+
+    ghost respects_eq = { Prim.search (hashing, rules) };
+
+    fn hash<H: Hasher>(&self, state: &mut H) {
+        state.write(self.bytes);
+    }
+}
+
 /// Where a name stands among others, if it does.
-fn place_among(names: &[&[u8]], name: &[u8]) -> Option<usize>
+fn place_among(names: &[Key<'_>], name: &[u8]) -> Option<usize>
     ensures within { IfSome result (λ k. k < length names.now) }
-    ensures place { IfSome result (λ k. k ≡ place name.now (map (λ n. n.now) names.now)) }
+    ensures place { IfSome result (λ k. k ≡ place name.now (map key_bytes names.now)) }
 {
     for (k, other) in names.iter().enumerate() {
-        if is_text(name, other) {
+        if is_text(name, other.bytes) {
             return Some(k);
         }
     }
@@ -28,15 +64,16 @@ fn place_among(names: &[&[u8]], name: &[u8]) -> Option<usize>
 /// Names, each once, in order of first appearance. They lie in the text.
 #[derive(Drop)]
 pub(crate) struct Names<'a> {
-    names: IndexSet<&'a [u8]>,
+    names: IndexSet<Key<'a>>,
 }
 
 impl<'a> Model for Names<'a> {
     ghost use Rattle.std.specs.Prelude.{ℕ, List, map};
+    ghost use Rattle.il_reader.specs.Keys.{key_bytes};
 
     ghost Value = { List (List ℕ) };
 
-    ghost view = { λ n. map (λ name. name.now) n.names.keys };
+    ghost view = { λ n. map key_bytes n.names.keys };
 }
 
 impl<'a> Names<'a> {
@@ -59,7 +96,7 @@ impl<'a> Names<'a> {
                 return Ok(place);
             }
         }
-        let (place, _) = self.names.insert_full(name)?;
+        let (place, _) = self.names.insert_full(Key { bytes: name })?;
         Ok(place)
     }
 
@@ -78,12 +115,12 @@ impl<'a> Names<'a> {
     }
 }
 
-fn copied(alloc: Global, names: &[&[u8]]) -> Result<Seq<Name>, AllocError>
-    ensures { IfOk result (λ copies. copies ≡ map (λ name. name.now) names.now) }
+fn copied(alloc: Global, names: &[Key<'_>]) -> Result<Seq<Name>, AllocError>
+    ensures { IfOk result (λ copies. copies ≡ map key_bytes names.now) }
 {
     let mut copies = Seq::from_vec(Vec::with_capacity(alloc, names.len())?);
     for name in names {
-        let bytes = Vec::from_slice(alloc, name)?;
+        let bytes = Vec::from_slice(alloc, name.bytes)?;
         copies.push(Seq::from_vec(bytes))?;
     }
     Ok(copies)

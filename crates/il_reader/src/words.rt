@@ -1,191 +1,158 @@
 //! The words of classes, sizes and operations (QBE IL reference, "Types" and "Instructions").
-ghost use Rattle.std.specs.Prelude.{◌≡◌, codes};
-ghost use Rattle.il_reader.specs.Reading.{word_in, class_of, size_of, unary_of, binary_of, alloc_of, store_of, is_text};
+ghost use Rattle.std.specs.Prelude.{◌≡◌, ◌++◌, codes};
+ghost use Rattle.il_reader.specs.Reading.{class_of, size_of, unary_of, binary_of, alloc_of, store_of, is_text};
 ghost use Rattle.il_reader.specs.Blocks.{operation_of, is_jump};
-ghost use Rattle.il_reader.specs.Gives.{rows_of};
 
 use crate::statement::Operation;
 use il_ast::operation::{Alignment, BinaryOp, Class, Condition, Extension, Size, UnaryOp};
 
-/// Whether a text is a word. Most aren't even as long.
-#[tactic(auto, using(crate::proofs::Interning::other_length))]
+/// Whether a text is a word.
 pub(crate) fn is_text(word: &[u8], text: &[u8]) -> bool
     ensures { result ≡ is_text word.now text.now }
 {
-    text.len() == word.len() && text == word
+    text.iter().eq(word)
 }
-
-/// What a word means in a table of words.
-fn word_in<T: Copy>(table: &[(&[u8], T)], text: &[u8]) -> Option<T>
-    ensures { result ≡ word_in (rows_of table.now) text.now }
-{
-    for (word, meaning) in table {
-        if is_text(word, text) {
-            return Some(*meaning);
-        }
-    }
-    None
-}
-
-const CLASSES: [(&[u8], Class); 2] = [(b"w", Class::W), (b"l", Class::L)];
 
 /// The class that a word names.
 pub(crate) fn class_of(text: &[u8]) -> Option<Class>
     ensures { result ≡ class_of text.now }
 {
-    word_in(&CLASSES, text)
+    match text {
+        b"w" => Some(Class::W),
+        b"l" => Some(Class::L),
+        _ => None,
+    }
 }
-
-const SIZES: [(&[u8], Size); 4] = [
-    (b"b", Size::Byte),
-    (b"h", Size::Half),
-    (b"w", Size::Word),
-    (b"l", Size::Long),
-];
 
 /// The size that a word names.
 pub(crate) fn size_of(text: &[u8]) -> Option<Size>
     ensures { result ≡ size_of text.now }
 {
-    word_in(&SIZES, text)
+    match text {
+        b"b" => Some(Size::Byte),
+        b"h" => Some(Size::Half),
+        b"w" => Some(Size::Word),
+        b"l" => Some(Size::Long),
+        _ => None,
+    }
 }
-
-const STORES: [(&[u8], Size); 4] = [
-    (b"storeb", Size::Byte),
-    (b"storeh", Size::Half),
-    (b"storew", Size::Word),
-    (b"storel", Size::Long),
-];
 
 /// The size of the store that a word names.
 pub(crate) fn store_of(text: &[u8]) -> Option<Size>
     ensures { result ≡ store_of text.now }
 {
-    word_in(&STORES, text)
+    match text {
+        [b's', b't', b'o', b'r', b'e', size @ ..] => size_of(size),
+        _ => None,
+    }
 }
 
-const ALLOCS: [(&[u8], Alignment); 3] = [
-    (b"alloc4", Alignment::Four),
-    (b"alloc8", Alignment::Eight),
-    (b"alloc16", Alignment::Sixteen),
-];
+/// The alignment that a word behind `alloc` names.
+fn alignment_of(text: &[u8]) -> Option<Alignment>
+    ensures { result ≡ alloc_of (codes "alloc" ++ text.now) }
+{
+    match text {
+        b"4" => Some(Alignment::Four),
+        b"8" => Some(Alignment::Eight),
+        b"16" => Some(Alignment::Sixteen),
+        _ => None,
+    }
+}
 
 /// The alignment of the `alloc` that a word names.
 pub(crate) fn alloc_of(text: &[u8]) -> Option<Alignment>
     ensures { result ≡ alloc_of text.now }
 {
-    word_in(&ALLOCS, text)
+    match text {
+        [b'a', b'l', b'l', b'o', b'c', alignment @ ..] => alignment_of(alignment),
+        _ => None,
+    }
 }
 
-const UNARY_OPERATIONS: [(&[u8], UnaryOp); 16] = [
-    (b"loadw", UnaryOp::Load(Extension::SignedWord)),
-    (b"neg", UnaryOp::Neg),
-    (b"copy", UnaryOp::Copy),
-    (b"extsw", UnaryOp::Extend(Extension::SignedWord)),
-    (b"extuw", UnaryOp::Extend(Extension::UnsignedWord)),
-    (b"extsh", UnaryOp::Extend(Extension::SignedHalf)),
-    (b"extuh", UnaryOp::Extend(Extension::UnsignedHalf)),
-    (b"extsb", UnaryOp::Extend(Extension::SignedByte)),
-    (b"extub", UnaryOp::Extend(Extension::UnsignedByte)),
-    (b"loadl", UnaryOp::LoadLong),
-    (b"loadsw", UnaryOp::Load(Extension::SignedWord)),
-    (b"loaduw", UnaryOp::Load(Extension::UnsignedWord)),
-    (b"loadsh", UnaryOp::Load(Extension::SignedHalf)),
-    (b"loaduh", UnaryOp::Load(Extension::UnsignedHalf)),
-    (b"loadsb", UnaryOp::Load(Extension::SignedByte)),
-    (b"loadub", UnaryOp::Load(Extension::UnsignedByte)),
-];
+/// The load that a word behind `load` names.
+fn load_of(text: &[u8]) -> Option<UnaryOp>
+    ensures { result ≡ unary_of (codes "load" ++ text.now) }
+{
+    match text {
+        b"w" | b"sw" => Some(UnaryOp::Load(Extension::SignedWord)),
+        b"uw" => Some(UnaryOp::Load(Extension::UnsignedWord)),
+        b"sh" => Some(UnaryOp::Load(Extension::SignedHalf)),
+        b"uh" => Some(UnaryOp::Load(Extension::UnsignedHalf)),
+        b"sb" => Some(UnaryOp::Load(Extension::SignedByte)),
+        b"ub" => Some(UnaryOp::Load(Extension::UnsignedByte)),
+        b"l" => Some(UnaryOp::LoadLong),
+        _ => None,
+    }
+}
 
 /// The operation with one operand that a word names.
 pub(crate) fn unary_of(text: &[u8]) -> Option<UnaryOp>
     ensures { result ≡ unary_of text.now }
 {
-    word_in(&UNARY_OPERATIONS, text)
+    match text {
+        [b'l', b'o', b'a', b'd', load @ ..] => load_of(load),
+        b"neg" => Some(UnaryOp::Neg),
+        b"copy" => Some(UnaryOp::Copy),
+        b"extsw" => Some(UnaryOp::Extend(Extension::SignedWord)),
+        b"extuw" => Some(UnaryOp::Extend(Extension::UnsignedWord)),
+        b"extsh" => Some(UnaryOp::Extend(Extension::SignedHalf)),
+        b"extuh" => Some(UnaryOp::Extend(Extension::UnsignedHalf)),
+        b"extsb" => Some(UnaryOp::Extend(Extension::SignedByte)),
+        b"extub" => Some(UnaryOp::Extend(Extension::UnsignedByte)),
+        _ => None,
+    }
 }
 
-const BINARY_OPERATIONS: [(&[u8], BinaryOp); 33] = [
-    (b"add", BinaryOp::Add),
-    (b"sub", BinaryOp::Sub),
-    (b"mul", BinaryOp::Mul),
-    (b"and", BinaryOp::And),
-    (b"or", BinaryOp::Or),
-    (b"xor", BinaryOp::Xor),
-    (b"div", BinaryOp::Div),
-    (b"rem", BinaryOp::Rem),
-    (b"udiv", BinaryOp::Udiv),
-    (b"urem", BinaryOp::Urem),
-    (b"sar", BinaryOp::Sar),
-    (b"shr", BinaryOp::Shr),
-    (b"shl", BinaryOp::Shl),
-    (b"ceqw", BinaryOp::Compare(Condition::Equal, Class::W)),
-    (b"cnew", BinaryOp::Compare(Condition::NotEqual, Class::W)),
-    (
-        b"cslew",
-        BinaryOp::Compare(Condition::SignedLessEqual, Class::W),
-    ),
-    (b"csltw", BinaryOp::Compare(Condition::SignedLess, Class::W)),
-    (
-        b"csgew",
-        BinaryOp::Compare(Condition::SignedGreaterEqual, Class::W),
-    ),
-    (
-        b"csgtw",
-        BinaryOp::Compare(Condition::SignedGreater, Class::W),
-    ),
-    (
-        b"culew",
-        BinaryOp::Compare(Condition::UnsignedLessEqual, Class::W),
-    ),
-    (
-        b"cultw",
-        BinaryOp::Compare(Condition::UnsignedLess, Class::W),
-    ),
-    (
-        b"cugew",
-        BinaryOp::Compare(Condition::UnsignedGreaterEqual, Class::W),
-    ),
-    (
-        b"cugtw",
-        BinaryOp::Compare(Condition::UnsignedGreater, Class::W),
-    ),
-    (b"ceql", BinaryOp::Compare(Condition::Equal, Class::L)),
-    (b"cnel", BinaryOp::Compare(Condition::NotEqual, Class::L)),
-    (
-        b"cslel",
-        BinaryOp::Compare(Condition::SignedLessEqual, Class::L),
-    ),
-    (b"csltl", BinaryOp::Compare(Condition::SignedLess, Class::L)),
-    (
-        b"csgel",
-        BinaryOp::Compare(Condition::SignedGreaterEqual, Class::L),
-    ),
-    (
-        b"csgtl",
-        BinaryOp::Compare(Condition::SignedGreater, Class::L),
-    ),
-    (
-        b"culel",
-        BinaryOp::Compare(Condition::UnsignedLessEqual, Class::L),
-    ),
-    (
-        b"cultl",
-        BinaryOp::Compare(Condition::UnsignedLess, Class::L),
-    ),
-    (
-        b"cugel",
-        BinaryOp::Compare(Condition::UnsignedGreaterEqual, Class::L),
-    ),
-    (
-        b"cugtl",
-        BinaryOp::Compare(Condition::UnsignedGreater, Class::L),
-    ),
-];
+/// The comparison that a word behind `c` names.
+fn comparison_of(text: &[u8]) -> Option<BinaryOp>
+    ensures { result ≡ binary_of (codes "c" ++ text.now) }
+{
+    match text {
+        b"eqw" => Some(BinaryOp::Compare(Condition::Equal, Class::W)),
+        b"new" => Some(BinaryOp::Compare(Condition::NotEqual, Class::W)),
+        b"slew" => Some(BinaryOp::Compare(Condition::SignedLessEqual, Class::W)),
+        b"sltw" => Some(BinaryOp::Compare(Condition::SignedLess, Class::W)),
+        b"sgew" => Some(BinaryOp::Compare(Condition::SignedGreaterEqual, Class::W)),
+        b"sgtw" => Some(BinaryOp::Compare(Condition::SignedGreater, Class::W)),
+        b"ulew" => Some(BinaryOp::Compare(Condition::UnsignedLessEqual, Class::W)),
+        b"ultw" => Some(BinaryOp::Compare(Condition::UnsignedLess, Class::W)),
+        b"ugew" => Some(BinaryOp::Compare(Condition::UnsignedGreaterEqual, Class::W)),
+        b"ugtw" => Some(BinaryOp::Compare(Condition::UnsignedGreater, Class::W)),
+        b"eql" => Some(BinaryOp::Compare(Condition::Equal, Class::L)),
+        b"nel" => Some(BinaryOp::Compare(Condition::NotEqual, Class::L)),
+        b"slel" => Some(BinaryOp::Compare(Condition::SignedLessEqual, Class::L)),
+        b"sltl" => Some(BinaryOp::Compare(Condition::SignedLess, Class::L)),
+        b"sgel" => Some(BinaryOp::Compare(Condition::SignedGreaterEqual, Class::L)),
+        b"sgtl" => Some(BinaryOp::Compare(Condition::SignedGreater, Class::L)),
+        b"ulel" => Some(BinaryOp::Compare(Condition::UnsignedLessEqual, Class::L)),
+        b"ultl" => Some(BinaryOp::Compare(Condition::UnsignedLess, Class::L)),
+        b"ugel" => Some(BinaryOp::Compare(Condition::UnsignedGreaterEqual, Class::L)),
+        b"ugtl" => Some(BinaryOp::Compare(Condition::UnsignedGreater, Class::L)),
+        _ => None,
+    }
+}
 
 /// The operation with two operands that a word names.
 pub(crate) fn binary_of(text: &[u8]) -> Option<BinaryOp>
     ensures { result ≡ binary_of text.now }
 {
-    word_in(&BINARY_OPERATIONS, text)
+    match text {
+        [b'c', comparison @ ..] => comparison_of(comparison),
+        b"add" => Some(BinaryOp::Add),
+        b"sub" => Some(BinaryOp::Sub),
+        b"mul" => Some(BinaryOp::Mul),
+        b"and" => Some(BinaryOp::And),
+        b"or" => Some(BinaryOp::Or),
+        b"xor" => Some(BinaryOp::Xor),
+        b"div" => Some(BinaryOp::Div),
+        b"rem" => Some(BinaryOp::Rem),
+        b"udiv" => Some(BinaryOp::Udiv),
+        b"urem" => Some(BinaryOp::Urem),
+        b"sar" => Some(BinaryOp::Sar),
+        b"shr" => Some(BinaryOp::Shr),
+        b"shl" => Some(BinaryOp::Shl),
+        _ => None,
+    }
 }
 
 /// What the word behind a destination asks for.
@@ -214,5 +181,5 @@ pub(crate) fn operation_of(text: &[u8]) -> Option<Operation>
 pub(crate) fn is_jump(text: &[u8]) -> bool
     ensures { result ≡ is_jump text.now }
 {
-    is_text(b"jmp", text) || is_text(b"jnz", text) || is_text(b"ret", text) || is_text(b"hlt", text)
+    matches!(text, b"jmp" | b"jnz" | b"ret" | b"hlt")
 }

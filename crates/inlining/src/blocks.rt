@@ -18,7 +18,7 @@ use il_ast::operation::Class;
 use il_ast::symbol::Symbol;
 use std::alloc::{AllocError, Global};
 use vcode::code::Block;
-use vcode::line::{Jump, Line};
+use vcode::line::{Jump, Line, push_lines};
 use vcode::place::{Argument, Destination};
 
 /// A call of a global name, in a block.
@@ -89,15 +89,6 @@ pub(crate) fn push_candidate(
 {
     for block in blocks {
         made.push(candidate_block(alloc, behind, base, class, to, block)?)?;
-    }
-    Ok(())
-}
-
-fn push_lines(alloc: Global, to: &mut Vec<Line<u32>>, lines: &[Line<u32>]) -> Result<(), AllocError>
-    ensures { OnOk result (to.new.items ≡ to.old.items ++ lines.now) }
-{
-    for line in lines {
-        to.push(line.try_clone(alloc)?)?;
     }
     Ok(())
 }

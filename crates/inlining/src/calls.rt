@@ -77,15 +77,6 @@ fn as_it_is(alloc: Global, function: &VFunc, weight_left: u64) -> Result<Growth,
     })
 }
 
-/// The numbers of so many blocks.
-fn numbers(alloc: Global, count: usize) -> Result<Vec<usize>, AllocError> {
-    let mut numbers = Vec::with_capacity(alloc, count)?;
-    for number in 0..count {
-        numbers.push(number)?;
-    }
-    Ok(numbers)
-}
-
 /// The same; what is left of the block behind the call is a block that is due then.
 fn placed_at(
     alloc: Global,
@@ -116,7 +107,7 @@ fn all_placed(
     ensures { IfOk result (λ g. (v : VFuncOf) → IsGrowth candidates.now v growth → IsGrowth candidates.now v g) }
 {
     let mut growth = growth;
-    let mut due = numbers(alloc, growth.blocks.len())?;
+    let mut due: Vec<usize> = (0..growth.blocks.len()).collect(alloc)?;
     for next in 0..BLOCKS {
         match due.get(next).copied() {
             Some(at) => growth = placed_at(alloc, growth, &mut due, at, candidates)?,
@@ -162,21 +153,12 @@ fn with_calls(
     Ok(made)
 }
 
-fn has_call_of(block: &Block<u32>, candidates: &[Option<VFunc>]) -> bool {
-    block
-        .lines
-        .as_slice()
-        .iter()
-        .any(|line| is_call_of(line, candidates))
-}
-
 fn calls_any(function: &VFunc, candidates: &[Option<VFunc>]) -> bool {
-    function
-        .code
-        .blocks
-        .as_slice()
-        .iter()
-        .any(|block| has_call_of(block, candidates))
+    let mut blocks = function.code.blocks.as_slice().iter();
+    blocks.any(|block| {
+        let mut lines = block.lines.as_slice().iter();
+        lines.any(|line| is_call_of(line, candidates))
+    })
 }
 
 /// The function with calls of candidates done in place. `candidates` has, for each global name of the function's text, the candidate that a call of it goes as, if it has one.

@@ -20,15 +20,15 @@ const FREE: usize = 500;
 
 /// The number of the function that the instruction calls by name, if it calls one.
 fn callee_of(targets: &[Target], inst: &Inst) -> Option<usize> {
-    match inst {
-        Inst::Call {
-            callee: Val::Global(name),
-            ..
-        } => match targets.get(name.number()) {
-            Some(Target::Code(Callee::Defined(number))) => Some(*number),
-            _ => None,
-        },
-        _ => None,
+    if let Inst::Call {
+        callee: Val::Global(name),
+        ..
+    } = inst
+        && let Some(Target::Code(Callee::Defined(number))) = targets.get(name.number())
+    {
+        Some(*number)
+    } else {
+        None
     }
 }
 
@@ -45,25 +45,21 @@ const UNMEASURED: Candidate = Candidate { size: 0, calls: 0 };
 
 /// How many instructions the function has.
 fn size_of(function: &Func) -> usize {
-    let mut size = 0usize;
-    for block in function.blocks.as_slice() {
-        size = size.saturating_add(block.insts.len());
-    }
-    size
+    let blocks = function.blocks.as_slice().iter();
+    blocks.fold(
+        0usize,
+        |size: usize, block| size.saturating_add(block.insts.len()),
+    )
 }
 
-/// Counts what an instruction calls by name.
-fn count_call(candidates: &mut [Candidate], targets: &[Target], inst: &Inst) {
-    if let Some(number) = callee_of(targets, inst) {
-        if let Some(candidate) = candidates.get_mut(number) {
-            candidate.calls = candidate.calls.saturating_add(1);
-        }
-    }
-}
-
+/// Counts what the instructions of the block call by name.
 fn count_in_block(candidates: &mut [Candidate], targets: &[Target], block: &Block) {
     for inst in block.insts.as_slice() {
-        count_call(candidates, targets, &inst.item);
+        if let Some(number) = callee_of(targets, &inst.item)
+            && let Some(candidate) = candidates.get_mut(number)
+        {
+            candidate.calls = candidate.calls.saturating_add(1);
+        }
     }
 }
 
@@ -88,15 +84,12 @@ fn measure(candidates: &mut [Candidate], linked: &Linked<'_>) {
 /// Adds to the copies of each size how many instructions come by all calls in place of the candidates that are called in one place, or of the others.
 fn add_copies(copies: &mut [usize], candidates: &[Candidate], are_once: bool) {
     for candidate in candidates {
-        if (candidate.calls == 1) == are_once {
-            add(copies, candidate.size, candidate.calls);
+        if (candidate.calls == 1) == are_once
+            && let Some(sum) = copies.get_mut(candidate.size)
+        {
+            let copied = candidate.size.saturating_mul(candidate.calls as usize);
+            *sum = sum.saturating_add(copied);
         }
-    }
-}
-
-fn add(copies: &mut [usize], size: usize, count: u32) {
-    if let Some(sum) = copies.get_mut(size) {
-        *sum = sum.saturating_add(size.saturating_mul(count as usize));
     }
 }
 
@@ -120,52 +113,29 @@ fn limit_below(
     candidates: &[Candidate],
     are_once: bool,
 ) -> Result<usize, AllocError> {
-    let mut copies = Vec::new(alloc);
-    copies.resize(end, 0)?;
+    let mut copies = vec![in alloc; 0usize; end]?;
     add_copies(copies.as_mut_slice(), candidates, are_once);
     Ok(limit(copies.as_slice(), most))
 }
 
 /// How many instructions may come to a program by calls in place.
 fn most_copies(candidates: &[Candidate]) -> usize {
-    let mut sum = 0usize;
-    for candidate in candidates {
-        sum = sum.saturating_add(candidate.size);
-    }
+    let sizes = candidates.iter().map(|candidate| candidate.size);
+    let sum = sizes.fold(0usize, |sum: usize, size| sum.saturating_add(size));
     (sum / 2).saturating_add(FREE)
 }
 
-/// Functions of fewer instructions are done in place: those that are called in one place, and the others.
-#[derive(Clone, Copy)]
-struct Limits {
-    once: usize,
-    often: usize,
-}
-
-fn limits_of(alloc: Global, candidates: &[Candidate]) -> Result<Limits, AllocError> {
-    let most = most_copies(candidates);
-    Ok(Limits {
-        once: limit_below(alloc, LARGE + 1, most, candidates, true)?,
-        often: limit_below(alloc, SMALL + 1, most, candidates, false)?,
-    })
-}
-
-fn is_small(limits: Limits, candidate: &Candidate) -> bool {
-    match candidate.calls {
-        0 => false,
-        1 => candidate.size < limits.once,
-        _ => candidate.size < limits.often,
-    }
-}
-
-/// For each candidate, whether it is worth doing in place.
+/// For each candidate, whether it is worth doing in place: it has fewer instructions than a limit for those that are called in one place, or one for the others.
 fn worthy_of(alloc: Global, candidates: &[Candidate]) -> Result<Vec<bool>, AllocError> {
-    let limits = limits_of(alloc, candidates)?;
-    let mut worthy = Vec::with_capacity(alloc, candidates.len())?;
-    for candidate in candidates {
-        worthy.push(is_small(limits, candidate))?;
-    }
-    Ok(worthy)
+    let most = most_copies(candidates);
+    let once = limit_below(alloc, LARGE + 1, most, candidates, true)?;
+    let often = limit_below(alloc, SMALL + 1, most, candidates, false)?;
+    let worthy = candidates.iter().map(|candidate| match candidate.calls {
+        0 => false,
+        1 => candidate.size < once,
+        _ => candidate.size < often,
+    });
+    worthy.collect(alloc)
 }
 
 /// For each function of a program, whether it is called by name, in so many places that not too many instructions come by that in all. One that calls itself is done in place in itself, too: so a recursion enters fewer calls.
@@ -174,8 +144,7 @@ fn worthy_of(alloc: Global, candidates: &[Candidate]) -> Result<Vec<bool>, Alloc
 ///
 /// Only where memory was refused.
 pub fn worthy_functions(alloc: Global, linked: &Linked<'_>) -> Result<Vec<bool>, AllocError> {
-    let mut candidates = Vec::new(alloc);
-    candidates.resize(linked.functions.len(), UNMEASURED)?;
+    let mut candidates = vec![in alloc; UNMEASURED; linked.functions.len()]?;
     measure(candidates.as_mut_slice(), linked);
     worthy_of(alloc, candidates.as_slice())
 }

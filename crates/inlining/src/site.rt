@@ -88,10 +88,10 @@ pub(crate) fn up_to_allocs(lines: &[Line<u32>]) -> usize
 /// Whether the line is a call of one of the candidates.
 pub(crate) fn is_call_of(line: &Line<u32>, candidates: &[Option<VFunc>]) -> bool {
     match line {
-        Line::Call { callee, .. } => match callee {
-            Operand::Name(name) => matches!(candidates.get(name.number()), Some(Some(_))),
-            Operand::At(_) | Operand::Number(_) => false,
-        },
+        Line::Call {
+            callee: Operand::Name(name),
+            ..
+        } => matches!(candidates.get(name.number()), Some(Some(_))),
         _ => false,
     }
 }

@@ -11,7 +11,7 @@ use rv_isa::instruction::{BranchOp, ImmOp, Instr};
 use rv_isa::labelled::{Item, LabelledCode};
 use rv_isa::ranges::{Immediate, Register};
 use rv_isa::relocation::{Filling, Partial, Relocation};
-use std::alloc::{AllocError, Global};
+use std::alloc::AllocError;
 use std::process::Abort;
 
 const X0: Register = Register { number: 0 };
@@ -63,71 +63,33 @@ const LOWER: Relocation = Relocation {
     offset: Immediate { value: 0 },
 };
 
-// Whether these are the holes of the two words of that address, in the second word and the third.
-fn are_halves(holes: &[Hole]) -> bool {
-    match holes {
-        [upper, lower] => {
-            upper.word == 1
-                && matches!(
-                    upper.filling,
-                    Filling::Part(Relocation {
-                        instruction: Partial::Upper(_),
-                        ..
-                    })
-                )
-                && lower.word == 2
-                && matches!(
-                    lower.filling,
-                    Filling::Part(Relocation {
-                        instruction: Partial::Add { .. },
-                        ..
-                    })
-                )
-        }
-        _ => false,
+// Whether a hole is that of a part of an address.
+fn part_in(hole: &Hole) -> Option<Partial> {
+    match hole.filling {
+        Filling::Part(relocation) => Some(relocation.instruction),
+        _ => None,
     }
 }
 
-// An item that goes to a label behind so many words, of which it may take three.
-#[tactic(auto, using(crate::proofs::Going::goes_ahead))]
-fn ahead(alloc: Global, going: Item, words: usize) -> Result<LabelledCode, AllocError>
-    requires some { 0 < words }
-    requires few { words < 2_000_000 }
-    requires below { has_label_below 1 going ≡ true }
-    requires takes { 0 < longest going }
-    requires short { longest going ≤ 3 }
-{
-    let mut items = vec![in alloc; NOP; words]?;
-    items[0] = going;
-    items.push(Item::Label(0))?;
-    Ok(LabelledCode::new(items, 1))
-}
-
-// The other way round.
-#[tactic(auto, using(crate::proofs::Going::goes_back))]
-fn back(alloc: Global, going: Item, words: usize) -> Result<LabelledCode, AllocError>
-    requires some { 0 < words }
-    requires few { words < 2_000_000 }
-    requires below { has_label_below 1 going ≡ true }
-    requires takes { 0 < longest going }
-    requires short { longest going ≤ 3 }
-{
-    let mut items = vec![in alloc; NOP; words]?;
-    items[0] = Item::Label(0);
-    items.push(going)?;
-    Ok(LabelledCode::new(items, 1))
+// Whether these are the holes of the two words of that address, in the second word and the third.
+fn are_halves(holes: &[Hole]) -> bool {
+    let [upper, lower] = holes else {
+        return false;
+    };
+    let has_upper = matches!(part_in(upper), Some(Partial::Upper(_)));
+    let has_lower = matches!(part_in(lower), Some(Partial::Add { .. }));
+    has_upper && upper.word == 1 && has_lower && lower.word == 2
 }
 
 // A function of so many words, which begins with the words `first` and ends with the words `last`.
 fn is_laid(
-    rt: &impl Abort,
-    alloc: Global,
+    rt: &(impl Abort + AllocGlobal),
     code: LabelledCode,
     words: usize,
     first: &[u32],
     last: &[u32],
 ) -> Result<(), AllocError> {
-    let laid = layout(alloc, CallForm::Near, code)?;
+    let laid = layout(rt.alloc(), CallForm::Near, code)?;
     is_number(rt, laid.words().len(), words);
     assert!(rt; laid.words().starts_with(first));
     assert!(rt; laid.words().ends_with(last));
@@ -135,162 +97,100 @@ fn is_laid(
     Ok(())
 }
 
+// An item that goes to a label behind so many words, of which it may take three: how many words that becomes, and the first of them.
+#[tactic(auto, using(crate::proofs::Going::goes_ahead))]
+fn ahead(
+    rt: &(impl Abort + AllocGlobal),
+    going: Item,
+    words: usize,
+    laid: usize,
+    first: &[u32],
+) -> Result<(), AllocError>
+    requires some { 0 < words }
+    requires few { words < 2_000_000 }
+    requires below { has_label_below 1 going ≡ true }
+    requires takes { 0 < longest going }
+    requires short { longest going ≤ 3 }
+{
+    let mut items = vec![in rt.alloc(); NOP; words]?;
+    items[0] = going;
+    items.push(Item::Label(0))?;
+    is_laid(rt, LabelledCode::new(items, 1), laid, first, &[NOP_WORD])
+}
+
+// The other way round, and the last words.
+#[tactic(auto, using(crate::proofs::Going::goes_back))]
+fn back(
+    rt: &(impl Abort + AllocGlobal),
+    going: Item,
+    words: usize,
+    laid: usize,
+    last: &[u32],
+) -> Result<(), AllocError>
+    requires some { 0 < words }
+    requires few { words < 2_000_000 }
+    requires below { has_label_below 1 going ≡ true }
+    requires takes { 0 < longest going }
+    requires short { longest going ≤ 3 }
+{
+    let mut items = vec![in rt.alloc(); NOP; words]?;
+    items[0] = Item::Label(0);
+    items.push(going)?;
+    is_laid(rt, LabelledCode::new(items, 1), laid, &[NOP_WORD], last)
+}
+
 // Each ahead and back, by their words at the front and at the end: a jump takes two words where `jal` might not reach.
 #[test]
 fn jumps_grow_at_the_ends_of_their_range(rt: HostRuntime) -> Result<(), AllocError> {
-    let alloc = rt.alloc();
-    let nop = &[NOP_WORD];
-    is_laid(
-        &rt,
-        alloc,
-        ahead(alloc, JUMP, 262_142)?,
-        262_142,
-        &[0x7f9f_f06f, NOP_WORD],
-        nop,
-    )?;
-    is_laid(
-        &rt,
-        alloc,
-        ahead(alloc, JUMP, 262_143)?,
-        262_144,
-        &[0x0010_0f97, 0x000f_8067],
-        nop,
-    )?;
-    is_laid(
-        &rt,
-        alloc,
-        back(alloc, JUMP, 262_144)?,
-        262_144,
-        nop,
-        &[NOP_WORD, 0x8040_006f],
-    )?;
-    is_laid(
-        &rt,
-        alloc,
-        back(alloc, JUMP, 262_145)?,
-        262_146,
-        nop,
-        &[0xfff0_0f97, 0x000f_8067],
-    )
+    ahead(&rt, JUMP, 262_142, 262_142, &[0x7f9f_f06f, NOP_WORD])?;
+    ahead(&rt, JUMP, 262_143, 262_144, &[0x0010_0f97, 0x000f_8067])?;
+    back(&rt, JUMP, 262_144, 262_144, &[NOP_WORD, 0x8040_006f])?;
+    back(&rt, JUMP, 262_145, 262_146, &[0xfff0_0f97, 0x000f_8067])
 }
 
 #[test]
 fn jumps(rt: HostRuntime) -> Result<(), AllocError> {
-    let alloc = rt.alloc();
-    let nop = &[NOP_WORD];
-    is_laid(&rt, alloc, back(alloc, JUMP, 2)?, 2, nop, &[0xffdf_f06f])?;
-    is_laid(
-        &rt,
-        alloc,
-        ahead(alloc, JUMP, 299_999)?,
-        300_000,
-        &[0x0012_5f97, 0xf80f_8067],
-        nop,
-    )?;
-    is_laid(
-        &rt,
-        alloc,
-        back(alloc, JUMP, 300_001)?,
-        300_002,
-        nop,
-        &[0xffed_bf97, 0x080f_8067],
-    )
+    back(&rt, JUMP, 2, 2, &[0xffdf_f06f])?;
+    ahead(&rt, JUMP, 299_999, 300_000, &[0x0012_5f97, 0xf80f_8067])?;
+    back(&rt, JUMP, 300_001, 300_002, &[0xffed_bf97, 0x080f_8067])
 }
 
 #[test]
 fn branches(rt: HostRuntime) -> Result<(), AllocError> {
-    let alloc = rt.alloc();
-    let nop = &[NOP_WORD];
-    is_laid(
+    ahead(&rt, BRANCH, 1023, 1024, &[0x0005_1463, 0x7fd0_006f])?;
+    ahead(
         &rt,
-        alloc,
-        ahead(alloc, BRANCH, 1023)?,
-        1024,
-        &[0x0005_1463, 0x7fd0_006f],
-        nop,
-    )?;
-    is_laid(
-        &rt,
-        alloc,
-        ahead(alloc, BRANCH_BELOW, 299_998)?,
+        BRANCH_BELOW,
+        299_998,
         300_000,
         &[0x0005_7663, 0x0012_5f97, 0xf7cf_8067],
-        nop,
     )
 }
 
 #[test]
 fn branches_ahead_grow_at_the_ends_of_their_ranges(rt: HostRuntime) -> Result<(), AllocError> {
-    let alloc = rt.alloc();
-    let nop = &[NOP_WORD];
-    is_laid(
+    ahead(&rt, BRANCH, 1021, 1021, &[0x7e05_0ae3, NOP_WORD])?;
+    ahead(&rt, BRANCH, 1022, 1023, &[0x0005_1463, 0x7f90_006f])?;
+    ahead(&rt, BRANCH, 262_141, 262_142, &[0x0005_1463, 0x7f5f_f06f])?;
+    ahead(
         &rt,
-        alloc,
-        ahead(alloc, BRANCH, 1021)?,
-        1021,
-        &[0x7e05_0ae3, NOP_WORD],
-        nop,
-    )?;
-    is_laid(
-        &rt,
-        alloc,
-        ahead(alloc, BRANCH, 1022)?,
-        1023,
-        &[0x0005_1463, 0x7f90_006f],
-        nop,
-    )?;
-    is_laid(
-        &rt,
-        alloc,
-        ahead(alloc, BRANCH, 262_141)?,
+        BRANCH,
         262_142,
-        &[0x0005_1463, 0x7f5f_f06f],
-        nop,
-    )?;
-    is_laid(
-        &rt,
-        alloc,
-        ahead(alloc, BRANCH, 262_142)?,
         262_144,
         &[0x0005_1663, 0x0010_0f97, 0xffcf_8067],
-        nop,
     )
 }
 
 #[test]
 fn branches_back_grow_at_the_ends_of_their_ranges(rt: HostRuntime) -> Result<(), AllocError> {
-    let alloc = rt.alloc();
-    let nop = &[NOP_WORD];
-    is_laid(
+    back(&rt, BRANCH, 1025, 1025, &[NOP_WORD, 0x8005_0063])?;
+    back(&rt, BRANCH, 1026, 1027, &[0x0005_1463, 0xff9f_e06f])?;
+    back(&rt, BRANCH, 262_144, 262_145, &[0x0005_1463, 0x8000_006f])?;
+    back(
         &rt,
-        alloc,
-        back(alloc, BRANCH, 1025)?,
-        1025,
-        nop,
-        &[NOP_WORD, 0x8005_0063],
-    )?;
-    is_laid(
-        &rt,
-        alloc,
-        back(alloc, BRANCH, 1026)?,
-        1027,
-        nop,
-        &[0x0005_1463, 0xff9f_e06f],
-    )?;
-    is_laid(
-        &rt,
-        alloc,
-        back(alloc, BRANCH, 262_144)?,
+        BRANCH,
         262_145,
-        nop,
-        &[0x0005_1463, 0x8000_006f],
-    )?;
-    is_laid(
-        &rt,
-        alloc,
-        back(alloc, BRANCH, 262_145)?,
         262_147,
-        nop,
         &[0x0005_1663, 0xfff0_0f97, 0xffcf_8067],
     )
 }
@@ -298,39 +198,21 @@ fn branches_back_grow_at_the_ends_of_their_ranges(rt: HostRuntime) -> Result<(),
 // One word further than each form reaches.
 #[test]
 fn branches_and_jumps_past_the_ends_of_their_ranges(rt: HostRuntime) -> Result<(), AllocError> {
-    let alloc = rt.alloc();
-    let nop = &[NOP_WORD];
-    is_laid(
+    ahead(&rt, BRANCH, 1024, 1025, &[0x0005_1463, 0x0000_106f])?;
+    ahead(&rt, JUMP, 262_144, 262_145, &[0x0010_0f97, 0x004f_8067])?;
+    ahead(
         &rt,
-        alloc,
-        ahead(alloc, BRANCH, 1024)?,
-        1025,
-        &[0x0005_1463, 0x0000_106f],
-        nop,
-    )?;
-    is_laid(
-        &rt,
-        alloc,
-        ahead(alloc, JUMP, 262_144)?,
-        262_145,
-        &[0x0010_0f97, 0x004f_8067],
-        nop,
-    )?;
-    is_laid(
-        &rt,
-        alloc,
-        ahead(alloc, BRANCH_UNEQUAL, 262_143)?,
+        BRANCH_UNEQUAL,
+        262_143,
         262_145,
         &[0x0005_0663, 0x0010_0f97, 0x000f_8067],
-        nop,
     )?;
-    is_laid(
+    ahead(
         &rt,
-        alloc,
-        ahead(alloc, BRANCH_UNEQUAL, 262_144)?,
+        BRANCH_UNEQUAL,
+        262_144,
         262_146,
         &[0x0005_0663, 0x0010_0f97, 0x004f_8067],
-        nop,
     )
 }
 

@@ -12,8 +12,6 @@ mod addresses;
 #[cfg(test)]
 mod disassembled;
 #[cfg(test)]
-mod faults;
-#[cfg(test)]
 mod few;
 #[cfg(test)]
 mod halves;
@@ -45,5 +43,3 @@ mod shown;
 mod sinks;
 #[cfg(test)]
 mod texts;
-#[cfg(test)]
-mod told;

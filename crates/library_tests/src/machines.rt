@@ -74,60 +74,24 @@ fn ends<R: Ram>(
 
 // write(1, 0x11000, 3), then exit(300).
 const HELLO: [u32; 8] = [
-    0x0010_0513,
-    0x0001_15b7,
-    0x0030_0613,
-    0x0400_0893,
-    0x0073,
-    0x12c0_0513,
-    0x05d0_0893,
-    0x0073,
+    0x00100513, 0x000115b7, 0x00300613, 0x04000893, 0x0073, 0x12c00513, 0x05d00893, 0x0073,
 ];
 
 // write(2, 0, 5), then exit of what that gave.
 const BAD_DESCRIPTOR: [u32; 7] = [
-    0x0020_0513,
-    0x0593,
-    0x0050_0613,
-    0x0400_0893,
-    0x0073,
-    0x05d0_0893,
-    0x0073,
+    0x00200513, 0x0593, 0x00500613, 0x04000893, 0x0073, 0x05d00893, 0x0073,
 ];
 
 // Stores 0x1122334455667788 at 0x0fffeffc, over the end of a page, loads it again and exits with its highest byte.
 const ACROSS_PAGES: [u32; 15] = [
-    0x0fff_f2b7,
-    0xffc2_829b,
-    0x0044_9337,
-    0x8cd3_031b,
-    0x00e3_1313,
-    0x4553_0313,
-    0x00c3_1313,
-    0x6673_0313,
-    0x00c3_1313,
-    0x7883_0313,
-    0x0062_b023,
-    0x0002_b503,
-    0x0385_5513,
-    0x05d0_0893,
-    0x0073,
+    0x0ffff2b7, 0xffc2829b, 0x00449337, 0x8cd3031b, 0x00e31313, 0x45530313, 0x00c31313, 0x66730313,
+    0x00c31313, 0x78830313, 0x0062b023, 0x0002b503, 0x03855513, 0x05d00893, 0x0073,
 ];
 
 // Counts to 3 by a branch back, skips an ebreak by jal and another by jalr to an odd address, and exits with the count.
 const JUMPS: [u32; 12] = [
-    0x0030_0293,
-    0x0513,
-    0x0015_0513,
-    0xfff2_8293,
-    0xfe02_9ce3,
-    0x0080_00ef,
-    0x0010_0073,
-    0x0317,
-    0x00d3_00e7,
-    0x0010_0073,
-    0x05d0_0893,
-    0x0073,
+    0x00300293, 0x0513, 0x00150513, 0xfff28293, 0xfe029ce3, 0x008000ef, 0x00100073, 0x0317,
+    0x00d300e7, 0x00100073, 0x05d00893, 0x0073,
 ];
 
 fn programs<R: Ram>(rt: &impl Abort, alloc: Global) -> Result<(), Fail> {
@@ -205,26 +169,12 @@ fn readers_over_both_memories(rt: HostRuntime) -> Result<(), Fail> {
 
 // write(0x700000001, 0x1100e, 3), and nothing behind it.
 const WRITE_THREE: [u32; 8] = [
-    0x0070_0513,
-    0x0205_1513,
-    0x0015_0513,
-    0x0001_15b7,
-    0x00e5_8593,
-    0x0030_0613,
-    0x0400_0893,
-    0x0073,
+    0x00700513, 0x02051513, 0x00150513, 0x000115b7, 0x00e58593, 0x00300613, 0x04000893, 0x0073,
 ];
 
 // The same of two bytes.
 const WRITE_TWO: [u32; 8] = [
-    0x0070_0513,
-    0x0205_1513,
-    0x0015_0513,
-    0x0001_15b7,
-    0x00e5_8593,
-    0x0020_0613,
-    0x0400_0893,
-    0x0073,
+    0x00700513, 0x02051513, 0x00150513, 0x000115b7, 0x00e58593, 0x00200613, 0x04000893, 0x0073,
 ];
 
 // A machine that comes to the last of these words.
@@ -336,12 +286,7 @@ fn words_past_their_limits(rt: HostRuntime) -> Result<(), Fail> {
 
 // The first stop within so many steps.
 fn first_stop<R: Ram>(machine: &mut Machine<R>, count: usize) -> Option<Stop> {
-    for _ in 0..count {
-        if let Err(stop) = machine.step() {
-            return Some(stop);
-        }
-    }
-    None
+    (0..count).find_map(|_| machine.step().err())
 }
 
 // At the store, the eleventh word, with the address and the number in their registers, and zeros where they stood.

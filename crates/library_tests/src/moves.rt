@@ -54,22 +54,15 @@ fn left_by(moves: &[Move]) -> [usize; 10] {
 
 /// So many places, which hold their numbers.
 fn numbered(alloc: Global, count: usize) -> Result<Vec<usize>, AllocError> {
-    let mut places = Vec::new(alloc);
-    for place in 0..count {
-        places.push(place)?;
-    }
-    Ok(places)
+    (0..count).collect(alloc)
 }
 
 fn moves_of(alloc: Global, pairs: &[(usize, usize)]) -> Result<Vec<Move>, AllocError> {
-    let mut moves = Vec::new(alloc);
-    for (to, from) in pairs {
-        moves.push(Move {
-            to: *to,
-            from: *from,
-        })?;
-    }
-    Ok(moves)
+    let moves = pairs.iter().map(|(to, from)| Move {
+        to: *to,
+        from: *from,
+    });
+    moves.collect(alloc)
 }
 
 fn in_order(
@@ -187,14 +180,9 @@ fn long_chain(alloc: Global, first: usize) -> Result<Vec<Move>, AllocError> {
 
 /// How many of the first four thousand places hold what the one before them held, and the first of them what this place held.
 fn shifted(places: &[usize], first: usize) -> usize {
-    let mut count = 0usize;
-    for (place, held) in places.iter().take(4000).enumerate() {
-        let from = if place == 0 { first } else { place - 1 };
-        if *held == from {
-            count = count.saturating_add(1);
-        }
-    }
-    count
+    let held = places.iter().take(4000).enumerate();
+    held.filter(|(place, held)| **held == if *place == 0 { first } else { *place - 1 })
+        .count()
 }
 
 /// What these moves of five thousand and one places leave, and how many they are.

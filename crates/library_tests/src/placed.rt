@@ -92,18 +92,8 @@ fn first_image(alloc: Global) -> Result<Image, Fail> {
 fn first_words(rt: HostRuntime) -> Result<(), Fail> {
     let image = first_image(rt.alloc())?;
     let expected: &[u32] = &[
-        0x0001_3503,
-        0x0081_0593,
-        0x0001_12b7,
-        0x8302_829b,
-        0x0002_80e7,
-        0x05d0_0893,
-        0x0000_0073,
-        0x0400_0893,
-        0x0000_0073,
-        0x0000_8067,
-        0x05d0_0893,
-        0x0000_0073,
+        0x00013503, 0x00810593, 0x000112b7, 0x8302829b, 0x000280e7, 0x05d00893, 0x00000073,
+        0x04000893, 0x00000073, 0x00008067, 0x05d00893, 0x00000073,
     ];
     assert!(rt; image.code().starts_with(expected));
     is_number(&rt, image.code().len(), 12 + 256 + 256 + 1);

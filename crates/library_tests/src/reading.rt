@@ -8,6 +8,7 @@ use il_reader::read::read;
 use std::alloc::{AllocError, Global};
 use std::process::Abort;
 use text_maker::maker::TextMaker;
+use text_maker::say;
 
 /// The line of the syntax error, or 0 where there is none.
 fn error_line(alloc: Global, text: &[u8], rt: &impl Abort) -> usize {
@@ -71,10 +72,9 @@ fn bytes_that_stand_nowhere(rt: HostRuntime) -> Result<(), AllocError> {
 }
 
 fn push_long_function(text: &mut TextMaker, number: u64) {
-    text.add_with_numbers("function $f#(w %p) {\n", &[number]);
+    say!(text; "function $f{number}(w %p) {{\n");
     for b in 0..20 {
-        text.add_with_numbers("@b#\n%t# =w add %p, #\n", &[b, b, b]);
-        text.add_with_numbers("%u# =w call $f#(w %t#)\n", &[b, b, b]);
+        say!(text; "@b{b}\n%t{b} =w add %p, {b}\n%u{b} =w call $f{b}(w %t{b})\n");
     }
     text.add("ret %p\n}\n");
 }

@@ -23,12 +23,7 @@ fn multiples(
 
 /// Whether some number is in the set.
 fn has_some(set: &BitSet) -> bool {
-    for i in 0..set.len() {
-        if i < set.len() && set.contains(i) {
-            return true;
-        }
-    }
-    false
+    (0..set.len()).any(|i| i < set.len() && set.contains(i))
 }
 
 /// Adds the multiples of three, and once more, which adds none.

@@ -75,10 +75,7 @@ fn is_refused(disk: &MemoryDisk, access: Access, path: &str) -> bool {
 }
 
 fn has(disk: &MemoryDisk, path: &str, bytes: &[u8]) -> bool {
-    match disk.find(path) {
-        Some(found) => found == bytes,
-        None => false,
-    }
+    disk.find(path) == Some(bytes)
 }
 
 #[test]

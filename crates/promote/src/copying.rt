@@ -9,11 +9,7 @@ use std::alloc::{AllocError, Global};
 pub fn copied<T: Copy + Drop>(alloc: Global, items: &[T]) -> Result<Seq<T>, AllocError>
     ensures { IfOk result (λ copy. copy ≡ items.now) }
 {
-    let mut copy = Vec::with_capacity(alloc, items.len())?;
-    for item in items {
-        copy.push(*item)?;
-    }
-    Ok(Seq::from_vec(copy))
+    Ok(Seq::from_vec(Vec::from_slice(alloc, items)?))
 }
 
 /// The same names.

@@ -1,9 +1,10 @@
 -- What is known goes on from line to line, and lines and blocks are made one after another.
-use Rattle.std.proofs.Common.{◌≡◌, ℕ, ◌+◌, ◌<◌, Bool, true, false, not, ◌&&◌, nat_eq, nat_lt, if◌then◌else◌, List, ◌∷◌, length, get_or, drop, Option, Some, None, refl, sym, ◌∙◌, ap, subst}
+use Rattle.std.proofs.Common.{◌≡◌, ℕ, ◌+◌, ◌<◌, Bool, true, false, not, ◌&&◌, nat_eq, nat_lt, if◌then◌else◌, List, [], ◌∷◌, zero, suc, length, get_or, drop, Option, Some, None, inl, refl, sym, ◌∙◌, ap, subst}
 use Rattle.std.specs.Option.{option_map_or}
 use Rattle.std.proofs.Math.Path.{fun_ext}
 use Rattle.vcode.specs.declared.line.Line.{Line}
 use Rattle.vcode.specs.declared.line.Jump.{Jump}
+use Rattle.vcode.specs.declared.line.Jump.TheVariants.{Goto, Branch, Return, Halt}
 use Rattle.vcode.specs.declared.code.Block.{Block}
 use Rattle.vcode.specs.declared.line.Line.TheVariants.{Tick, Set, Operate, Load, Store, Alloc, Blit, Call}
 use Rattle.vcode.proofs.Lists.{item_next}
@@ -13,6 +14,7 @@ use Rattle.propagation.specs.declared.constants.table.FactTable.{FactTable}
 use Rattle.propagation.specs.declared.constants.claim.Entry.{Entry}
 use Rattle.propagation.specs.Facts.{Facts, fact_names, asks_memory, fact_below, kept_if}
 use Rattle.propagation.specs.FactTable.{facts_of, changed, over}
+use Rattle.propagation.specs.Claimed.{claims_at, AreKnown, LeadsWell, known_at}
 use Rattle.propagation.specs.Forwarded.{IsPut, AreForwarded, IsForwarded, AllForwarded}
 use Rattle.propagation.specs.After.{changes_memory, fact_of, after}
 use Rattle.il_ast.proofs.Truth.{equal_turned}
@@ -122,3 +124,23 @@ pub blocks_on : (n : ℕ) (es : List Entry) (blocks : List (Block ℕ)) (i : ℕ
     → AllForwarded n es (i + 1) (drop (i + 1) blocks) rest → AllForwarded n es i (drop i blocks) (c ∷ rest)
 blocks_on n es blocks i b c rest low at is h =
     subst (λ (xs : List (Block ℕ)). AllForwarded n es i xs (c ∷ rest)) (sym (item_next blocks i b low at)) (is, h)
+
+-- ---- a block as it was
+
+none_known : (fs : Facts) (k : ℕ) → AreKnown fs (claims_at [] k)
+none_known fs zero = tt
+none_known fs (suc k) = tt
+
+leads_anywhere : (fs : Facts) (j : Jump ℕ) → LeadsWell [] fs j
+leads_anywhere fs (Goto k) = none_known fs k
+leads_anywhere fs (Branch on met otherwise) = (none_known fs met, none_known fs otherwise)
+leads_anywhere fs (Return a) = tt
+leads_anywhere fs Halt = tt
+
+as_they_were : (n : ℕ) (whole : List (Line ℕ)) (fs : Facts) (lines : List (Line ℕ)) (j : Jump ℕ) → AreForwarded n [] whole fs lines lines j j
+as_they_were n whole fs [] j = (inl refl, leads_anywhere fs j)
+as_they_were n whole fs (l ∷ lines) j = (inl refl, as_they_were n whole (after n l fs) lines j)
+
+-- where nothing is claimed of any
+pub as_it_was : (n k : ℕ) (b : Block ℕ) → IsForwarded n [] k b b
+as_it_was n k b = as_they_were n b.lines (known_at n [] k) b.lines b.jump

@@ -33,6 +33,11 @@ counted written memory begun (Some k) =
 abbrev pub facts_of : FactTable → Facts
 facts_of t r = counted t.written.items t.memory t.begun (cell t.cells.items r)
 
+-- what a fact says that a register is a copy of
+abbrev pub copy_of : Option Fact → Option (Operand ℕ)
+copy_of (Some (Same a)) = Some a
+copy_of o = None
+
 -- nothing is later than its clock
 pub record IsTable (t : FactTable) : Type 0 where
   pub cells : (r : ℕ) (k : DatedFact) → cell t.cells.items r ≡ Some k → k.since ≤ t.clock

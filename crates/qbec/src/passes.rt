@@ -1,5 +1,5 @@
 //! The passes on virtual code, in the order in which they go over each function. This table is the only one: whoever shows or tries what the compiler does takes it.
-ghost use Rattle.std.specs.Prelude.{IfOk};
+ghost use Rattle.std.specs.Prelude.{IfOk, IfSome};
 ghost use Rattle.il_ast.specs.Passes.{Keeps};
 ghost use Rattle.vcode.specs.Coded.{virtual_code};
 
@@ -19,7 +19,7 @@ use value_numbering::reuse::reuse_values;
 use vcode::function::VFunc;
 
 /// A pass on virtual code.
-#[derive(Clone, Copy)]
+#[derive(Clone, Copy, PartialEq, Eq)]
 pub enum Pass {
     SignExtensions,
     JumpThreading,
@@ -83,13 +83,18 @@ impl Pass {
         }
     }
 
-    /// The function by this pass.
+    /// Whether what this pass changes may give an earlier one something to do again: that lines are gone gives none.
+    fn is_followed(self) -> bool {
+        !matches!(self, Pass::DeadCode)
+    }
+
+    /// What this pass makes of the function; none where it leaves it as it is.
     ///
     /// # Errors
     ///
     /// Only where memory was refused.
-    pub fn apply(self, alloc: Global, function: VFunc) -> Result<VFunc, AllocError>
-        ensures { IfOk result (λ w. Keeps (virtual_code function) (virtual_code w)) }
+    pub fn apply(self, alloc: Global, function: &VFunc) -> Result<Option<VFunc>, AllocError>
+        ensures { IfOk result (λ o. IfSome o (λ w. Keeps (virtual_code function.now) (virtual_code w))) }
     {
         match self {
             Pass::SignExtensions => copy_whole_words(alloc, function),
@@ -106,6 +111,34 @@ impl Pass {
             Pass::TailDuplication => duplicate_tails(alloc, function),
             Pass::BranchFolding => fold_branches(alloc, function),
             Pass::BlockPlacement => place_blocks(alloc, function),
+        }
+    }
+}
+
+/// How far the passes have come with a function, in lines of their table.
+#[derive(Clone, Copy)]
+pub struct Progress {
+    /// behind the last line whose pass changed the function so that another may follow
+    changed: usize,
+}
+
+impl Progress {
+    /// No pass has changed anything.
+    pub fn new() -> Progress {
+        Progress { changed: 0 }
+    }
+
+    /// Whether the pass in this line has something to do: it wasn't done before, or what another has changed since may give it that.
+    pub fn is_due(self, line: usize, pass: Pass) -> bool {
+        let first = self.changed.saturating_sub(1);
+        let mut since = PASSES.iter().take(line).skip(first);
+        since.all(|earlier| *earlier != pass)
+    }
+
+    /// The pass in this line has changed the function.
+    pub fn note(&mut self, line: usize, pass: Pass) {
+        if pass.is_followed() {
+            self.changed = line.saturating_add(1);
         }
     }
 }

@@ -17,7 +17,7 @@ ghost use Rattle.promote.specs.Promoted.{IsPromoted};
 ghost use Rattle.qbec.specs.Candidates.{IsCandidateCode};
 ghost use Rattle.qbec.specs.Pipeline.{IsCodeWith, IsLaidOut, StandWith, StandWithin};
 
-use crate::passes::PASSES;
+use crate::passes::{PASSES, Pass, Progress};
 use abi_frames::frame::{frame, frame_bound};
 use alloc_check::accept::{Refused, accept};
 use alloc_check::spill_all::spill_all;
@@ -102,6 +102,32 @@ fn with_calls_placed(
     inline_calls(alloc, function, candidates)
 }
 
+/// The function by the pass in this line of the table, if that is due.
+#[tactic(auto, using(crate::proofs::Placing::stays_with))]
+fn by_pass(
+    alloc: Global,
+    candidates: &[Option<VFunc>],
+    func: &Func,
+    function: VFunc,
+    progress: &mut Progress,
+    line: usize,
+    pass: Pass,
+) -> Result<VFunc, AllocError>
+    requires { IsCodeWith candidates.now func.now (virtual_code function) }
+    ensures { IfOk result (λ v. IsCodeWith candidates.now func.now (virtual_code v)) }
+{
+    if !progress.is_due(line, pass) {
+        return Ok(function);
+    }
+    match pass.apply(alloc, &function)? {
+        Some(made) => {
+            progress.note(line, pass);
+            Ok(made)
+        }
+        None => Ok(function),
+    }
+}
+
 /// The function in virtual code: with calls of these candidates in place, and by all passes in their order. `candidates` has for names of the function's text the code
 /// of the function that the name means, where that is a candidate.
 ///
@@ -117,8 +143,17 @@ pub fn virtual_code_of(
     ensures { IfOk result (λ v. IsCodeWith candidates.now func.now (virtual_code v)) }
 {
     let mut function = with_calls_placed(alloc, candidates, func)?;
-    for pass in &PASSES {
-        let made = pass.apply(alloc, function)?;
+    let mut progress = Progress::new();
+    for (line, pass) in PASSES.iter().enumerate() {
+        let made = by_pass(
+            alloc,
+            candidates,
+            func,
+            function,
+            &mut progress,
+            line,
+            *pass,
+        )?;
         function = made;
     }
     Ok(function)

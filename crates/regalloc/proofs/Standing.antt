@@ -1,10 +1,9 @@
 -- Lists of places that there are.
-use Rattle.std.proofs.Common.{◌≡◌, ℕ, zero, suc, ◌+◌, ◌≤◌, Bool, true, List, [], ◌∷◌, ◌++◌, length, slice_set, refl, sym, ◌∙◌, arith}
+use Rattle.std.proofs.Common.{◌≡◌, ℕ, zero, suc, ◌≤◌, Bool, true, List, [], ◌∷◌, slice_set, refl, ◌∙◌, arith}
 use Rattle.std.specs.List.{list_all}
 use Rattle.std.proofs.lemmas.Bool.{and_parts, and_from}
 use Rattle.std.proofs.lemmas.Bool.Decides.{nat_tests}
 use Rattle.std.proofs.lemmas.List.Folds.{list_all-append}
-use Rattle.vcode.specs.declared.place.Location.{Location}
 use Rattle.vcode.specs.declared.place.Location.TheVariants.{Slot}
 use Rattle.vcode.specs.Named.{is_place}
 use Rattle.certificates.specs.Listed.{slots}
@@ -16,14 +15,6 @@ all_with p (y ∷ xs) zero x good all = and_from (p x) (list_all p xs) good (and
 all_with p (y ∷ xs) (suc i) x good all =
     let parts = and_parts (p y) (list_all p xs) all in
     and_from (p y) (list_all p (slice_set xs i x)) parts.0 (all_with p xs i x good parts.1)
-
-one_more : (list : List Location) (q : Location) → length (list ++ q ∷ []) ≡ length list + 1
-one_more [] q = refl
-one_more (p ∷ list) q = let rest = one_more list q in omega (arith, rest)
-
-pub slots_count : (n : ℕ) → length (slots n) ≡ n
-slots_count zero = refl
-slots_count (suc n) = let one = one_more (slots n) (Slot n) in let rest = slots_count n in omega (arith, one, rest)
 
 is_low : (n m : ℕ) → suc n ≤ m → is_place m (Slot n) ≡ true
 is_low n m low = grind (arith, nat_tests)

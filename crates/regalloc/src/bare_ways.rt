@@ -15,10 +15,6 @@ pub(crate) mod holders;
 pub(crate) mod leaving;
 
 /// Keeps ways without a call that return free of slots and of registers that callees keep, if that can be paid for. The list has the place of each register.
-///
-/// # Errors
-///
-/// Only where memory was refused.
 pub(crate) fn keep_bare(
     alloc: Global,
     splitter: &mut Splitter,

@@ -9,13 +9,12 @@ use crate::bare_ways::keep_bare;
 use crate::intervals::accesses::Accesses;
 use crate::intervals::coalescing::{Group, groups_of};
 use crate::intervals::facts::facts_of;
-use crate::intervals::positions::Range;
 use crate::places::candidates::{
     Candidate, Ground, candidates, is_left_over, is_unplaced, singles, wishes,
 };
 use crate::places::choice::choice;
 use crate::places::rooms::{ROOMS, Rooms};
-use crate::places::slots::{Wish, shared_slots};
+use crate::places::slots::shared_slots;
 use crate::splitting::splits::Splits;
 use crate::splitting::splitter::{Splitter, split_all};
 use crate::written::written;
@@ -84,27 +83,7 @@ fn set_all(list: &mut [Location], registers: u32, members: &[u32], place: Locati
     }
 }
 
-/// Gives the registers of the group the k-th register of the machine.
-fn take(
-    list: &mut [Location],
-    registers: u32,
-    rooms: &mut Rooms,
-    k: usize,
-    group: &Group,
-    ranges: &[Range],
-)
-    requires { list_all (is_place registers) list.old ≡ true }
-    ensures places { list_all (is_place registers) list.new ≡ true }
-    ensures long { length list.new ≡ length list.old }
-{
-    if k < ROOMS {
-        rooms.take(k, ranges);
-        let place = machine_register(registers, k as u8);
-        set_all(list, registers, group.members.as_slice(), place);
-    }
-}
-
-/// Gives the candidate a register of the machine, if one is chosen for it.
+/// Gives the registers of the candidate a register of the machine, if one is chosen for it.
 fn place_candidate(
     alloc: Global,
     list: &mut [Location],
@@ -118,35 +97,13 @@ fn place_candidate(
     ensures places { list_all (is_place registers) list.new ≡ true }
     ensures long { length list.new ≡ length list.old }
 {
-    match ground.groups.get(candidate.group) {
-        Some(group) => match choice(alloc, rooms, splitter, ground, candidate, group)? {
-            Some(k) => {
-                let ranges = group.ranges(ground.facts.intervals.as_slice());
-                take(list, registers, rooms, k, group, ranges);
-            }
-            None => {}
-        },
-        None => {}
-    }
-    Ok(())
-}
-
-/// Gives registers of the machine to the candidates in their order.
-fn place_candidates(
-    alloc: Global,
-    list: &mut [Location],
-    registers: u32,
-    rooms: &mut Rooms,
-    splitter: &mut Splitter,
-    ground: Ground,
-    candidates: &[Candidate],
-) -> Result<(), AllocError>
-    requires { list_all (is_place registers) list.old ≡ true }
-    ensures places { list_all (is_place registers) list.new ≡ true }
-    ensures long { length list.new ≡ length list.old }
-{
-    for candidate in candidates {
-        place_candidate(alloc, list, registers, rooms, splitter, ground, candidate)?;
+    if let Some(group) = ground.groups.get(candidate.group)
+        && let Some(k) = choice(alloc, rooms, splitter, ground, candidate, group)?
+        && k < ROOMS
+    {
+        rooms.take(k, group.ranges(ground.facts.intervals.as_slice()));
+        let place = machine_register(registers, k as u8);
+        set_all(list, registers, group.members.as_slice(), place);
     }
     Ok(())
 }
@@ -165,43 +122,7 @@ fn stand(list: &mut [Location], registers: u32, members: &[u32], slot: u32)
     }
 }
 
-/// Puts the registers of the wish's group that have no register of the machine into the slot.
-fn give_slot(list: &mut [Location], registers: u32, groups: &[Group], wish: &Wish, slot: usize)
-    requires { list_all (is_place registers) list.old ≡ true }
-    ensures places { list_all (is_place registers) list.new ≡ true }
-    ensures long { length list.new ≡ length list.old }
-{
-    match groups.get(wish.group) {
-        Some(group) => {
-            if slot < registers as usize {
-                stand(list, registers, group.members.as_slice(), slot as u32);
-            }
-        }
-        None => {}
-    }
-}
-
-/// Puts the groups of all wishes into their slots.
-fn give_slots(
-    list: &mut [Location],
-    registers: u32,
-    groups: &[Group],
-    wishes: &[Wish],
-    slots: &[usize],
-)
-    requires { list_all (is_place registers) list.old ≡ true }
-    ensures places { list_all (is_place registers) list.new ≡ true }
-    ensures long { length list.new ≡ length list.old }
-{
-    for (k, wish) in wishes.iter().enumerate() {
-        match slots.get(k) {
-            Some(slot) => give_slot(list, registers, groups, wish, *slot),
-            None => {}
-        }
-    }
-}
-
-/// Gives registers of the machine to the groups, the most urgent first.
+/// Gives registers of the machine to the groups, the most urgent first; answers them in this order.
 fn place_groups(
     alloc: Global,
     list: &mut [Location],
@@ -209,14 +130,16 @@ fn place_groups(
     rooms: &mut Rooms,
     splitter: &mut Splitter,
     ground: Ground,
-) -> Result<(), AllocError>
+) -> Result<Vec<Candidate>, AllocError>
     requires { list_all (is_place registers) list.old ≡ true }
     ensures places { list_all (is_place registers) list.new ≡ true }
     ensures long { length list.new ≡ length list.old }
 {
-    let order = candidates(alloc, ground.groups, ground.facts)?;
-    let candidates = order.as_slice();
-    place_candidates(alloc, list, registers, rooms, splitter, ground, candidates)
+    let candidates = candidates(alloc, ground.groups, ground.facts)?;
+    for candidate in candidates.iter() {
+        place_candidate(alloc, list, registers, rooms, splitter, ground, candidate)?;
+    }
+    Ok(candidates)
 }
 
 /// Gives slots to what has no register of the machine.
@@ -233,13 +156,13 @@ fn place_in_slots(
     let wishes = wishes(alloc, ground.groups, list, ground.facts)?;
     let intervals = ground.facts.intervals.as_slice();
     let slots = shared_slots(alloc, ground.groups, intervals, wishes.as_slice())?;
-    give_slots(
-        list,
-        registers,
-        ground.groups,
-        wishes.as_slice(),
-        slots.as_slice(),
-    );
+    for (wish, slot) in wishes.iter().zip(slots.iter()) {
+        if let Some(group) = ground.groups.get(wish.group)
+            && *slot < registers as usize
+        {
+            stand(list, registers, group.members.as_slice(), *slot as u32);
+        }
+    }
     Ok(())
 }
 
@@ -261,36 +184,13 @@ fn place_singles(
         groups: singles.as_slice(),
         ..ground
     };
-    let order = candidates(alloc, single.groups, single.facts)?;
-    let candidates = order.as_slice();
-    place_candidates(alloc, list, registers, rooms, splitter, single, candidates)?;
+    let order = place_groups(alloc, list, registers, rooms, splitter, single)?;
     place_in_slots(alloc, list, registers, ground)?;
-    split_all(alloc, splitter, rooms, list, single, candidates)
+    split_all(alloc, splitter, rooms, list, single, order.as_slice())
 }
 
-/// Gives registers of the machine to groups, then to single registers of those that got none, and slots to what is left; the registers with slots are split where
-/// they can be.
-fn place_registers(
-    alloc: Global,
-    list: &mut [Location],
-    registers: u32,
-    rooms: &mut Rooms,
-    splitter: &mut Splitter,
-    ground: Ground,
-) -> Result<(), AllocError>
-    requires { list_all (is_place registers) list.old ≡ true }
-    ensures places { list_all (is_place registers) list.new ≡ true }
-    ensures long { length list.new ≡ length list.old }
-{
-    place_groups(alloc, list, registers, rooms, splitter, ground)?;
-    if is_left_over(list, ground.facts) {
-        place_singles(alloc, list, registers, rooms, splitter, ground)
-    } else {
-        Ok(())
-    }
-}
-
-/// Gives each register its place; answers what is done where registers are split.
+/// Gives registers of the machine to groups, then to single registers of those that got none, and slots to what is left, which is split where it can be; answers what is done
+/// for that.
 fn place_and_split(
     alloc: Global,
     list: &mut [Location],
@@ -304,18 +204,12 @@ fn place_and_split(
 {
     let mut rooms = Rooms::new(alloc, ground.facts.text.points())?;
     let mut splitter = Splitter::new(alloc, accesses);
-    place_registers(alloc, list, registers, &mut rooms, &mut splitter, ground)?;
+    place_groups(alloc, list, registers, &mut rooms, &mut splitter, ground)?;
+    if is_left_over(list, ground.facts) {
+        place_singles(alloc, list, registers, &mut rooms, &mut splitter, ground)?;
+    }
     keep_bare(alloc, &mut splitter, list, ground)?;
     splitter.finish()
-}
-
-/// The list that has each register in its own slot.
-#[tactic(auto, using(crate::proofs::Standing::slots_stand, crate::proofs::Standing::slots_count))]
-fn all_in_slots(alloc: Global, registers: u32) -> Result<Vec<Location>, AllocError>
-    ensures places { IfOk result (λ v. list_all (is_place registers) v.items ≡ true) }
-    ensures long { IfOk result (λ v. length v.items ≡ registers) }
-{
-    slots(alloc, registers)
 }
 
 /// The certificate that linear scan has for the function.
@@ -323,6 +217,7 @@ fn all_in_slots(alloc: Global, registers: u32) -> Result<Vec<Location>, AllocErr
 /// # Errors
 ///
 /// Only where memory was refused.
+#[tactic(auto, using(crate::proofs::Standing::slots_stand))]
 pub fn scanned(alloc: Global, function: &VFunc, live: &Live) -> Result<Certificate, AllocError>
     ensures { IfOk result (λ c. IsScanned function.now.registers c) }
 {
@@ -336,27 +231,10 @@ pub fn scanned(alloc: Global, function: &VFunc, live: &Live) -> Result<Certifica
         live,
         groups: groups.groups.as_slice(),
     };
-    certificate_on(alloc, accesses, ground)
-}
-
-/// The certificate of the places and splits that are chosen on this ground.
-fn certificate_on(
-    alloc: Global,
-    accesses: Accesses,
-    ground: Ground,
-) -> Result<Certificate, AllocError>
-    ensures { IfOk result (λ c. IsScanned ground.entry.function.now.registers c) }
-{
-    let registers = ground.function.registers;
-    let mut list = all_in_slots(alloc, registers)?;
+    let registers = function.registers;
+    let mut list = slots(alloc, registers)?;
     let splits = place_and_split(alloc, list.as_mut_slice(), registers, accesses, ground)?;
-    written(
-        alloc,
-        ground.function,
-        ground.facts,
-        list.as_slice(),
-        &splits,
-    )
+    written(alloc, function, &facts, list.as_slice(), &splits)
 }
 
 impl Strategy for LinearScan {

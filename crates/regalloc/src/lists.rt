@@ -3,16 +3,12 @@ use std::alloc::{AllocError, Global};
 
 /// The items from one number up to another, without that; none where the list is too short.
 pub(crate) fn part<T>(list: &[T], from: usize, to: usize) -> &[T] {
-    if from <= to && to <= list.len() {
-        &list[from..to]
-    } else {
-        &[]
-    }
+    list.get(from..to).unwrap_or(&[])
 }
 
 /// The items from that number on.
 pub(crate) fn rest<T>(list: &[T], from: usize) -> &[T] {
-    part(list, from, list.len())
+    list.get(from..).unwrap_or(&[])
 }
 
 /// Sets the item with that number, if there is one.
@@ -37,15 +33,24 @@ impl Rows {
         }
     }
 
-    /// So many rows without items, to which items are added by `count`, `close` and `place`.
-    ///
-    /// # Errors
-    ///
-    /// Only where memory was refused.
-    pub(crate) fn empty(alloc: Global, rows: usize) -> Result<Rows, AllocError> {
-        Ok(Rows {
-            firsts: vec![in alloc; 0usize; rows.saturating_add(1)]?,
-        })
+    /// So many rows, with room for the items that the list has for each of them, which are added by `place`.
+    pub(crate) fn for_items<T, F: Fn(&T) -> usize>(
+        alloc: Global,
+        rows: usize,
+        items: &[T],
+        row_of: F,
+    ) -> Result<Rows, AllocError>
+        requires { F.IsAlwaysCallable row_of }
+    {
+        let mut firsts = vec![in alloc; 0usize; rows.saturating_add(1)]?;
+        for item in items {
+            if let Some(count) = firsts.get_mut(row_of(item)) {
+                *count = count.saturating_add(1);
+            }
+        }
+        let mut rows = Rows { firsts };
+        rows.close();
+        Ok(rows)
     }
 
     /// Whether there is no list yet.
@@ -53,15 +58,8 @@ impl Rows {
         self.firsts.is_empty()
     }
 
-    /// Counts one more item of the row.
-    pub(crate) fn count(&mut self, row: usize) {
-        if let Some(count) = self.firsts.get_mut(row) {
-            *count = count.saturating_add(1);
-        }
-    }
-
     /// Puts the rows behind one another, when all items are counted and none is placed.
-    pub(crate) fn close(&mut self) {
+    fn close(&mut self) {
         let mut before = 0usize;
         for count in self.firsts.iter_mut() {
             before = before.saturating_add(*count);
@@ -77,10 +75,6 @@ impl Rows {
     }
 
     /// Puts one more row behind the others, whose first item has that number; the last one ends the list.
-    ///
-    /// # Errors
-    ///
-    /// Only where memory was refused.
     pub(crate) fn push(&mut self, first: usize) -> Result<(), AllocError> {
         self.firsts.push(first)?;
         Ok(())

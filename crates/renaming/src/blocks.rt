@@ -11,44 +11,23 @@ use il_ast::list::Seq;
 use std::alloc::{AllocError, Global};
 use vcode::code::Block;
 use vcode::line::{Jump, Line};
-use vcode::place::Destination;
 use vcode::replace;
 
-/// The line that writes this register, if it writes any.
-fn with_destination(line: Line<u32>, name: u32) -> Line<u32>
-    ensures { result ≡ with_destination name line }
+/// The line writes this register, if it writes any.
+fn put_destination(line: &mut Line<u32>, name: u32)
+    ensures { line.new ≡ with_destination name line.old }
 {
     match line {
-        Line::Set { to: _, value } => Line::Set { to: name, value },
-        Line::Operate {
-            to: _,
-            operation,
-            left,
-            right,
-        } => Line::Operate {
-            to: name,
-            operation,
-            left,
-            right,
-        },
-        Line::Load { to: _, op, at } => Line::Load { to: name, op, at },
-        Line::Alloc { to: Some(_), size } => Line::Alloc {
-            to: Some(name),
-            size,
-        },
-        Line::Call {
-            to: Some(to),
-            callee,
-            args,
-        } => Line::Call {
-            to: Some(Destination {
-                place: name,
-                class: to.class,
-            }),
-            callee,
-            args,
-        },
-        other => other,
+        Line::Set { to, .. } => *to = name,
+        Line::Operate { to, .. } => *to = name,
+        Line::Load { to, .. } => *to = name,
+        Line::Alloc { to: Some(to), .. } => *to = name,
+        Line::Call { to: Some(to), .. } => to.place = name,
+        Line::Tick { .. }
+        | Line::Store { .. }
+        | Line::Alloc { to: None, .. }
+        | Line::Blit { .. }
+        | Line::Call { to: None, .. } => {}
     }
 }
 
@@ -68,9 +47,14 @@ fn written(
     if !names.is_name(register, name) {
         return Ok(None);
     }
-    let put = replace::line(alloc, names, from)?;
-    names.call(register, name)?;
-    Ok(Some(with_destination(put, name)))
+    let mut put = replace::line(alloc, names, from)?;
+    let is_called = names.call(register, name)?;
+    if is_called {
+        put_destination(&mut put, name);
+        Ok(Some(put))
+    } else {
+        Ok(None)
+    }
 }
 
 /// The line by the names; none where it reads what has no name, or writes what may not have the planned one.
@@ -180,10 +164,9 @@ fn block(
     ensures owners { OnOk result (owners_of names.new ≡ owners_of names.old) }
 {
     let start = start_at(plan.starts.as_slice(), number);
-    if !names.are_names(start) {
+    if !names.are_names(start) || !names.begin(start)? {
         return Ok(None);
     }
-    names.begin(alloc, start)?;
     match lines(
         alloc,
         names,

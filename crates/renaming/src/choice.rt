@@ -6,12 +6,11 @@ mod naming;
 mod webs;
 
 use crate::plan::Plan;
-use flow::graph::predecessors;
 use naming::named;
 use std::alloc::{AllocError, Global};
 use vcode::function::VFunc;
 use vcode::limits::PLACES;
-use webs::{Webs, find_webs, written_once};
+use webs::{Webs, count_uses, find_webs};
 
 /// A plan in which each web has a name of its own; none where all registers keep theirs, or where there would be too many.
 ///
@@ -19,14 +18,14 @@ use webs::{Webs, find_webs, written_once};
 ///
 /// Only where memory was refused.
 pub fn choose_names(alloc: Global, function: &VFunc) -> Result<Option<Plan>, AllocError> {
-    let plain = written_once(alloc, function)?;
-    if plain.iter().all(|plain| *plain) {
+    let uses = count_uses(alloc, function)?;
+    if uses.iter().all(|one| one.is_plain()) {
         return Ok(None);
     }
-    let blocks = function.code.blocks.as_slice();
-    let sources = predecessors(alloc, blocks)?;
-    let mut webs = Webs::new(alloc, plain);
-    if !find_webs(&mut webs, blocks, sources.as_slice())? {
+    let mut webs = Webs::new(alloc, uses)?;
+    if !find_webs(alloc, &mut webs, function)?
+        || !webs.may_need_more(function.code.params.as_slice())
+    {
         return Ok(None);
     }
     let plan = named(alloc, webs, function)?;

@@ -1,14 +1,13 @@
 //! The names of registers at a place of a block.
-ghost use Rattle.std.specs.Prelude.{◌≡◌, ℕ, true, OnOk, IfOk};
+ghost use Rattle.std.specs.Prelude.{◌≡◌, ℕ, true, nat_eq, if◌then◌else◌, slice_get, Some, OnOk, IfOk};
 ghost use Rattle.std.specs.List.{list_all};
 ghost use Rattle.std.specs.Option.{option_map_or};
 ghost use Rattle.vcode.specs.declared.place.Argument.{Argument as AnArgument};
 ghost use Rattle.renaming.specs.Renamed.{is_plain, owner, is_name, is_named, reads_named, jump_named, plain_names, called, all_called, has_name, are_names, are_met};
-ghost use Rattle.renaming.specs.Named.{owners_of, names_of};
+ghost use Rattle.renaming.specs.Named.{owners_of, listed, names_of};
 
 use crate::plan::Renamed;
-use std::alloc::{AllocError, Global};
-use std::collections::BTreeMap;
+use std::alloc::AllocError;
 use vcode::line::{Jump, Line};
 use vcode::place::{Argument, Operand};
 use vcode::replace::Replace;
@@ -19,8 +18,11 @@ pub(crate) struct Names {
     pub(crate) plain: Vec<bool>,
     pub(crate) beyond: Vec<u32>,
 
-    /// the names of registers that aren't plain
-    pub(crate) others: BTreeMap<u32, u32>,
+    /// the names of registers that aren't plain, as they were given in this block
+    pub(crate) named: Vec<Renamed>,
+
+    /// for each register where its name is listed last, if it is listed there
+    pub(crate) places: Vec<usize>,
 }
 
 impl Names {
@@ -59,6 +61,23 @@ impl Names {
         (name as usize) < self.plain.len() + self.beyond.len() && owner == register
     }
 
+    /// The listed name of the register.
+    fn listed(&self, register: u32) -> Option<u32>
+        ensures { result ≡ listed self.now.named.items (slice_get self.now.places.items register) register }
+    {
+        match self.places.get(register as usize) {
+            Some(place) => match self.named.get(*place) {
+                Some(named) => if named.register == register {
+                    Some(named.name)
+                } else {
+                    None
+                },
+                None => None,
+            },
+            None => None,
+        }
+    }
+
     /// The name of the register.
     fn name_of(&self, register: u32) -> Option<u32>
         ensures { result ≡ names_of self.now register }
@@ -66,7 +85,7 @@ impl Names {
         if self.is_plain(register) {
             Some(register)
         } else {
-            self.others.get(&register).copied()
+            self.listed(register)
         }
     }
 
@@ -94,12 +113,7 @@ impl Names {
     fn are_args_named(&self, args: &[Argument<u32>]) -> bool
         ensures { result ≡ list_all (λ (a : AnArgument ℕ). is_named (names_of self.now) a.value) args.now }
     {
-        for arg in args {
-            if !self.is_named(&arg.value) {
-                return false;
-            }
-        }
-        true
+        args.iter().all(|arg| self.is_named(&arg.value))
     }
 
     /// Whether all that the line reads has a name.
@@ -134,64 +148,77 @@ impl Names {
     pub(crate) fn are_met(&self, names: &[Renamed]) -> bool
         ensures { result ≡ are_met (names_of self.now) names.now }
     {
-        for renamed in names {
-            if !self.has_name(renamed.register, renamed.name) {
-                return false;
-            }
-        }
-        true
+        names
+            .iter()
+            .all(|renamed| self.has_name(renamed.register, renamed.name))
     }
 
     /// Whether all of these may be names.
     pub(crate) fn are_names(&self, names: &[Renamed]) -> bool
         ensures { result ≡ are_names (owners_of self.now) names.now }
     {
+        names
+            .iter()
+            .all(|renamed| self.is_name(renamed.register, renamed.name))
+    }
+
+    /// Lists the name of the register last; false where the register has no place.
+    fn list(&mut self, register: u32, name: u32) -> Result<bool, AllocError>
+        ensures listed { IfOk result (λ b. b ≡ true → (q : ℕ) → listed self.new.named.items (slice_get self.new.places.items q) q ≡ (if nat_eq q register then Some name else listed self.old.named.items (slice_get self.old.places.items q) q)) }
+        ensures owners { OnOk result (owners_of self.new ≡ owners_of self.old) }
+    {
+        let last = self.named.len();
+        match self.places.get_mut(register as usize) {
+            Some(place) => {
+                *place = last;
+                self.named.push(Renamed { register, name })?;
+                Ok(true)
+            }
+            None => Ok(false),
+        }
+    }
+
+    /// From here on the register has this name; false where it can't have one.
+    ///
+    /// # Errors
+    ///
+    /// Only where memory was refused.
+    pub(crate) fn call(&mut self, register: u32, name: u32) -> Result<bool, AllocError>
+        requires { is_name (owners_of self.old) register name ≡ true }
+        ensures names { IfOk result (λ b. b ≡ true → names_of self.new ≡ called (names_of self.old) register name) }
+        ensures owners { OnOk result (owners_of self.new ≡ owners_of self.old) }
+    {
+        if self.is_plain(register) {
+            Ok(true)
+        } else {
+            self.list(register, name)
+        }
+    }
+
+    fn call_all(&mut self, names: &[Renamed]) -> Result<bool, AllocError>
+        requires { are_names (owners_of self.old) names.now ≡ true }
+        ensures names { IfOk result (λ b. b ≡ true → names_of self.new ≡ all_called (names_of self.old) names.now) }
+        ensures owners { OnOk result (owners_of self.new ≡ owners_of self.old) }
+    {
         for renamed in names {
-            if !self.is_name(renamed.register, renamed.name) {
-                return false;
+            if !self.call(renamed.register, renamed.name)? {
+                return Ok(false);
             }
         }
-        true
+        Ok(true)
     }
 
-    /// From here on the register has this name.
+    /// A block begins, with these names beside those of the plain registers; false where a register can't have its name.
     ///
     /// # Errors
     ///
     /// Only where memory was refused.
-    pub(crate) fn call(&mut self, register: u32, name: u32) -> Result<(), AllocError>
-        requires { is_name (owners_of self.old) register name ≡ true }
-        ensures names { OnOk result (names_of self.new ≡ called (names_of self.old) register name) }
-        ensures owners { OnOk result (owners_of self.new ≡ owners_of self.old) }
-    {
-        if !self.is_plain(register) {
-            let _ = self.others.insert(register, name)?;
-        }
-        Ok(())
-    }
-
-    fn call_all(&mut self, names: &[Renamed]) -> Result<(), AllocError>
+    pub(crate) fn begin(&mut self, names: &[Renamed]) -> Result<bool, AllocError>
         requires { are_names (owners_of self.old) names.now ≡ true }
-        ensures names { OnOk result (names_of self.new ≡ all_called (names_of self.old) names.now) }
+        ensures names { IfOk result (λ b. b ≡ true → names_of self.new ≡ all_called (plain_names (owners_of self.old)) names.now) }
         ensures owners { OnOk result (owners_of self.new ≡ owners_of self.old) }
     {
-        for renamed in names {
-            self.call(renamed.register, renamed.name)?;
-        }
-        Ok(())
-    }
-
-    /// A block begins, with these names beside those of the plain registers.
-    ///
-    /// # Errors
-    ///
-    /// Only where memory was refused.
-    pub(crate) fn begin(&mut self, alloc: Global, names: &[Renamed]) -> Result<(), AllocError>
-        requires { are_names (owners_of self.old) names.now ≡ true }
-        ensures names { OnOk result (names_of self.new ≡ all_called (plain_names (owners_of self.old)) names.now) }
-        ensures owners { OnOk result (owners_of self.new ≡ owners_of self.old) }
-    {
-        self.others = BTreeMap::new(alloc);
+        self.named.clear();
         self.call_all(names)
     }
 }

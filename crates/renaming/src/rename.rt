@@ -12,7 +12,6 @@ use crate::names::Names;
 use crate::plan::{Plan, Renamed};
 use il_ast::list::Seq;
 use std::alloc::{AllocError, Global};
-use std::collections::BTreeMap;
 use vcode::function::VFunc;
 use vcode::limits::PLACES;
 
@@ -20,12 +19,7 @@ use vcode::limits::PLACES;
 fn keep_names(names: &[Renamed]) -> bool
     ensures { result ≡ keep_names names.now }
 {
-    for renamed in names {
-        if renamed.register != renamed.name {
-            return false;
-        }
-    }
-    true
+    names.iter().all(|renamed| renamed.register == renamed.name)
 }
 
 /// The names that a plan allows, of which none is given yet.
@@ -36,10 +30,12 @@ fn names_of(alloc: Global, plan: &Plan) -> Result<Names, AllocError>
     plain.extend_from_slice(plan.plain.as_slice())?;
     let mut beyond = Vec::with_capacity(alloc, plan.owners.len())?;
     beyond.extend_from_slice(plan.owners.as_slice())?;
+    let places = vec![in alloc; 0usize; plain.len()]?;
     Ok(Names {
         plain,
         beyond,
-        others: BTreeMap::new(alloc),
+        named: Vec::new(alloc),
+        places,
     })
 }
 
@@ -81,25 +77,16 @@ pub fn apply(alloc: Global, function: &VFunc, plan: &Plan) -> Result<Option<VFun
     }
 }
 
-fn renamed(alloc: Global, function: &VFunc) -> Result<Option<VFunc>, AllocError>
-    ensures { IfOk result (λ o. IfSome o (λ w. Keeps (virtual_code function.now) (virtual_code w))) }
-{
-    match choose_names(alloc, function)? {
-        Some(plan) => apply(alloc, function, &plan),
-        None => Ok(None),
-    }
-}
-
 /// The function in which values of one register that have no reader in common stand in registers of their own.
 ///
 /// # Errors
 ///
 /// Only where memory was refused.
-pub fn rename_webs(alloc: Global, function: VFunc) -> Result<VFunc, AllocError>
-    ensures { IfOk result (λ w. Keeps (virtual_code function) (virtual_code w)) }
+pub fn rename_webs(alloc: Global, function: &VFunc) -> Result<Option<VFunc>, AllocError>
+    ensures { IfOk result (λ o. IfSome o (λ w. Keeps (virtual_code function.now) (virtual_code w))) }
 {
-    match renamed(alloc, &function)? {
-        Some(made) => Ok(made),
-        None => Ok(function),
+    match choose_names(alloc, function)? {
+        Some(plan) => apply(alloc, function, &plan),
+        None => Ok(None),
     }
 }

@@ -11,6 +11,7 @@ mod swaps;
 
 use facts::facts_of;
 use il_ast::list::Seq;
+use latencies::times_of;
 use order::order_of;
 use std::alloc::{AllocError, Global};
 use swaps::swaps_to;
@@ -21,16 +22,26 @@ use vcode::place::Location;
 /// How many lines the choice looks at: those of one are no further apart. At most 16.
 pub(crate) const WINDOW: u32 = 8;
 
+/// Whether a line has to wait for another: where each result is there for the next line, none has to.
+fn may_wait(block: &Block<Location>) -> bool {
+    block
+        .lines
+        .as_slice()
+        .iter()
+        .any(|line| times_of(line).latency > 1)
+}
+
 /// The swaps of a block. None where no line has to wait, or nothing can be done about it.
 fn swaps_of(alloc: Global, block: &Block<Location>) -> Result<Option<Vec<usize>>, AllocError> {
-    let mut facts = facts_of(alloc, block)?;
-    match order_of(alloc, facts.as_mut_slice())? {
-        Some(order) => {
-            let swaps = swaps_to(alloc, block.lines.as_slice(), order.as_slice())?;
-            Ok(Some(swaps))
-        }
-        None => Ok(None),
+    if !may_wait(block) {
+        return Ok(None);
     }
+    let mut facts = facts_of(alloc, block)?;
+    let Some(order) = order_of(alloc, facts.as_mut_slice())? else {
+        return Ok(None);
+    };
+    let swaps = swaps_to(alloc, block.lines.as_slice(), order.as_slice())?;
+    Ok(Some(swaps))
 }
 
 /// For each block the lines that change places with the next ones, one after another. None where nothing is to change.

@@ -105,12 +105,7 @@ fn wanted(place: Location, to: &Option<Destination<Location>>) -> bool
 fn args(place: Location, args: &[Argument<Location>]) -> bool
     ensures { result ≡ list_all (λ a. operand_keeps (differs place) a.value) args.now }
 {
-    for arg in args {
-        if !operand(place, &arg.value) {
-            return false;
-        }
-    }
-    true
+    args.iter().all(|arg| operand(place, &arg.value))
 }
 
 /// Whether the line names no such place.

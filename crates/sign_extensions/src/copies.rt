@@ -1,5 +1,5 @@
 //! Functions in which extensions of whole words are copies.
-ghost use Rattle.std.specs.Prelude.{◌≡◌, IfOk, IsTrue};
+ghost use Rattle.std.specs.Prelude.{◌≡◌, IfOk, IfSome, IsTrue};
 ghost use Rattle.il_ast.specs.Passes.{Keeps};
 ghost use Rattle.vcode.specs.Coded.{virtual_code};
 ghost use Rattle.sign_extensions.specs.Whole.{are_closed, IsCopied};
@@ -33,9 +33,10 @@ fn copied(alloc: Global, function: &VFunc) -> Result<VFunc, AllocError>
 /// # Errors
 ///
 /// Only where memory was refused.
-pub fn copy_whole_words(alloc: Global, function: VFunc) -> Result<VFunc, AllocError>
-    ensures kept { IfOk result (λ w. Keeps (virtual_code function) (virtual_code w)) }
-    ensures copied { IfOk result (λ w. IsCopied function w) }
+pub fn copy_whole_words(alloc: Global, function: &VFunc) -> Result<Option<VFunc>, AllocError>
+    ensures kept { IfOk result (λ o. IfSome o (λ w. Keeps (virtual_code function.now) (virtual_code w))) }
+    ensures copied { IfOk result (λ o. IfSome o (λ w. IsCopied function.now w)) }
 {
-    copied(alloc, &function)
+    let made = copied(alloc, function)?;
+    Ok(Some(made))
 }

@@ -64,6 +64,10 @@ fn line(alloc: Global, marks: &[bool], from: &Line<u32>) -> Result<Line<u32>, Al
     ensures { IfOk result (λ v. v ≡ with_copy marks.now from.now) }
 {
     match from {
+        Line::Tick { turn, weight } => Ok(Line::Tick {
+            turn: *turn,
+            weight: *weight,
+        }),
         Line::Operate {
             to,
             operation,

@@ -119,34 +119,21 @@ fn keeps_marks(marks: &[bool], line: &Line<u32>) -> bool
 fn lines_keep(marks: &[bool], lines: &[Line<u32>]) -> bool
     ensures { result ≡ list_all (keeps_marks marks.now) lines.now }
 {
-    for line in lines {
-        if !keeps_marks(marks, line) {
-            return false;
-        }
-    }
-    true
+    lines.iter().all(|line| keeps_marks(marks, line))
 }
 
 fn blocks_keep(marks: &[bool], blocks: &[Block<u32>]) -> bool
     ensures { result ≡ list_all (λ (b : BlockOf ℕ). list_all (keeps_marks marks.now) b.lines) blocks.now }
 {
-    for block in blocks {
-        if !lines_keep(marks, block.lines.as_slice()) {
-            return false;
-        }
-    }
-    true
+    blocks
+        .iter()
+        .all(|block| lines_keep(marks, block.lines.as_slice()))
 }
 
 fn params_keep(marks: &[bool], params: &[Destination<u32>]) -> bool
     ensures { result ≡ list_all (takes_whole marks.now) params.now }
 {
-    for param in params {
-        if !takes_whole(marks, *param) {
-            return false;
-        }
-    }
-    true
+    params.iter().all(|param| takes_whole(marks, *param))
 }
 
 fn are_closed(marks: &[bool], code: &Code<u32>) -> bool
@@ -209,8 +196,7 @@ pub fn whole_registers(
 ) -> Result<Vec<bool>, AllocError>
     ensures { IfOk result (λ marks. IsTrue (are_closed marks.items code.now)) }
 {
-    let mut marks = Vec::new(alloc);
-    marks.resize(registers as usize, true)?;
+    let mut marks = vec![in alloc; true; registers as usize]?;
     for _ in 0..ROUNDS {
         if are_closed(marks.as_slice(), code) {
             return Ok(marks);

@@ -35,12 +35,8 @@ fn call_bound(bounds: &Bounds, names: &[Target], callee: Val, count: usize) -> O
 fn args_fit(linked: &Linked<'_>, bounds: &Bounds, names: &[Target], args: &[Arg]) -> bool
     ensures { result ≡ args_fit (program linked.now) bounds.now names.now args.now }
 {
-    for arg in args {
-        if !operand_fits(linked, bounds, names, arg.value) {
-            return false;
-        }
-    }
-    true
+    args.iter()
+        .all(|arg| operand_fits(linked, bounds, names, arg.value))
 }
 
 fn inst_fits(linked: &Linked<'_>, bounds: &Bounds, names: &[Target], left: u64, inst: &Inst) -> bool
@@ -67,34 +63,23 @@ fn insts_fit(
 ) -> bool
     ensures { result ≡ list_all (λ i. inst_fits (program linked.now) bounds.now names.now left i.item) insts.now }
 {
-    for inst in insts {
-        if !inst_fits(linked, bounds, names, left, &inst.item) {
-            return false;
-        }
-    }
-    true
+    insts
+        .iter()
+        .all(|inst| inst_fits(linked, bounds, names, left, &inst.item))
 }
 
 fn phi_fits(linked: &Linked<'_>, bounds: &Bounds, names: &[Target], args: &[PhiArg]) -> bool
     ensures { result ≡ list_all (λ a. operand_fits (program linked.now) bounds.now names.now a.value) args.now }
 {
-    for arg in args {
-        if !operand_fits(linked, bounds, names, arg.value) {
-            return false;
-        }
-    }
-    true
+    args.iter()
+        .all(|arg| operand_fits(linked, bounds, names, arg.value))
 }
 
 fn phis_fit(linked: &Linked<'_>, bounds: &Bounds, names: &[Target], phis: &[Phi]) -> bool
     ensures { result ≡ list_all (phi_fits (program linked.now) bounds.now names.now) phis.now }
 {
-    for phi in phis {
-        if !phi_fits(linked, bounds, names, phi.args.as_slice()) {
-            return false;
-        }
-    }
-    true
+    phis.iter()
+        .all(|phi| phi_fits(linked, bounds, names, phi.args.as_slice()))
 }
 
 fn jump_fits(linked: &Linked<'_>, bounds: &Bounds, names: &[Target], jump: Jump) -> bool
@@ -144,10 +129,7 @@ pub(crate) fn blocks_fit(
 ) -> bool
     ensures { result ≡ list_all (block_fits (program linked.now) bounds.now names.now left) blocks.now }
 {
-    for block in blocks {
-        if !block_fits(linked, bounds, names, left, block) {
-            return false;
-        }
-    }
-    true
+    blocks
+        .iter()
+        .all(|block| block_fits(linked, bounds, names, left, block))
 }

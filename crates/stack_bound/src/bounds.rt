@@ -19,10 +19,7 @@ pub fn bound_of(bounds: &Bounds, callee: Callee) -> Option<u64>
     ensures { result ≡ bound_of bounds.now callee }
 {
     match callee {
-        Callee::Defined(function) => match bounds.functions.as_slice().get(function) {
-            Some(bound) => *bound,
-            None => None,
-        },
+        Callee::Defined(function) => *bounds.functions.as_slice().get(function)?,
         Callee::SystemWrite | Callee::SystemExit => Some(0),
     }
 }
@@ -31,10 +28,7 @@ pub fn bound_of(bounds: &Bounds, callee: Callee) -> Option<u64>
 pub(crate) fn pointed_bound(bounds: &Bounds, count: usize) -> Option<u64>
     ensures { result ≡ pointed_bound bounds.now count }
 {
-    match bounds.pointed.as_slice().get(count) {
-        Some(bound) => *bound,
-        None => None,
-    }
+    *bounds.pointed.as_slice().get(count)?
 }
 
 /// Whether a bound is at most another; one that is missing is above all.

@@ -4,6 +4,7 @@ use crate::graph::Graph;
 use il_ast::value::Callee;
 use obj_link::linking::linked::Linked;
 use std::alloc::{AllocError, Global};
+use std::mem;
 
 /// A step of a way of calls.
 #[derive(Clone, Copy)]
@@ -30,24 +31,15 @@ fn is_bounded(bounds: &Bounds, step: Step) -> bool {
 
 /// The first node without a bound that this one may call.
 fn next_of(graph: &Graph, bounds: &Bounds, node: usize) -> Option<usize> {
-    for callee in graph.callees_of(node) {
-        if !is_bounded(bounds, step_of(graph, *callee)) {
-            return Some(*callee);
-        }
-    }
-    None
+    let mut callees = graph.callees_of(node).iter().copied();
+    callees.find(|callee| !is_bounded(bounds, step_of(graph, *callee)))
 }
 
 /// Marks a node, and answers whether it was marked before.
 fn was_marked(marks: &mut [bool], node: usize) -> bool {
-    match marks.get_mut(node) {
-        Some(mark) => {
-            let before = *mark;
-            *mark = true;
-            before
-        }
-        None => true,
-    }
+    marks
+        .get_mut(node)
+        .is_none_or(|mark| mem::replace(mark, true))
 }
 
 /// A way of calls from `main` on, of functions and calls by pointer without a bound. The last step stands on it twice, unless `main` has a bound.

@@ -26,12 +26,9 @@ fn item_fits(linked: &Linked<'_>, bounds: &Bounds, names: &[Target], item: &Item
 fn items_fit(linked: &Linked<'_>, bounds: &Bounds, names: &[Target], items: &[Item]) -> bool
     ensures { result ≡ list_all (item_fits (program linked.now) bounds.now names.now) items.now }
 {
-    for item in items {
-        if !item_fits(linked, bounds, names, item) {
-            return false;
-        }
-    }
-    true
+    items
+        .iter()
+        .all(|item| item_fits(linked, bounds, names, item))
 }
 
 fn field_fits(linked: &Linked<'_>, bounds: &Bounds, names: &[Target], field: &Field) -> bool
@@ -46,12 +43,9 @@ fn field_fits(linked: &Linked<'_>, bounds: &Bounds, names: &[Target], field: &Fi
 fn fields_fit(linked: &Linked<'_>, bounds: &Bounds, names: &[Target], fields: &[Field]) -> bool
     ensures { result ≡ list_all (field_fits (program linked.now) bounds.now names.now) fields.now }
 {
-    for field in fields {
-        if !field_fits(linked, bounds, names, field) {
-            return false;
-        }
-    }
-    true
+    fields
+        .iter()
+        .all(|field| field_fits(linked, bounds, names, field))
 }
 
 /// Whether all these data do so.

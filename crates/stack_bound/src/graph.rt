@@ -2,13 +2,13 @@
 use crate::names::names_in;
 use crate::values::arity;
 use il_ast::block::Block;
-use il_ast::datum::{DataDef, Field, Item};
+use il_ast::datum::{Field, Item};
 use il_ast::few::Few;
-use il_ast::function::Func;
 use il_ast::instruction::{Inst, Jump};
 use il_ast::limits::ARGUMENTS;
 use il_ast::operand::Val;
-use il_ast::program::{InText, Target};
+use il_ast::program::Target;
+use il_ast::symbol::Symbol;
 use il_ast::value::Callee;
 use obj_link::linking::linked::Linked;
 use std::alloc::{AllocError, Global};
@@ -53,10 +53,7 @@ impl Graph {
 }
 
 fn list_at(lists: &[Few<usize>], node: usize) -> &[usize] {
-    match lists.get(node) {
-        Some(list) => list.as_slice(),
-        None => &[],
-    }
+    lists.get(node).map_or(&[], |list| list.as_slice())
 }
 
 /// The node of calls by pointer with so many arguments, of which there are at most as many as a call has.
@@ -76,22 +73,18 @@ fn add_edge(graph: &mut Graph, from: usize, to: usize) -> Result<(), AllocError>
     push(graph.callers.as_mut_slice(), to, from)
 }
 
-fn mark(values: &mut [bool], function: usize) {
-    if let Some(is_value) = values.get_mut(function) {
-        *is_value = true;
-    }
-}
-
 /// Marks the function that a name means, which may become a value.
-fn mark_name(graph: &mut Graph, target: Option<Target>) {
-    if let Some(Target::Code(Callee::Defined(function))) = target {
-        mark(graph.values.as_mut_slice(), function);
+fn mark_name(graph: &mut Graph, names: &[Target], symbol: Symbol) {
+    if let Some(Target::Code(Callee::Defined(function))) = names.get(symbol.number())
+        && let Some(is_value) = graph.values.get_mut(*function)
+    {
+        *is_value = true;
     }
 }
 
 fn mark_operand(graph: &mut Graph, names: &[Target], value: Val) {
     if let Val::Global(symbol) = value {
-        mark_name(graph, names.get(symbol.number()).copied());
+        mark_name(graph, names, symbol);
     }
 }
 
@@ -102,17 +95,15 @@ fn add_call(
     callee: Val,
     arguments: usize,
 ) -> Result<(), AllocError> {
-    match callee {
-        Val::Int(_) => Ok(()),
-        Val::Temp(_) => {
-            let to = pointed(graph, arguments);
-            add_edge(graph, from, to)
-        }
-        Val::Global(symbol) => match names.get(symbol.number()).copied() {
-            Some(Target::Code(Callee::Defined(to))) => add_edge(graph, from, to),
-            _ => Ok(()),
+    let to = match callee {
+        Val::Int(_) => return Ok(()),
+        Val::Temp(_) => pointed(graph, arguments),
+        Val::Global(symbol) => match names.get(symbol.number()) {
+            Some(Target::Code(Callee::Defined(to))) => *to,
+            _ => return Ok(()),
         },
-    }
+    };
+    add_edge(graph, from, to)
 }
 
 fn add_inst(
@@ -136,56 +127,37 @@ fn add_inst(
     }
 }
 
-fn mark_phis(graph: &mut Graph, names: &[Target], block: &Block) {
-    for phi in block.phis.as_slice() {
-        for arg in phi.args.as_slice() {
-            mark_operand(graph, names, arg.value);
-        }
-    }
-}
-
-fn mark_jump(graph: &mut Graph, names: &[Target], block: &Block) {
-    if let Some(jump) = &block.jump {
-        if let Jump::Return(Some(value)) = jump.item {
-            mark_operand(graph, names, value);
-        }
-    }
-}
-
 fn add_block(
     graph: &mut Graph,
     from: usize,
     names: &[Target],
     block: &Block,
 ) -> Result<(), AllocError> {
-    mark_phis(graph, names, block);
-    mark_jump(graph, names, block);
+    for arg in block
+        .phis
+        .as_slice()
+        .iter()
+        .flat_map(|phi| phi.args.as_slice())
+    {
+        mark_operand(graph, names, arg.value);
+    }
+    if let Some(jump) = &block.jump
+        && let Jump::Return(Some(value)) = jump.item
+    {
+        mark_operand(graph, names, value);
+    }
     for inst in block.insts.as_slice() {
         add_inst(graph, from, names, &inst.item)?;
     }
     Ok(())
 }
 
-fn add_function(
-    graph: &mut Graph,
-    from: usize,
-    names: &[Target],
-    function: &Func,
-) -> Result<(), AllocError> {
-    for block in function.blocks.as_slice() {
-        add_block(graph, from, names, block)?;
-    }
-    Ok(())
-}
-
-fn add_functions(
-    graph: &mut Graph,
-    linked: &Linked<'_>,
-    functions: &[InText<&Func>],
-) -> Result<(), AllocError> {
-    for (number, function) in functions.iter().enumerate() {
+fn add_functions(graph: &mut Graph, linked: &Linked<'_>) -> Result<(), AllocError> {
+    for (number, function) in linked.functions.as_slice().iter().enumerate() {
         let names = names_in(linked, function.text);
-        add_function(graph, number, names, function.item)?;
+        for block in function.item.blocks.as_slice() {
+            add_block(graph, number, names, block)?;
+        }
     }
     Ok(())
 }
@@ -194,14 +166,14 @@ fn mark_field(graph: &mut Graph, names: &[Target], field: &Field) {
     if let Field::Items { items, .. } = field {
         for item in items.as_slice() {
             if let Item::Address { symbol, .. } = item {
-                mark_name(graph, names.get(symbol.number()).copied());
+                mark_name(graph, names, *symbol);
             }
         }
     }
 }
 
-fn mark_objects(graph: &mut Graph, linked: &Linked<'_>, objects: &[InText<&DataDef>]) {
-    for object in objects {
+fn mark_objects(graph: &mut Graph, linked: &Linked<'_>) {
+    for object in linked.objects.as_slice() {
         let names = names_in(linked, object.text);
         for field in object.item.fields.as_slice() {
             mark_field(graph, names, field);
@@ -209,17 +181,10 @@ fn mark_objects(graph: &mut Graph, linked: &Linked<'_>, objects: &[InText<&DataD
     }
 }
 
-fn is_value(graph: &Graph, function: usize) -> bool {
-    match graph.values.get(function) {
-        Some(is_value) => *is_value,
-        None => false,
-    }
-}
-
 /// Calls by pointer may mean the functions that may become values.
 fn add_values(graph: &mut Graph, linked: &Linked<'_>) -> Result<(), AllocError> {
     for function in 0..graph.functions {
-        if is_value(graph, function) {
+        if graph.values.get(function) == Some(&true) {
             let from = pointed(graph, arity(linked, function));
             add_edge(graph, from, function)?;
         }
@@ -228,24 +193,7 @@ fn add_values(graph: &mut Graph, linked: &Linked<'_>) -> Result<(), AllocError> 
 }
 
 fn empty_lists(alloc: Global, count: usize) -> Result<Vec<Few<usize>>, AllocError> {
-    let mut lists = Vec::new(alloc);
-    for _ in 0..count {
-        lists.push(Few::new(alloc))?;
-    }
-    Ok(lists)
-}
-
-fn empty(alloc: Global, functions: usize) -> Result<Graph, AllocError> {
-    let nodes = functions.saturating_add(ARGUMENTS).saturating_add(1);
-    let callees = empty_lists(alloc, nodes)?;
-    let callers = empty_lists(alloc, nodes)?;
-    let values = vec![in alloc; false; functions]?;
-    Ok(Graph {
-        functions,
-        callees,
-        callers,
-        values,
-    })
+    (0..count).map(|_| Few::new(alloc)).collect(alloc)
 }
 
 /// Who calls whom in a program. It takes time and memory as the program is long.
@@ -254,10 +202,16 @@ fn empty(alloc: Global, functions: usize) -> Result<Graph, AllocError> {
 ///
 /// Only where memory was refused.
 pub fn graph_of(alloc: Global, linked: &Linked<'_>) -> Result<Graph, AllocError> {
-    let functions = linked.functions.as_slice();
-    let mut graph = empty(alloc, functions.len())?;
-    add_functions(&mut graph, linked, functions)?;
-    mark_objects(&mut graph, linked, linked.objects.as_slice());
+    let functions = linked.functions.len();
+    let nodes = functions.saturating_add(ARGUMENTS).saturating_add(1);
+    let mut graph = Graph {
+        functions,
+        callees: empty_lists(alloc, nodes)?,
+        callers: empty_lists(alloc, nodes)?,
+        values: vec![in alloc; false; functions]?,
+    };
+    add_functions(&mut graph, linked)?;
+    mark_objects(&mut graph, linked);
     add_values(&mut graph, linked)?;
     Ok(graph)
 }

@@ -1,9 +1,7 @@
 //! A guess of bounds: each node of the graph is settled once all that it may call is. What lies on a cycle, or may come to one, never is, and gets no bound.
 use crate::bounds::Bounds;
 use crate::graph::Graph;
-use il_ast::function::Func;
 use il_ast::list::Seq;
-use il_ast::program::InText;
 use il_types::cost::capped_need;
 use obj_link::linking::linked::Linked;
 use std::alloc::{AllocError, Global};
@@ -21,50 +19,18 @@ struct Search {
     ready: Vec<usize>,
 }
 
-fn needs(alloc: Global, functions: &[InText<&Func>]) -> Result<Vec<u64>, AllocError> {
-    let mut needs = Vec::new(alloc);
-    for function in functions {
-        needs.push(capped_need(function.item))?;
-    }
-    Ok(needs)
-}
-
-fn number_at(numbers: &[u64], node: usize) -> u64 {
-    match numbers.get(node) {
-        Some(number) => *number,
-        None => 0,
-    }
-}
-
-/// Hears of a call that is settled, and answers whether none is left.
-fn is_last(waiting: &mut [usize], node: usize) -> bool {
-    match waiting.get_mut(node) {
-        Some(count) => {
-            *count = count.saturating_sub(1);
-            *count == 0
-        }
-        None => false,
-    }
-}
-
-fn raise(greatest: &mut [u64], node: usize, bound: u64) {
-    if let Some(most) = greatest.get_mut(node) {
-        *most = (*most).max(bound);
-    }
-}
-
+/// Hears of a call that has a bound; the node is ready where none is left.
 fn release(search: &mut Search, node: usize, bound: u64) -> Result<(), AllocError> {
-    raise(search.greatest.as_mut_slice(), node, bound);
-    if is_last(search.waiting.as_mut_slice(), node) {
-        search.ready.push(node)?;
+    if let Some(greatest) = search.greatest.get_mut(node) {
+        *greatest = (*greatest).max(bound);
+    }
+    if let Some(count) = search.waiting.get_mut(node) {
+        *count = count.saturating_sub(1);
+        if *count == 0 {
+            search.ready.push(node)?;
+        }
     }
     Ok(())
-}
-
-fn set(bounds: &mut [Option<u64>], node: usize, bound: u64) {
-    if let Some(at) = bounds.get_mut(node) {
-        *at = Some(bound);
-    }
 }
 
 fn settle(
@@ -73,51 +39,26 @@ fn settle(
     search: &mut Search,
     node: usize,
 ) -> Result<(), AllocError> {
-    let most = number_at(search.greatest.as_slice(), node);
-    let bound = number_at(needs, node).saturating_add(most);
-    set(search.bounds.as_mut_slice(), node, bound);
+    let most = search.greatest.get(node).copied().unwrap_or(0);
+    let bound = needs.get(node).copied().unwrap_or(0).saturating_add(most);
+    if let Some(at) = search.bounds.get_mut(node) {
+        *at = Some(bound);
+    }
     for caller in graph.callers_of(node) {
         release(search, *caller, bound)?;
     }
     Ok(())
 }
 
-/// How many calls each node makes.
-fn counts(alloc: Global, graph: &Graph) -> Result<Vec<usize>, AllocError> {
-    let mut counts = Vec::new(alloc);
-    for node in 0..graph.len() {
-        counts.push(graph.callees_of(node).len())?;
-    }
-    Ok(counts)
-}
-
-/// The nodes that make no call.
-fn leaves(alloc: Global, waiting: &[usize]) -> Result<Vec<usize>, AllocError> {
-    let mut leaves = Vec::new(alloc);
-    for (node, count) in waiting.iter().enumerate() {
-        if *count == 0 {
-            leaves.push(node)?;
-        }
-    }
-    Ok(leaves)
-}
-
 fn begin(alloc: Global, graph: &Graph) -> Result<Search, AllocError> {
-    let waiting = counts(alloc, graph)?;
-    let ready = leaves(alloc, waiting.as_slice())?;
-    let greatest = vec![in alloc; 0; graph.len()]?;
-    let bounds = vec![in alloc; None; graph.len()]?;
+    let calls = (0..graph.len()).map(|node| graph.callees_of(node).len());
+    let leaves = (0..graph.len()).filter(|node| graph.callees_of(*node).is_empty());
     Ok(Search {
-        waiting,
-        greatest,
-        bounds,
-        ready,
+        waiting: calls.collect(alloc)?,
+        greatest: vec![in alloc; 0; graph.len()]?,
+        bounds: vec![in alloc; None; graph.len()]?,
+        ready: leaves.collect(alloc)?,
     })
-}
-
-/// The next node that waits for nothing.
-fn ready_at(ready: &[usize], at: usize) -> Option<usize> {
-    ready.get(at).copied()
 }
 
 /// The bounds from one node up to another.
@@ -127,11 +68,8 @@ fn bounds_from(
     from: usize,
     to: usize,
 ) -> Result<Seq<Option<u64>>, AllocError> {
-    let mut list = Vec::new(alloc);
-    for node in from..to {
-        list.push(bounds.get(node).copied().flatten())?;
-    }
-    Ok(Seq::from_vec(list))
+    let list = (from..to).map(|node| bounds.get(node).copied().flatten());
+    Ok(Seq::from_vec(list.collect(alloc)?))
 }
 
 /// What is likely the least bounds of a program's calls.
@@ -144,10 +82,11 @@ pub(crate) fn guess(
     linked: &Linked<'_>,
     graph: &Graph,
 ) -> Result<Bounds, AllocError> {
-    let needs = needs(alloc, linked.functions.as_slice())?;
+    let functions = linked.functions.as_slice().iter();
+    let needs: Vec<u64> = functions.map(|f| capped_need(f.item)).collect(alloc)?;
     let mut search = begin(alloc, graph)?;
     for at in 0..graph.len() {
-        let Some(node) = ready_at(search.ready.as_slice(), at) else {
+        let Some(node) = search.ready.get(at).copied() else {
             break;
         };
         settle(graph, needs.as_slice(), &mut search, node)?;

@@ -7,7 +7,15 @@ use Rattle.vcode.specs.declared.place.Destination.{Destination}
 use Rattle.vcode.specs.declared.code.Code.{Code}
 use Rattle.vcode.specs.Named.{keeps_places, are_distinct}
 use Rattle.vcode.specs.Places.{Places}
-use Rattle.vcode.specs.Regular.{IsRegular, code_weight}
+use Rattle.vcode.specs.declared.line.Line.{Line}
+use Rattle.vcode.specs.Regular.{IsRegular, alloc_bytes, code_weight, weight_of}
+use Rattle.step_by_step.specs.declared.code_text.rules.check.Measure.{Measure}
+use Rattle.step_by_step.specs.declared.code_text.rules.check.Measure.TheVariants.{Stack, Weight}
+
+-- what a line has of a measure
+abbrev pub measured : {P : Type 0} → Measure → Line P → ℕ
+measured Stack = alloc_bytes
+measured Weight = weight_of
 
 -- Of so many places (`count`) it names those that exist; its parameters come to near places, no two of which `apart` says to be one.
 pub record IsFunction {P : Type 0} (exists : ℕ → P → Bool) (near : P → Bool)

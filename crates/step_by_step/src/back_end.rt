@@ -1,28 +1,21 @@
 //! The steps of the back end.
 use rv_isa::decode::decode;
 use rv_isa::encode::encode;
-use rv_isa::instruction::Instr;
 use rv_isa::text::text;
 use std::alloc::Global;
 use text_maker::maker::TextMaker;
-
-fn add_instruction(out: &mut TextMaker, alloc: Global, instruction: Instr) {
-    match text(alloc, instruction) {
-        Ok(shown) => out.add(shown.as_str()),
-        Err(_) => out.add("refused"),
-    }
-}
+use text_maker::say;
 
 /// Adds the instruction of a word, which has to be encoded as that word.
 fn add_word(out: &mut TextMaker, alloc: Global, word: u32) {
     match decode(word) {
-        Some(instruction) if encode(instruction) == word => {
-            add_instruction(out, alloc, instruction)
-        }
-        Some(_) => out.add("encoded otherwise"),
-        None => out.add("none"),
+        Some(instruction) if encode(instruction) == word => match text(alloc, instruction) {
+            Ok(shown) => say!(out; "{shown}\n"),
+            Err(_) => out.add("refused\n"),
+        },
+        Some(_) => out.add("encoded otherwise\n"),
+        None => out.add("none\n"),
     }
-    out.add("\n");
 }
 
 /// The instruction of each word: words in hexadecimal, one on a line.

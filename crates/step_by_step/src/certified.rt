@@ -9,6 +9,7 @@ use certificates::certificate::{Certificate, Equality, Transfer};
 use il_ast::list::Seq;
 use std::alloc::{AllocError, Global};
 use text_maker::maker::TextMaker;
+use text_maker::say;
 use vcode::place::Location;
 
 /// What stands in a list, as text.
@@ -24,7 +25,7 @@ impl Part for Location {
     }
 
     fn write(self, to: &mut TextMaker) {
-        Place::write(self, to);
+        say!(to; "{}", self.word());
     }
 }
 
@@ -38,9 +39,7 @@ impl Part for Equality {
     }
 
     fn write(self, to: &mut TextMaker) {
-        Place::write(self.register, to);
-        to.add(" ");
-        Place::write(self.place, to);
+        say!(to; "{} {}", self.register.word(), self.place.word());
     }
 }
 
@@ -54,9 +53,7 @@ impl Part for Transfer {
     }
 
     fn write(self, to: &mut TextMaker) {
-        Place::write(self.from, to);
-        to.add(" to ");
-        Place::write(self.to, to);
+        say!(to; "{} to {}", self.from.word(), self.to.word());
     }
 }
 
@@ -108,7 +105,21 @@ fn read(alloc: Global, text: &str) -> Option<Certificate> {
     Some(certificate)
 }
 
-fn put_points(to: &mut TextMaker, moves: &[Seq<Transfer>], places: &[Seq<Equality>]) {
+/// The text of a certificate.
+pub fn certificate_text(alloc: Global, certificate: &Certificate) -> Result<String, AllocError> {
+    let mut to = TextMaker::new(alloc);
+    put_parts(&mut to, "params", certificate.params.as_slice());
+    put_parts(&mut to, "everywhere", certificate.everywhere.as_slice());
+    for start in certificate.starts.as_slice() {
+        put_parts(&mut to, "start", start.as_slice());
+    }
+    put_points(&mut to, certificate);
+    to.finish()
+}
+
+fn put_points(to: &mut TextMaker, certificate: &Certificate) {
+    let moves = certificate.moves.as_slice();
+    let places = certificate.places.as_slice();
     for point in 0..moves.len().max(places.len()) {
         if let Some(moves) = moves.get(point) {
             put_parts(to, "moves", moves.as_slice());
@@ -119,31 +130,11 @@ fn put_points(to: &mut TextMaker, moves: &[Seq<Transfer>], places: &[Seq<Equalit
     }
 }
 
-/// The text of a certificate.
-pub fn certificate_text(alloc: Global, certificate: &Certificate) -> Result<String, AllocError> {
-    let mut to = TextMaker::new(alloc);
-    put_parts(&mut to, "params", certificate.params.as_slice());
-    put_parts(&mut to, "everywhere", certificate.everywhere.as_slice());
-    for start in certificate.starts.as_slice() {
-        put_parts(&mut to, "start", start.as_slice());
-    }
-    put_points(
-        &mut to,
-        certificate.moves.as_slice(),
-        certificate.places.as_slice(),
-    );
-    to.finish()
-}
-
 /// The certificate that a text describes. None where the text isn't what is written of one, or memory is refused.
 pub fn certificate_of(alloc: Global, text: &str) -> Option<Certificate> {
     let certificate = read(alloc, text)?;
     let back = certificate_text(alloc, &certificate).ok()?;
-    if is_same(text, back.as_str()) {
-        Some(certificate)
-    } else {
-        None
-    }
+    is_same(text, back.as_str()).then_some(certificate)
 }
 
 /// The places of a list.

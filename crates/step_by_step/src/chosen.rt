@@ -5,11 +5,11 @@ use block_layout::placement::choice::chains::chained;
 use block_layout::tails::choice::{Worth, chosen_tails};
 use code_motion::choice::choose::choose_plan;
 use constant_placement::hoisting::choice::choose::choose_plans;
-use constant_placement::hoisting::plan::Plan;
 use constant_placement::sinking::choice::choose;
 use qbec::passes::Pass;
 use std::alloc::Global;
 use text_maker::maker::TextMaker;
+use text_maker::say;
 use vcode::function::VFunc;
 
 /// Registers that are computed at the ends of blocks, and in front of lines.
@@ -17,11 +17,8 @@ fn add_computations(text: &mut TextMaker, alloc: Global, function: &VFunc) -> Op
     let plan = choose_plan(alloc, function).ok()??;
     for (number, block) in plan.blocks.as_slice().iter().enumerate() {
         for computation in &block.behind {
-            let register = u64::from(computation.register);
-            text.add_with_numbers(
-                "// computed: %# at the end of @#\n",
-                &[register, number as u64],
-            );
+            let register = computation.register;
+            say!(text; "// computed: %{register} at the end of @{number}\n");
         }
     }
     Some(())
@@ -31,29 +28,20 @@ fn add_sets(text: &mut TextMaker, alloc: Global, function: &VFunc) -> Option<()>
     let plans = choose(alloc, function).ok()??;
     for (number, plan) in plans.as_slice().iter().enumerate() {
         for known in plan.sets.as_slice() {
-            let register = u64::from(known.register);
-            text.add_with_numbers("// set: %# in @#\n", &[register, number as u64]);
+            say!(text; "// set: %{} in @{number}\n", known.register);
         }
     }
     Some(())
 }
 
-/// The blocks that set a register to a constant.
-fn add_constant(text: &mut TextMaker, plan: &Plan) {
-    for (number, sets) in plan.sets.as_slice().iter().enumerate() {
-        if *sets {
-            let register = u64::from(plan.register);
-            text.add_with_numbers(
-                "// held: a constant in %# from @# on\n",
-                &[register, number as u64],
-            );
-        }
-    }
-}
-
+/// The blocks that set registers to constants.
 fn add_constants(text: &mut TextMaker, alloc: Global, function: &VFunc) -> Option<()> {
     for plan in &choose_plans(alloc, function).ok()? {
-        add_constant(text, plan);
+        let register = plan.register;
+        let sets = plan.sets.as_slice().iter().enumerate();
+        for (number, _) in sets.filter(|(_, sets)| **sets) {
+            say!(text; "// held: a constant in %{register} from @{number} on\n");
+        }
     }
     Some(())
 }
@@ -64,7 +52,7 @@ fn add_copies(text: &mut TextMaker, alloc: Global, function: &VFunc, worth: Wort
     let chosen = chosen_tails(alloc, blocks, &[], worth).ok()??;
     for (number, is_chosen) in chosen.as_slice().iter().enumerate() {
         if *is_chosen {
-            text.add_with_numbers("// copied: what @# goes to\n", &[number as u64]);
+            say!(text; "// copied: what @{number} goes to\n");
         }
     }
     Some(())

@@ -1,9 +1,9 @@
 //! Files of executables: that of a program that exits with 0, as it is written, and what is read of it once bytes are changed.
-use crate::hexadecimal::add_hexadecimal;
-use elf_file::{Loaded, Segment, read_image, write_image};
+use elf_file::{Loaded, read_image, write_image};
 use obj_link::{Image, SLOT};
 use std::alloc::Global;
 use text_maker::maker::TextMaker;
+use text_maker::say;
 
 /// `addi x10, x0, 0`, `addi x17, x0, 93` and `ecall`.
 const EXIT: [u32; 3] = [0x0000_0513, 0x05d0_0893, 0x0000_0073];
@@ -19,28 +19,22 @@ fn exit_file(alloc: Global, size: usize) -> Option<Vec<u8>> {
     }
 }
 
-fn add_bytes(out: &mut TextMaker, alloc: Global, bytes: &[u8]) {
+fn add_bytes(out: &mut TextMaker, bytes: &[u8]) {
     for byte in bytes {
-        out.add(" ");
-        add_hexadecimal(out, alloc, u64::from(*byte));
+        say!(out; " {byte:02x}");
     }
     out.add("\n");
-}
-
-fn add_row(out: &mut TextMaker, alloc: Global, offset: usize, row: &[u8]) {
-    if row.iter().any(|byte| *byte != 0) {
-        add_hexadecimal(out, alloc, offset as u64);
-        out.add(":");
-        add_bytes(out, alloc, row);
-    }
 }
 
 fn rows(alloc: Global, file: &[u8]) -> Option<String> {
     let mut out = TextMaker::new(alloc);
     for (number, row) in file.chunks(16).enumerate() {
-        add_row(&mut out, alloc, number.saturating_mul(16), row);
+        if row.iter().any(|byte| *byte != 0) {
+            say!(out; "{:02x}:", number.saturating_mul(16));
+            add_bytes(&mut out, row);
+        }
     }
-    out.add_with_numbers("# bytes", &[file.len() as u64]);
+    say!(out; "{} bytes", file.len());
     out.finish().ok()
 }
 
@@ -54,36 +48,26 @@ pub fn written(alloc: Global, size: &str) -> Option<String> {
     rows(alloc, file.as_slice())
 }
 
-fn write_byte(file: &mut Vec<u8>, offset: &str, byte: &str) {
-    if let Some(place) = file.get_mut(number_of(offset)) {
-        *place = byte.parse::<u8>().unwrap_or(0);
-    }
-}
-
 /// Changes a file as a line says: the offset of a byte and what stands there, or `cut` and the length.
 fn change(file: &mut Vec<u8>, line: &str) {
     match line.split_once(' ') {
         Some(("cut", length)) => file.truncate(number_of(length)),
-        Some((offset, byte)) => write_byte(file, offset, byte),
+        Some((offset, byte)) => {
+            if let Some(place) = file.get_mut(number_of(offset)) {
+                *place = byte.parse::<u8>().unwrap_or(0);
+            }
+        }
         None => {}
     }
 }
 
-fn add_segment(out: &mut TextMaker, alloc: Global, segment: &Segment) {
-    add_hexadecimal(out, alloc, segment.address());
-    out.add_with_numbers(", # bytes, ", &[segment.size()]);
-    out.add_debug(&segment.flags());
-    out.add(":");
-    add_bytes(out, alloc, segment.file_bytes());
-}
-
 fn segments(alloc: Global, loaded: &Loaded) -> Option<String> {
     let mut out = TextMaker::new(alloc);
-    out.add("entry ");
-    add_hexadecimal(&mut out, alloc, loaded.entry());
-    out.add("\n");
+    say!(out; "entry {:02x}\n", loaded.entry());
     for segment in loaded.segments() {
-        add_segment(&mut out, alloc, segment);
+        let (address, size) = (segment.address(), segment.size());
+        say!(out; "{address:02x}, {size} bytes, {:?}:", segment.flags());
+        add_bytes(&mut out, segment.file_bytes());
     }
     out.finish().ok()
 }

@@ -16,6 +16,7 @@ use rv_isa::relocation::Relocation;
 use rv_isa::text::text;
 use std::alloc::{AllocError, Global};
 use text_maker::maker::TextMaker;
+use text_maker::say;
 
 /// A branch to a label, in the place of an offset.
 fn branch_text(
@@ -60,17 +61,12 @@ fn item_text(alloc: Global, item: Item) -> Result<String, AllocError> {
     }
 }
 
-fn push_item(to: &mut String, alloc: Global, item: Item) -> Result<(), AllocError> {
-    to.push_str(item_text(alloc, item)?.as_str())?;
-    to.push_str("\n")
-}
-
 fn items_text(alloc: Global, items: &[Item]) -> Result<String, AllocError> {
-    let mut text = String::new(alloc);
+    let mut to = TextMaker::new(alloc);
     for item in items {
-        push_item(&mut text, alloc, *item)?;
+        say!(to; "{}\n", item_text(alloc, *item)?);
     }
-    Ok(text)
+    to.finish()
 }
 
 fn code_of(alloc: Global, text: &str) -> Option<String> {
@@ -79,20 +75,16 @@ fn code_of(alloc: Global, text: &str) -> Option<String> {
     items_text(alloc, code.items()).ok()
 }
 
-fn push_word(to: &mut String, alloc: Global, at: usize, word: u32) -> Result<(), AllocError> {
-    to.push_str(format!(in alloc; "{:4} {:08x} ", at.wrapping_mul(4), word)?.as_str())?;
-    if let Some(instruction) = decode(word) {
-        to.push_str(text(alloc, instruction)?.as_str())?;
-    }
-    to.push_str("\n")
-}
-
 fn words_text(alloc: Global, code: &MachineCode) -> Result<String, AllocError> {
-    let mut text = String::new(alloc);
+    let mut to = TextMaker::new(alloc);
     for (at, word) in code.words().iter().enumerate() {
-        push_word(&mut text, alloc, at, *word)?;
+        say!(to; "{:4} {word:08x} ", at.wrapping_mul(4));
+        if let Some(instruction) = decode(*word) {
+            say!(to; "{}", text(alloc, instruction)?);
+        }
+        to.add("\n");
     }
-    Ok(text)
+    to.finish()
 }
 
 /// The words of a function: each with its offset from the first and its instruction.
@@ -113,19 +105,14 @@ fn counted(line: &str) -> (u64, &str) {
     }
 }
 
-fn add_line(to: &mut TextMaker, line: &str) {
-    let (count, line) = counted(line);
-    for _ in 0..count {
-        to.add(line);
-        to.add("\n");
-    }
-}
-
 /// The text with each line as often as it stands there.
 fn expanded(alloc: Global, text: &str) -> Option<String> {
     let mut to = TextMaker::new(alloc);
     for line in text.lines() {
-        add_line(&mut to, line);
+        let (count, line) = counted(line);
+        for _ in 0..count {
+            say!(to; "{line}\n");
+        }
     }
     to.finish().ok()
 }
@@ -142,37 +129,17 @@ pub fn code(alloc: Global, text: &str) -> Option<String> {
     code_of(alloc, function.as_str())
 }
 
-/// What comes behind the lines of the function that keeps registers.
-const KEEPING: &str = "
-goto @1
-@1
-tick 1000 turn
-call 0()
-x8 = 0
-x9 = 0
-x18 = 0
-x19 = 0
-x20 = 0
-x21 = 0
-x22 = 0
-x23 = 0
-x24 = 0
-x25 = 0
-x26 = 0
-x27 = 0
-halt";
-
 /// A function of two blocks. The second makes a call and writes all registers that callees keep, so that the frame begins with thirteen saved registers, and its slots
 /// stand behind them at 104. There are 3 of these where nothing else is said.
 fn keeping(alloc: Global, params: &str, slots: &str, lines: &str) -> Option<String> {
     let mut to = TextMaker::new(alloc);
-    to.add("function w (");
-    to.add(params);
-    to.add(") ");
-    to.add(if slots.is_empty() { "slots 3" } else { slots });
-    to.add("\n@0\ntick 1000 turn\n");
-    to.add(lines);
-    to.add(KEEPING);
+    let slots = if slots.is_empty() { "slots 3" } else { slots };
+    say!(to; "function w ({params}) {slots}\n@0\ntick 1000 turn\n{lines}\n");
+    to.add("goto @1\n@1\ntick 1000 turn\ncall 0()\n");
+    for register in [8, 9, 18, 19, 20, 21, 22, 23, 24, 25, 26, 27] {
+        say!(to; "x{register} = 0\n");
+    }
+    to.add("halt");
     to.finish().ok()
 }
 

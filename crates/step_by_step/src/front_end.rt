@@ -10,6 +10,7 @@ use il_types::error::CheckError;
 use promote::promote::promote;
 use std::alloc::{AllocError, Global};
 use text_maker::maker::TextMaker;
+use text_maker::say;
 
 /// The tree of a text, or why it isn't read.
 pub fn tree(alloc: Global, text: &str) -> Option<String> {
@@ -20,18 +21,16 @@ pub fn tree(alloc: Global, text: &str) -> Option<String> {
     }
 }
 
-fn add_measures(out: &mut TextMaker, function: &Func) {
-    let measures = [weight(function), alloc_area(function)];
-    out.add_with_numbers("weight #, # bytes of locals\n", &measures);
-}
-
 /// The measures of a good text.
 fn measures(alloc: Global, text: &Text) -> Result<String, AllocError> {
     let mut out = TextMaker::new(alloc);
-    out.add_with_numbers("# bytes\n", &[text.bytes as u64]);
+    say!(out; "{} bytes\n", text.bytes);
     for definition in text.definitions.as_slice() {
         match definition {
-            Definition::Function(function) => add_measures(&mut out, function),
+            Definition::Function(function) => {
+                let (weight, bytes) = (weight(function), alloc_area(function));
+                say!(out; "weight {weight}, {bytes} bytes of locals\n");
+            }
             Definition::Object(_) => out.add("data\n"),
         }
     }
@@ -56,10 +55,7 @@ fn checked_tree(alloc: Global, tree: Text) -> Result<String, AllocError> {
 
 /// The measures of a text that keeps the rules, or why it is refused.
 pub fn checked(alloc: Global, text: &str) -> Option<String> {
-    match read(alloc, text.as_bytes()) {
-        Ok(tree) => checked_tree(alloc, tree).ok(),
-        Err(_) => None,
-    }
+    checked_tree(alloc, read(alloc, text.as_bytes()).ok()?).ok()
 }
 
 fn only_function(text: &Text) -> Option<&Func> {
@@ -69,15 +65,9 @@ fn only_function(text: &Text) -> Option<&Func> {
     }
 }
 
-fn promoted_function(alloc: Global, text: &Text) -> Option<String> {
-    let function = promote(alloc, only_function(text)?).ok()?;
-    show_alone(alloc, &function).ok()
-}
-
 /// The tree of a text's only function once its locals are promoted.
 pub fn promoted(alloc: Global, text: &str) -> Option<String> {
-    match read(alloc, text.as_bytes()) {
-        Ok(tree) => promoted_function(alloc, &tree),
-        Err(_) => None,
-    }
+    let tree = read(alloc, text.as_bytes()).ok()?;
+    let function = promote(alloc, only_function(&tree)?).ok()?;
+    show_alone(alloc, &function).ok()
 }

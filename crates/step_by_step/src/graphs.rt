@@ -9,21 +9,18 @@ use cfg_live::points;
 use cfg_live::sets::Live;
 use cfg_live::uses::Uses;
 use il_ast::list::Seq;
-use std::alloc::{AllocError, Global};
+use std::alloc::Global;
 use text_maker::maker::TextMaker;
-
-/// What a point reads and writes.
-fn uses(alloc: Global, reads: &str, writes: &str) -> Option<Uses> {
-    Some(Uses {
-        writes: writes.trim().parse::<u32>().ok(),
-        reads: registers(alloc, reads)?,
-    })
-}
+use text_maker::say;
 
 fn take(alloc: Global, graph: &mut Graph, line: &str) -> Option<()> {
     let (reads, rest) = line.split_once('|')?;
     let (writes, next) = rest.split_once('|')?;
-    graph.uses.push(uses(alloc, reads, writes)?).ok()?;
+    let uses = Uses {
+        writes: writes.trim().parse::<u32>().ok(),
+        reads: registers(alloc, reads)?,
+    };
+    graph.uses.push(uses).ok()?;
     graph.nexts.push(numbers(alloc, next)?).ok()
 }
 
@@ -41,27 +38,13 @@ fn graph(alloc: Global, text: &str) -> Option<Graph> {
 
 /// Adds the line of a point: which registers are live there, looked for up to the number behind the last.
 fn add_live(text: &mut TextMaker, live: &Live, point: usize, registers: u32) {
-    text.add_with_numbers("#:", &[point as u64]);
+    say!(text; "{point}:");
     for register in 0..registers.saturating_add(1) {
         if live.holds(point, register) {
-            text.add_with_numbers(" #", &[u64::from(register)]);
+            say!(text; " {register}");
         }
     }
     text.add("\n");
-}
-
-/// A line for each point, and one for the number behind the last.
-fn live_lines(
-    alloc: Global,
-    live: &Live,
-    points: usize,
-    registers: u32,
-) -> Result<String, AllocError> {
-    let mut text = TextMaker::new(alloc);
-    for point in 0..points.saturating_add(1) {
-        add_live(&mut text, live, point, registers);
-    }
-    text.finish()
 }
 
 /// Which of so many registers are live at each point of a graph.
@@ -69,22 +52,22 @@ pub fn live_registers(alloc: Global, text: &str, count: &str) -> Option<String> 
     let registers = count.parse::<u32>().ok()?;
     let graph = graph(alloc, text)?;
     let live = live_in(alloc, &graph, registers).ok()?;
-    live_lines(alloc, &live, graph.uses.len(), registers).ok()
-}
-
-fn add_uses(text: &mut TextMaker, uses: &Uses) {
-    for register in uses.reads.as_slice() {
-        text.add_with_numbers("# ", &[u64::from(*register)]);
+    let mut text = TextMaker::new(alloc);
+    for point in 0..graph.uses.len().saturating_add(1) {
+        add_live(&mut text, &live, point, registers);
     }
-    text.add("|");
-    if let Some(register) = uses.writes {
-        text.add_with_numbers(" #", &[u64::from(register)]);
-    }
+    text.finish().ok()
 }
 
 fn add_point(text: &mut TextMaker, graph: &Graph, point: usize) {
     if let Some(uses) = graph.uses.as_slice().get(point) {
-        add_uses(text, uses);
+        for register in uses.reads.as_slice() {
+            say!(text; "{register} ");
+        }
+        text.add("|");
+        if let Some(register) = uses.writes {
+            say!(text; " {register}");
+        }
     }
     text.add(" |");
     if let Some(next) = graph.nexts.as_slice().get(point) {
@@ -93,17 +76,13 @@ fn add_point(text: &mut TextMaker, graph: &Graph, point: usize) {
     text.add("\n");
 }
 
-fn graph_lines(alloc: Global, graph: &Graph) -> Result<String, AllocError> {
-    let mut text = TextMaker::new(alloc);
-    for point in 0..graph.uses.len().max(graph.nexts.len()) {
-        add_point(&mut text, graph, point);
-    }
-    text.finish()
-}
-
 /// The graph of a function's points.
 pub fn points_of(alloc: Global, text: &str) -> Option<String> {
     let function = virtual_function(alloc, text)?;
     let graph = points::graph(alloc, &function).ok()?;
-    graph_lines(alloc, &graph).ok()
+    let mut text = TextMaker::new(alloc);
+    for point in 0..graph.uses.len().max(graph.nexts.len()) {
+        add_point(&mut text, &graph, point);
+    }
+    text.finish().ok()
 }

@@ -1,6 +1,5 @@
-//! Bytes and numbers that a table has in hexadecimal digits.
+//! Bytes that a table has in hexadecimal digits.
 use std::alloc::{AllocError, Global};
-use text_maker::maker::TextMaker;
 
 /// Adds the byte that two digits stand for, and what is behind them.
 fn add_marked(bytes: &mut Vec<u8>, part: &str) -> Result<(), AllocError> {
@@ -19,12 +18,4 @@ pub fn bytes_of(alloc: Global, text: &str) -> Result<Vec<u8>, AllocError> {
         add_marked(&mut bytes, part)?;
     }
     Ok(bytes)
-}
-
-/// Adds a number in hexadecimal digits, at least two.
-pub fn add_hexadecimal(out: &mut TextMaker, alloc: Global, number: u64) {
-    match format!(in alloc; "{number:02x}") {
-        Ok(digits) => out.add(digits.as_str()),
-        Err(_) => out.add("refused"),
-    }
 }

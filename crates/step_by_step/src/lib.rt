@@ -31,7 +31,7 @@ mod watch;
 
 use crate::case::{Case, case_of};
 use crate::code_text::function::is_same;
-use crate::step::{BACK_END, FRONT_END, PARTS_OF_PASSES, Step};
+use crate::step::{BACK_END, FRONT_END, PARTS_OF_PASSES, made};
 use crate::watch::watched;
 use qbec::passes::PASSES;
 use std::alloc::{AllocError, Global};
@@ -39,9 +39,9 @@ use std::rt::Files;
 use std::{fs, io, str};
 use test_report::report::Report;
 
-fn check_case(step: Step, case: Case<'_>, report: &mut Report) -> Result<(), AllocError> {
+fn check_case(step: &str, case: Case<'_>, report: &mut Report) -> Result<(), AllocError> {
     report.begin(case.name)?;
-    match step.made(report.alloc, case) {
+    match made(step, report.alloc, case) {
         Some(made) if is_same(made.as_str(), case.wanted) => Ok(()),
         Some(made) => report.compare("made", case.wanted, made.as_str()),
         None => report.fail("made", case.wanted, "nothing"),
@@ -49,13 +49,13 @@ fn check_case(step: Step, case: Case<'_>, report: &mut Report) -> Result<(), All
 }
 
 /// Checks each case of a table: what stands before a line with a dot.
-fn check_table(step: Step, table: &str, report: &mut Report) -> Result<(), AllocError> {
-    report.enter(step.name())?;
+fn check_table(step: &str, table: &str, report: &mut Report) -> Result<(), AllocError> {
+    report.enter(step)?;
     for text in table.strip_suffix("\n.\n").unwrap_or(table).split("\n.\n") {
         match case_of(text) {
             Some(case) => check_case(step, case, report)?,
             None => {
-                report.begin(step.name())?;
+                report.begin(step)?;
                 report.fail("read", "a case", text)?;
             }
         }
@@ -63,12 +63,20 @@ fn check_table(step: Step, table: &str, report: &mut Report) -> Result<(), Alloc
     Ok(())
 }
 
-fn check_step<R: Files + AllocGlobal>(rt: &R, step: Step, report: &mut Report) -> io::Result<()> {
-    let name = step.name();
-    let path = format!(in rt.alloc(); "steps/{name}.cases")?;
-    let bytes = fs::read(rt, path.as_str())?;
-    let table = str::from_utf8(bytes.as_slice()).unwrap_or("");
-    check_table(step, table, report)?;
+/// Checks the tables of those of these steps that are named, or of all of them where none is.
+fn check_steps<R: Files + AllocGlobal>(
+    rt: &R,
+    steps: &[&str],
+    names: &[String],
+    report: &mut Report,
+) -> io::Result<()> {
+    for step in steps {
+        if names.is_empty() || names.iter().any(|name| name.as_str() == *step) {
+            let path = format!(in rt.alloc(); "steps/{step}.cases")?;
+            let bytes = fs::read(rt, path.as_str())?;
+            check_table(step, str::from_utf8(bytes.as_slice()).unwrap_or(""), report)?;
+        }
+    }
     Ok(())
 }
 
@@ -82,40 +90,22 @@ fn watched_file<R: Files + AllocGlobal>(rt: &R, path: &str) -> io::Result<String
     }
 }
 
-/// Checks the tables of those of these steps that are named, or of all of them where none is.
-fn check_steps<R: Files + AllocGlobal>(
-    rt: &R,
-    steps: &[Step],
-    names: &[String],
-    report: &mut Report,
-) -> io::Result<()> {
-    for step in steps {
-        if names.is_empty() || names.iter().any(|name| name.as_str() == step.name()) {
-            check_step(rt, *step, report)?;
+/// The names of the compiler's passes, each once.
+fn pass_names(alloc: Global) -> Result<Vec<&'static str>, AllocError> {
+    let mut names = Vec::new(alloc);
+    for pass in &PASSES {
+        if !names.iter().any(|name| *name == pass.name()) {
+            names.push(pass.name())?;
         }
     }
-    Ok(())
-}
-
-/// The steps of the compiler's passes, each once.
-fn pass_steps(alloc: Global) -> Result<Vec<Step>, AllocError> {
-    let mut steps = Vec::new(alloc);
-    for (place, pass) in PASSES.iter().enumerate() {
-        if !PASSES[..place]
-            .iter()
-            .any(|before| before.name() == pass.name())
-        {
-            steps.push(Step::Pass(*pass))?;
-        }
-    }
-    Ok(steps)
+    Ok(names)
 }
 
 /// Checks the tables of the steps that are named, or of all where none is. The lines of the report are answered.
 fn checked_steps<R: Files + AllocGlobal>(rt: &R, names: &[String]) -> io::Result<String> {
     let mut report = Report::new(rt.alloc());
     check_steps(rt, &FRONT_END, names, &mut report)?;
-    let passes = pass_steps(rt.alloc())?;
+    let passes = pass_names(rt.alloc())?;
     check_steps(rt, passes.as_slice(), names, &mut report)?;
     check_steps(rt, &PARTS_OF_PASSES, names, &mut report)?;
     check_steps(rt, &BACK_END, names, &mut report)?;

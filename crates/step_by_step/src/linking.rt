@@ -8,12 +8,10 @@ use obj_link::linking::resolve::resolve;
 use std::alloc::{AllocError, Global};
 use std::str;
 use text_maker::maker::TextMaker;
+use text_maker::say;
 
 fn checked_text(alloc: Global, text: &str) -> Option<Checked> {
-    match read(alloc, text.as_bytes()) {
-        Ok(tree) => check(alloc, tree).ok(),
-        Err(_) => None,
-    }
+    check(alloc, read(alloc, text.as_bytes()).ok()?).ok()
 }
 
 /// The texts, read and checked.
@@ -37,13 +35,11 @@ fn refusal(alloc: Global, error: LinkError<'_>) -> Result<String, AllocError> {
 
 fn program(alloc: Global, linked: &Linked<'_>) -> Result<String, AllocError> {
     let mut out = TextMaker::new(alloc);
-    let functions = linked.functions.len() as u64;
-    let objects = linked.objects.len() as u64;
-    let numbers = [functions, objects, linked.main as u64];
-    out.add_with_numbers("# functions, # objects, main is #\n", &numbers);
+    let functions = linked.functions.len();
+    let objects = linked.objects.len();
+    say!(out; "{functions} functions, {objects} objects, main is {}\n", linked.main);
     for targets in linked.targets.as_slice() {
-        out.add_debug(&targets.as_slice());
-        out.add("\n");
+        say!(out; "{:?}\n", targets.as_slice());
     }
     out.finish()
 }

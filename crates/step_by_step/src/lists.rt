@@ -2,6 +2,7 @@
 use il_ast::few::Few;
 use std::alloc::Global;
 use text_maker::maker::TextMaker;
+use text_maker::say;
 
 /// The numbers in a list.
 pub fn numbers(alloc: Global, list: &str) -> Option<Few<usize>> {
@@ -24,6 +25,6 @@ pub fn registers(alloc: Global, list: &str) -> Option<Few<u32>> {
 /// Adds each of these numbers, with a blank before it.
 pub fn add_numbers(text: &mut TextMaker, numbers: &[usize]) {
     for number in numbers {
-        text.add_with_numbers(" #", &[*number as u64]);
+        say!(text; " {number}");
     }
 }

@@ -10,6 +10,7 @@ use rv_machine::page_ram::PageRam;
 use rv_machine::stop::Stop;
 use std::alloc::{AllocError, Global};
 use text_maker::maker::TextMaker;
+use text_maker::say;
 
 const X5: Register = Register { number: 5 };
 
@@ -59,12 +60,7 @@ fn started(alloc: Global, code: Vec<u32>, data: Vec<u8>) -> Option<Machine<PageR
 
 /// The first stop within so many instructions.
 fn stop_within(machine: &mut Machine<PageRam>, count: usize) -> Option<Stop> {
-    for _ in 0..count {
-        if let Err(stop) = machine.step() {
-            return Some(stop);
-        }
-    }
-    None
+    (0..count).find_map(|_| machine.step().err())
 }
 
 fn left_by(
@@ -96,8 +92,7 @@ fn row_left(alloc: Global, line: &str) -> Option<String> {
 pub fn left(alloc: Global, lines: &str) -> Option<String> {
     let mut to = TextMaker::new(alloc);
     for line in lines.lines() {
-        to.add(row_left(alloc, line)?.as_str());
-        to.add("\n");
+        say!(to; "{}\n", row_left(alloc, line)?);
     }
     to.finish().ok()
 }

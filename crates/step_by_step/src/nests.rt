@@ -4,14 +4,14 @@ use crate::lists::add_numbers;
 use flow::depths::{depths, frequency};
 use flow::graph::predecessors;
 use il_ast::few::Few;
-use std::alloc::{AllocError, Global};
+use std::alloc::Global;
 use text_maker::maker::TextMaker;
+use text_maker::say;
 
 fn add_block(text: &mut TextMaker, block: usize, depths: &[u32], sources: &[Few<usize>]) {
-    text.add_with_numbers("#:", &[block as u64]);
+    say!(text; "{block}:");
     if let Some(depth) = depths.get(block) {
-        let depth = *depth;
-        text.add_with_numbers(" depth #, # times", &[u64::from(depth), frequency(depth)]);
+        say!(text; " depth {depth}, {} times", frequency(*depth));
     }
     if let Some(sources) = sources.get(block) {
         text.add(", from");
@@ -20,19 +20,15 @@ fn add_block(text: &mut TextMaker, block: usize, depths: &[u32], sources: &[Few<
     text.add("\n");
 }
 
-fn lines(alloc: Global, depths: &[u32], sources: &[Few<usize>]) -> Result<String, AllocError> {
-    let mut text = TextMaker::new(alloc);
-    for block in 0..depths.len().max(sources.len()) {
-        add_block(&mut text, block, depths, sources);
-    }
-    text.finish()
-}
-
 /// In how many loops each block of a function lies, how often it is run, and from where.
 pub fn nests(alloc: Global, text: &str) -> Option<String> {
     let function = virtual_function(alloc, text)?;
     let blocks = function.code.blocks.as_slice();
     let depths = depths(alloc, blocks).ok()?;
     let sources = predecessors(alloc, blocks).ok()?;
-    lines(alloc, depths.as_slice(), sources.as_slice()).ok()
+    let mut text = TextMaker::new(alloc);
+    for block in 0..depths.len().max(sources.len()) {
+        add_block(&mut text, block, depths.as_slice(), sources.as_slice());
+    }
+    text.finish().ok()
 }

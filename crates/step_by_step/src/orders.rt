@@ -4,20 +4,16 @@ use crate::lists::{add_numbers, numbers};
 use crate::passes::shown_or_refused;
 use block_layout::placement::choice::chains::chained;
 use block_layout::placement::order::in_order;
-use std::alloc::{AllocError, Global};
+use std::alloc::Global;
 use text_maker::maker::TextMaker;
-
-fn list(alloc: Global, order: &[usize]) -> Result<String, AllocError> {
-    let mut text = TextMaker::new(alloc);
-    add_numbers(&mut text, order);
-    text.finish()
-}
 
 /// The order that is chosen for the blocks of a function.
 pub fn chosen(alloc: Global, text: &str) -> Option<String> {
     let function = virtual_function(alloc, text)?;
     let order = chained(alloc, function.code.blocks.as_slice()).ok()?;
-    list(alloc, order.as_slice()).ok()
+    let mut text = TextMaker::new(alloc);
+    add_numbers(&mut text, order.as_slice());
+    text.finish().ok()
 }
 
 /// The function with its blocks in this order.

@@ -19,21 +19,27 @@ pub fn shown_or_refused(alloc: Global, made: Result<Option<VFunc>, AllocError>) 
     }
 }
 
-fn only(alloc: Global, candidate: VFunc) -> Option<Vec<Option<VFunc>>> {
-    let mut candidates = Vec::new(alloc);
-    candidates.push(Some(candidate)).ok()?;
-    Some(candidates)
-}
-
 /// The function with calls of the global name 0 done in place, which go as this function.
 pub fn with_calls_inlined(alloc: Global, text: &str, candidate: &str) -> Option<String> {
     let function = virtual_function(alloc, text)?;
-    let candidates = only(alloc, virtual_function(alloc, candidate)?)?;
+    let candidate = virtual_function(alloc, candidate)?;
+    let candidates = vec![in alloc; Some(candidate)].ok()?;
     shown(alloc, inline_calls(alloc, function, candidates.as_slice()))
+}
+
+/// What a pass of the compiler makes of a function; none in it where that stays as it is.
+pub fn changed_by(alloc: Global, pass: Pass, text: &str) -> Option<Option<String>> {
+    let function = virtual_function(alloc, text)?;
+    match pass.apply(alloc, &function).ok()? {
+        Some(made) => Some(Some(virtual_text(alloc, &made).ok()?)),
+        None => Some(None),
+    }
 }
 
 /// The function by one pass of the compiler.
 pub fn by_pass(alloc: Global, pass: Pass, text: &str) -> Option<String> {
-    let function = virtual_function(alloc, text)?;
-    shown(alloc, pass.apply(alloc, function))
+    match changed_by(alloc, pass, text)? {
+        Some(made) => Some(made),
+        None => shown(alloc, Ok(virtual_function(alloc, text)?)),
+    }
 }

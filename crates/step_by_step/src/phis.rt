@@ -3,7 +3,6 @@ ghost use Rattle.std.specs.Prelude.{◌≡◌, Some, IfSome, slice_get};
 ghost use Rattle.phi_copies.specs.Good.{IsGoodFunction};
 
 use crate::code_text::function::virtual_text;
-use crate::hexadecimal::add_hexadecimal;
 use il_ast::function::Func;
 use il_ast::operand::Val;
 use il_ast::operation::Class;
@@ -14,8 +13,9 @@ use phi_copies::ending::Assignment;
 use phi_copies::lower::lower;
 use promote::promote::promote;
 use select::select::select;
-use std::alloc::{AllocError, Global};
+use std::alloc::Global;
 use text_maker::maker::TextMaker;
+use text_maker::say;
 
 /// How many temporaries the functions have; those behind them may be used besides.
 const OWN: usize = 12;
@@ -36,10 +36,7 @@ fn first_values() -> [u64; 24] {
 fn read_of(values: &[u64; 24], copy: &Assignment) -> u64 {
     let value = match copy.value {
         Val::Int(number) => number,
-        Val::Temp(temp) => match values.get(temp.number()) {
-            Some(value) => *value,
-            None => 0,
-        },
+        Val::Temp(temp) => values.get(temp.number()).copied().unwrap_or(0),
         Val::Global(_) => NAMED,
     };
     match copy.to.class {
@@ -48,29 +45,23 @@ fn read_of(values: &[u64; 24], copy: &Assignment) -> u64 {
     }
 }
 
-fn write(values: &mut [u64; 24], copy: &Assignment, value: u64) {
-    let to = copy.to.temp.number();
-    if to < 24 {
-        values[to] = value;
-    }
-}
-
 /// What the temporaries hold after copies one after another.
 fn after_each(copies: &[Assignment]) -> [u64; 24] {
     let mut values = first_values();
     for copy in copies {
         let value = read_of(&values, copy);
-        write(&mut values, copy, value);
+        if let Some(held) = values.get_mut(copy.to.temp.number()) {
+            *held = value;
+        }
     }
     values
 }
 
 fn shown(alloc: Global, copies: &[Assignment]) -> Option<String> {
     let mut out = TextMaker::new(alloc);
-    out.add_with_numbers("# copies\n", &[copies.len() as u64]);
+    say!(out; "{} copies\n", copies.len());
     for value in after_each(copies).iter().take(OWN) {
-        add_hexadecimal(&mut out, alloc, *value);
-        out.add("\n");
+        say!(out; "{value:02x}\n");
     }
     out.finish().ok()
 }
@@ -105,9 +96,12 @@ fn promoted_code(alloc: Global, function: &Func) -> Option<String>
 
 /// What is to be shown of a function.
 #[derive(Clone, Copy)]
-enum Part {
+pub enum Part {
+    /// how many copies its phis become at the end of its first block, and what these leave in its temporaries
     Copies,
+    /// the virtual code that is selected for it
     Code,
+    /// the same once its locals are taken out of memory
     PromotedCode,
 }
 
@@ -121,23 +115,13 @@ fn part_of(alloc: Global, function: &Func, part: Part) -> Option<String>
     }
 }
 
-/// The function that a definition is.
-fn function_of(definition: &Definition) -> Option<&Func>
-    ensures { IfSome result (λ function. definition.now ≡ Definition.Function function.now) }
-{
-    match definition {
-        Definition::Function(function) => Some(function),
-        Definition::Object(_) => None,
-    }
-}
-
 /// The function that a text begins with.
 fn first_function(text: &Text) -> Option<&Func>
     ensures { IfSome result (λ function. slice_get text.now.definitions 0 ≡ Some (Definition.Function function.now)) }
 {
     match text.definitions.as_slice().first() {
-        Some(definition) => function_of(definition),
-        None => None,
+        Some(Definition::Function(function)) => Some(function),
+        _ => None,
     }
 }
 
@@ -151,24 +135,7 @@ fn checked_part(alloc: Global, tree: Text, part: Part) -> Option<String> {
     }
 }
 
-fn text_part(alloc: Global, text: &str, part: Part) -> Option<String> {
-    match read(alloc, text.as_bytes()) {
-        Ok(tree) => checked_part(alloc, tree, part),
-        Err(_) => None,
-    }
-}
-
-/// How many copies the phis of a text's first function become at the end of its first block, and what these leave in its temporaries.
-pub fn copies(alloc: Global, text: &str) -> Option<String> {
-    text_part(alloc, text, Part::Copies)
-}
-
-/// The virtual code that is selected for a text's first function once its locals are taken out of memory.
-pub fn promoted_and_selected(alloc: Global, text: &str) -> Option<String> {
-    text_part(alloc, text, Part::PromotedCode)
-}
-
-/// The virtual code that is selected for a text's first function.
-pub fn selected(alloc: Global, text: &str) -> Option<String> {
-    text_part(alloc, text, Part::Code)
+/// What is to be shown of a text's first function.
+pub fn shown_of(alloc: Global, text: &str, part: Part) -> Option<String> {
+    checked_part(alloc, read(alloc, text.as_bytes()).ok()?, part)
 }

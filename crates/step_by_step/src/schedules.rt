@@ -17,21 +17,13 @@ pub fn scheduled(alloc: Global, text: &str) -> Option<String> {
     shown(alloc, schedule(alloc, function))
 }
 
-/// The swaps in a list.
-fn swaps_of(alloc: Global, list: &str) -> Option<Seq<usize>> {
-    let mut swaps = Seq::new(alloc);
-    for at in numbers(alloc, list)?.as_slice() {
-        swaps.push(*at).ok()?;
-    }
-    Some(swaps)
-}
-
 /// The function with the swaps of a text, which has a line for each block.
 pub fn swapped(alloc: Global, text: &str, swaps: &str) -> Option<String> {
     let function = located_function(alloc, text)?;
     let mut plan = Vec::new(alloc);
     for list in swaps.lines() {
-        plan.push(swaps_of(alloc, list)?).ok()?;
+        let swaps = numbers(alloc, list)?.as_slice().to_vec(alloc).ok()?;
+        plan.push(Seq::from_vec(swaps)).ok()?;
     }
     shown(alloc, apply(alloc, &function, plan.as_slice()))
 }

@@ -1,13 +1,15 @@
 //! Trees as text: each item on a line, with the number of its line, and names by number.
 use il_ast::block::{Block, Phi};
 use il_ast::datum::{DataDef, Field, Item};
-use il_ast::function::{Func, Param};
+use il_ast::function::Func;
 use il_ast::instruction::{Inst, Jump, Lined};
 use il_ast::name::Name;
-use il_ast::operand::{Arg, Dest, Val};
+use il_ast::operand::{Dest, Val};
 use il_ast::text::{Definition, Text};
 use std::alloc::{AllocError, Global};
+use std::fmt;
 use text_maker::maker::TextMaker;
+use text_maker::say;
 
 /// A text, with its numbers of lines and bytes and the names of its globals.
 pub fn show(alloc: Global, text: &Text) -> Result<String, AllocError> {
@@ -24,8 +26,8 @@ pub fn show_alone(alloc: Global, function: &Func) -> Result<String, AllocError> 
 }
 
 fn show_text(out: &mut TextMaker, text: &Text) {
-    add_numbers(out, "# lines # bytes", text.lines, text.bytes);
-    show_names(out, "$", text.symbols.as_slice());
+    say!(out; "{} lines {} bytes", text.lines, text.bytes);
+    show_names(out, '$', text.symbols.as_slice());
     for definition in text.definitions.as_slice() {
         match definition {
             Definition::Function(function) => show_function(out, function),
@@ -34,20 +36,9 @@ fn show_text(out: &mut TextMaker, text: &Text) {
     }
 }
 
-// A piece with a number.
-fn add_number(out: &mut TextMaker, piece: &str, number: usize) {
-    out.add_with_numbers(piece, &[number as u64]);
-}
-
-// A piece with two numbers.
-fn add_numbers(out: &mut TextMaker, piece: &str, first: usize, second: usize) {
-    out.add_with_numbers(piece, &[first as u64, second as u64]);
-}
-
-fn show_names(out: &mut TextMaker, sigil: &str, names: &[Name]) {
+fn show_names(out: &mut TextMaker, sign: char, names: &[Name]) {
     for name in names {
-        out.add(" ");
-        out.add(sigil);
+        say!(out; " {sign}");
         show_bytes(out, name.as_slice());
     }
     out.add("\n");
@@ -57,111 +48,76 @@ fn show_bytes(out: &mut TextMaker, bytes: &[u8]) {
     for byte in bytes {
         match byte {
             b'\n' => out.add("\\n"),
-            other => out.add_char(char::from(*other)),
+            other => say!(out; "{}", char::from(*other)),
         }
     }
 }
 
-fn show_value(out: &mut TextMaker, value: Val) {
-    match value {
-        Val::Int(number) => out.add_with_numbers(" #", &[number]),
-        Val::Temp(temp) => add_number(out, " %#", temp.number()),
-        Val::Global(symbol) => add_number(out, " $#", symbol.number()),
+/// A value, with its name by number.
+#[derive(Clone, Copy)]
+struct Shown(Val);
+
+impl fmt::Display for Shown {
+    fn fmt<W: fmt::Write>(&self, f: &mut fmt::Formatter<W>) -> fmt::Result {
+        let Shown(value) = *self;
+        match value {
+            Val::Int(number) => write!(f, "{number}"),
+            Val::Temp(temp) => write!(f, "%{}", temp.number()),
+            Val::Global(symbol) => write!(f, "${}", symbol.number()),
+        }
     }
 }
 
 fn show_dest(out: &mut TextMaker, to: Dest) {
-    add_number(out, " %# ", to.temp.number());
-    out.add_debug(&to.class);
+    say!(out; " %{} {:?}", to.temp.number(), to.class);
 }
 
 fn show_function(out: &mut TextMaker, function: &Func) {
-    add_numbers(out, "# function $# ", function.line, function.name.number());
-    out.add_debug(&function.exported);
-    match function.result {
-        Some(class) => {
-            out.add(" ");
-            out.add_debug(&class);
-        }
-        None => {}
+    let name = function.name.number();
+    say!(out; "{} function ${name} {:?}", function.line, function.exported);
+    if let Some(class) = function.result {
+        say!(out; " {class:?}");
     }
     for param in function.params.as_slice() {
-        show_param(out, *param);
+        say!(out; " ({} {:?} %{})", param.line, param.class, param.temp.number());
     }
-    show_names(out, "%", function.temps.as_slice());
-    show_names(out, "@", function.labels.as_slice());
-    show_blocks(out, function.blocks.as_slice());
-}
-
-fn show_param(out: &mut TextMaker, param: Param) {
-    add_number(out, " (# ", param.line);
-    out.add_debug(&param.class);
-    add_number(out, " %#)", param.temp.number());
-}
-
-fn show_blocks(out: &mut TextMaker, blocks: &[Block]) {
-    for block in blocks {
+    show_names(out, '%', function.temps.as_slice());
+    show_names(out, '@', function.labels.as_slice());
+    for block in function.blocks.as_slice() {
         show_block(out, block);
     }
 }
 
 fn show_block(out: &mut TextMaker, block: &Block) {
-    add_numbers(out, "# @#\n", block.line, block.label.number());
+    say!(out; "{} @{}\n", block.line, block.label.number());
     for phi in block.phis.as_slice() {
         show_phi(out, phi);
     }
     for inst in block.insts.as_slice() {
-        show_inst(out, inst);
+        say!(out; "{}", inst.line);
+        show_inst(out, &inst.item);
+        out.add("\n");
     }
-    match &block.jump {
-        Some(jump) => show_jump(out, jump),
-        None => {}
+    if let Some(jump) = &block.jump {
+        show_jump(out, jump);
     }
 }
 
 fn show_phi(out: &mut TextMaker, phi: &Phi) {
-    add_number(out, "#", phi.line);
+    say!(out; "{}", phi.line);
     show_dest(out, phi.to);
     out.add(" phi");
     for arg in phi.args.as_slice() {
-        add_number(out, " @#", arg.from.number());
-        show_value(out, arg.value);
+        say!(out; " @{} {}", arg.from.number(), Shown(arg.value));
     }
     out.add("\n");
 }
 
-fn show_inst(out: &mut TextMaker, inst: &Lined<Inst>) {
-    add_number(out, "#", inst.line);
-    match &inst.item {
-        Inst::Call { to, callee, args } => show_call(out, *to, *callee, args.as_slice()),
-        Inst::Store { size, value, at } => {
-            out.add(" store ");
-            out.add_debug(size);
-            show_values(out, *value, *at);
-        }
-        Inst::Blit { from, to, count } => {
-            out.add(" blit");
-            show_values(out, *from, *to);
-            out.add_with_numbers(" #", &[*count]);
-        }
-        other => show_operation(out, other),
-    }
-    out.add("\n");
-}
-
-fn show_values(out: &mut TextMaker, first: Val, second: Val) {
-    show_value(out, first);
-    show_value(out, second);
-}
-
-// An instruction that always has a result.
-fn show_operation(out: &mut TextMaker, inst: &Inst) {
+fn show_inst(out: &mut TextMaker, inst: &Inst) {
     match inst {
         Inst::Unary { to, op, value } => {
             show_dest(out, *to);
-            out.add(" ");
-            out.add_debug(op);
-            show_value(out, *value);
+            say!(out; " {op:?} {}", Shown(*value));
         }
         Inst::Binary {
             to,
@@ -170,9 +126,7 @@ fn show_operation(out: &mut TextMaker, inst: &Inst) {
             right,
         } => {
             show_dest(out, *to);
-            out.add(" ");
-            out.add_debug(op);
-            show_values(out, *left, *right);
+            say!(out; " {op:?} {} {}", Shown(*left), Shown(*right));
         }
         Inst::Alloc {
             to,
@@ -180,62 +134,53 @@ fn show_operation(out: &mut TextMaker, inst: &Inst) {
             size,
         } => {
             show_dest(out, *to);
-            out.add(" ");
-            out.add_debug(alignment);
-            out.add_with_numbers(" #", &[*size]);
+            say!(out; " {alignment:?} {size}");
         }
-        Inst::Call { .. } | Inst::Store { .. } | Inst::Blit { .. } => {}
-    }
-}
-
-fn show_call(out: &mut TextMaker, to: Option<Dest>, callee: Val, args: &[Arg]) {
-    match to {
-        Some(to) => show_dest(out, to),
-        None => {}
-    }
-    out.add(" call");
-    show_value(out, callee);
-    for arg in args {
-        out.add(" ");
-        out.add_debug(&arg.class);
-        show_value(out, arg.value);
+        Inst::Store { size, value, at } => {
+            say!(out; " store {size:?} {} {}", Shown(*value), Shown(*at));
+        }
+        Inst::Blit { from, to, count } => {
+            say!(out; " blit {} {} {count}", Shown(*from), Shown(*to));
+        }
+        Inst::Call { to, callee, args } => {
+            if let Some(to) = to {
+                show_dest(out, *to);
+            }
+            say!(out; " call {}", Shown(*callee));
+            for arg in args.as_slice() {
+                say!(out; " {:?} {}", arg.class, Shown(arg.value));
+            }
+        }
     }
 }
 
 fn show_jump(out: &mut TextMaker, jump: &Lined<Jump>) {
-    add_number(out, "#", jump.line);
+    say!(out; "{} ", jump.line);
     match jump.item {
-        Jump::Goto(label) => add_number(out, " jmp @#", label.number()),
+        Jump::Goto(label) => say!(out; "jmp @{}\n", label.number()),
         Jump::Branch {
             on,
             nonzero,
             otherwise,
         } => {
-            out.add(" jnz");
-            show_value(out, on);
-            add_numbers(out, " @# @#", nonzero.number(), otherwise.number());
+            let (one, other) = (nonzero.number(), otherwise.number());
+            say!(out; "jnz {} @{one} @{other}\n", Shown(on));
         }
-        Jump::Return(Some(value)) => {
-            out.add(" ret");
-            show_value(out, value);
-        }
-        Jump::Return(None) => out.add(" ret"),
-        Jump::Halt => out.add(" hlt"),
+        Jump::Return(Some(value)) => say!(out; "ret {}\n", Shown(value)),
+        Jump::Return(None) => out.add("ret\n"),
+        Jump::Halt => out.add("hlt\n"),
     }
-    out.add("\n");
 }
 
 fn show_object(out: &mut TextMaker, object: &DataDef) {
-    add_numbers(out, "# data $# ", object.line, object.name.number());
-    out.add_debug(&object.exported);
-    out.add(" ");
-    out.add_debug(&object.alignment);
+    let name = object.name.number();
+    let alignment = object.alignment;
+    say!(out; "{} data ${name} {:?} {alignment}", object.line, object.exported);
     for field in object.fields.as_slice() {
         match field {
-            Field::Zeros(count) => out.add_with_numbers(" z #", &[*count]),
+            Field::Zeros(count) => say!(out; " z {count}"),
             Field::Items { size, items } => {
-                out.add(" ");
-                out.add_debug(size);
+                say!(out; " {size:?}");
                 show_items(out, items.as_slice());
             }
         }
@@ -245,20 +190,14 @@ fn show_object(out: &mut TextMaker, object: &DataDef) {
 
 fn show_items(out: &mut TextMaker, items: &[Item]) {
     for item in items {
-        show_item(out, item);
-    }
-}
-
-fn show_item(out: &mut TextMaker, item: &Item) {
-    match item {
-        Item::Int(number) => out.add_with_numbers(" #", &[*number]),
-        Item::Bytes(bytes) => {
-            out.add(" \"");
-            show_bytes(out, bytes.as_slice());
-            out.add("\"");
-        }
-        Item::Address { symbol, offset } => {
-            out.add_with_numbers(" $#+#", &[symbol.number() as u64, *offset]);
+        match item {
+            Item::Int(number) => say!(out; " {number}"),
+            Item::Bytes(bytes) => {
+                out.add(" \"");
+                show_bytes(out, bytes.as_slice());
+                out.add("\"");
+            }
+            Item::Address { symbol, offset } => say!(out; " ${}+{offset}", symbol.number()),
         }
     }
 }

@@ -1,44 +1,33 @@
 //! A function on its way through the compiler: what each step makes of what the step before it made.
-use crate::case::Case;
 use crate::chosen::chosen;
-use crate::step::Step;
-use crate::{allocation, frames, phis, schedules};
-use qbec::passes::{PASSES, Pass};
+use crate::passes::changed_by;
+use crate::phis::Part;
+use crate::{allocation, frames, front_end, phis, schedules};
+use qbec::passes::{PASSES, Pass, Progress};
 use std::alloc::Global;
 use text_maker::maker::TextMaker;
-
-/// What a step makes of this text.
-fn made_of(alloc: Global, step: Step, given: &str) -> Option<String> {
-    let case = Case {
-        name: "",
-        given,
-        with: "",
-        wanted: "",
-    };
-    step.made(alloc, case)
-}
+use text_maker::say;
 
 /// Adds what a step made: a line with its name, and the text.
 fn add_stage(out: &mut TextMaker, name: &str, made: &str) {
-    out.add("== ");
-    out.add(name);
-    out.add("\n");
-    out.add(made);
-    out.add(if made.ends_with('\n') { "" } else { "\n" });
+    let end = if made.ends_with('\n') { "" } else { "\n" };
+    say!(out; "== {name}\n{made}{end}");
 }
 
-/// Adds what a pass chose to do and made of virtual code, or that it left all as it was. What it made is answered.
-fn add_pass(out: &mut TextMaker, alloc: Global, pass: Pass, before: &str) -> Option<String> {
-    let made = made_of(alloc, Step::Pass(pass), before)?;
-    if before == made.as_str() {
-        add_stage(out, pass.name(), "as before");
-    } else {
-        let chosen = chosen(alloc, pass, before)?;
-        out.add("== ");
-        out.add(pass.name());
-        out.add("\n");
-        out.add(chosen.as_str());
-        out.add(made.as_str());
+/// Adds what a pass chose to do and made of virtual code, or that it left all as it was. What it made is answered, if it made something.
+fn add_pass(
+    out: &mut TextMaker,
+    alloc: Global,
+    pass: Pass,
+    before: &str,
+) -> Option<Option<String>> {
+    let made = changed_by(alloc, pass, before)?;
+    match &made {
+        Some(made) if made.as_str() != before => {
+            let chosen = chosen(alloc, pass, before)?;
+            say!(out; "== {}\n{chosen}{made}", pass.name());
+        }
+        _ => add_stage(out, pass.name(), "as before"),
     }
     Some(made)
 }
@@ -46,8 +35,14 @@ fn add_pass(out: &mut TextMaker, alloc: Global, pass: Pass, before: &str) -> Opt
 /// Adds what each pass makes of virtual code. What the last one made is answered.
 fn add_passes(out: &mut TextMaker, alloc: Global, selected: String) -> Option<String> {
     let mut text = selected;
-    for pass in PASSES {
-        text = add_pass(out, alloc, pass, text.as_str())?;
+    let mut progress = Progress::new();
+    for (line, pass) in PASSES.iter().enumerate() {
+        if !progress.is_due(line, *pass) {
+            add_stage(out, pass.name(), "as before");
+        } else if let Some(made) = add_pass(out, alloc, *pass, text.as_str())? {
+            progress.note(line, *pass);
+            text = made;
+        }
     }
     Some(text)
 }
@@ -69,11 +64,11 @@ fn add_back_end(out: &mut TextMaker, alloc: Global, ordered: &str) -> Option<()>
 /// code with labels, and words. None where the text has another definition than one function, breaks a rule, or memory is refused.
 pub fn watched(alloc: Global, source: &str) -> Option<String> {
     let mut out = TextMaker::new(alloc);
-    let tree = made_of(alloc, Step::Reading, source)?;
+    let tree = front_end::tree(alloc, source)?;
     add_stage(&mut out, "il_reader", tree.as_str());
-    let promoted = made_of(alloc, Step::Promoting, source)?;
+    let promoted = front_end::promoted(alloc, source)?;
     add_stage(&mut out, "promote", promoted.as_str());
-    let selected = phis::promoted_and_selected(alloc, source)?;
+    let selected = phis::shown_of(alloc, source, Part::PromotedCode)?;
     add_stage(&mut out, "select", selected.as_str());
     let ordered = add_passes(&mut out, alloc, selected)?;
     add_back_end(&mut out, alloc, ordered.as_str())?;

@@ -1,6 +1,14 @@
 //! Texts that are made piece by piece.
 use std::alloc::{AllocError, Global};
-use std::fmt::Debug;
+use std::fmt::Display;
+
+/// Adds a text with values in it: `say!(text; "{number} bytes")`.
+#[macro_export]
+macro_rules! say {
+    ($to:expr; $($text:tt)*) => {
+        $to.write_fmt(format_args!($($text)*))
+    };
+}
 
 /// A text that is made piece by piece. Once memory is refused it takes nothing more, and its maker is told at the end.
 #[derive(Drop)]
@@ -30,55 +38,10 @@ impl TextMaker {
         }
     }
 
-    /// Adds a character.
-    pub fn add_char(&mut self, character: char) {
+    /// Adds a text with values in it, as [`say`](crate::say) makes it.
+    pub fn write_fmt<D: Display + Drop>(&mut self, text: D) {
         if !self.is_refused {
-            self.is_refused = self.text.push(character).is_err();
-        }
-    }
-
-    /// Adds a number.
-    pub fn add_number(&mut self, number: u64) {
-        if !self.is_refused {
-            self.is_refused = write!(&mut self.text, "{number}").is_err();
-        }
-    }
-
-    /// Adds an integer modulo 2^64 as the one from -2^63 up to 2^63.
-    pub fn add_signed(&mut self, number: u64) {
-        if number >= 1 << 63 {
-            self.add("-");
-            self.add_number(0u64.wrapping_sub(number));
-        } else {
-            self.add_number(number);
-        }
-    }
-
-    /// Adds a value as it is shown to its programmers.
-    pub fn add_debug<T: Debug>(&mut self, value: &T) {
-        if !self.is_refused {
-            self.is_refused = write!(&mut self.text, "{value:?}").is_err();
-        }
-    }
-
-    /// Adds a piece in which each `#` stands for the next of these numbers.
-    pub fn add_with_numbers(&mut self, piece: &str, numbers: &[u64]) {
-        let mut rest = numbers.iter();
-        for part in piece.split('#') {
-            self.add(part);
-            if let Some(number) = rest.next() {
-                self.add_number(*number);
-            }
-        }
-    }
-
-    /// Adds a piece in which each `#` stands for this word.
-    pub fn add_with_word(&mut self, piece: &str, word: &str) {
-        for (number, part) in piece.split('#').enumerate() {
-            if number > 0 {
-                self.add(word);
-            }
-            self.add(part);
+            self.is_refused = self.text.write_fmt(text).is_err();
         }
     }
 

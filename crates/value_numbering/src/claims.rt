@@ -13,7 +13,7 @@ use vcode::line::{Jump, Line, Operation};
 use vcode::place::Operand;
 
 /// How many facts are claimed of a block, at most.
-const CLAIMS: usize = 32;
+const CLAIMS: usize = 48;
 
 /// For how many facts there is room at first.
 const ROOM: usize = 16;
@@ -34,9 +34,19 @@ struct Claim {
 
     /// how often they became fewer
     changes: u32,
+
+    /// whether lines became others when the block was gone through last
+    has_changed: bool,
 }
 
-/// What is known on the way along a block, and whether lines have become others somewhere.
+impl Claim {
+    /// Whether lines of the block become others by what is claimed now, or may.
+    fn may_change(&self) -> bool {
+        self.has_changed || self.is_new && self.facts.is_some()
+    }
+}
+
+/// What is known on the way along a block, and whether lines of it have become others.
 #[derive(Drop)]
 struct Along {
     facts: Vec<Fact>,
@@ -355,10 +365,18 @@ fn take_new(claim: &mut Claim, facts: &mut Vec<Fact>) -> Result<bool, AllocError
 }
 
 /// The same of what is known where a block begins.
-fn begin(claims: &mut [Claim], block: usize, facts: &mut Vec<Fact>) -> Result<bool, AllocError> {
+fn begin(claims: &mut [Claim], block: usize, along: &mut Along) -> Result<bool, AllocError> {
+    along.has_changed = false;
     match claims.get_mut(block) {
-        Some(claim) => take_new(claim, facts),
+        Some(claim) => take_new(claim, &mut along.facts),
         None => Ok(false),
+    }
+}
+
+/// Notes whether lines of a block have become others.
+fn note_changes(claims: &mut [Claim], block: usize, has_changed: bool) {
+    if let Some(claim) = claims.get_mut(block) {
+        claim.has_changed = has_changed;
     }
 }
 
@@ -373,8 +391,9 @@ fn spread(
     block: &Block<u32>,
 ) -> Result<usize, AllocError> {
     let next = number.saturating_add(1);
-    if begin(claims, number, &mut along.facts)? {
+    if begin(claims, number, along)? {
         pass_lines(alloc, along, registers, block.lines.as_slice())?;
+        note_changes(claims, number, along.has_changed);
         let first = lead(alloc, writing, claims, &block.jump, along.facts.as_slice())?;
         Ok(first.min(next))
     } else {
@@ -489,6 +508,7 @@ fn first_claims(alloc: Global, blocks: usize) -> Result<Vec<Claim>, AllocError> 
             facts,
             is_new: true,
             changes: 0,
+            has_changed: false,
         })?;
     }
     Ok(claims)
@@ -526,7 +546,7 @@ fn claims_of(
         registers,
         blocks,
     )?;
-    if along.has_changed {
+    if claims.iter().any(|claim| claim.may_change()) {
         Ok(Some(listed(alloc, claims)?))
     } else {
         Ok(None)

@@ -203,7 +203,7 @@ pub(crate) fn canonical(facts: &[Fact], value: Expression) -> Expression
 }
 
 /// Whether a value is a number or a name, which no other register stands for.
-fn is_plain(value: Expression) -> bool
+pub(crate) fn is_plain(value: Expression) -> bool
     ensures { result ≡ is_plain value }
 {
     match value {

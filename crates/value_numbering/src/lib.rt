@@ -21,7 +21,6 @@ mod fact;
 mod known;
 mod lines;
 mod narrow;
-mod open;
 mod regroup;
 mod repeats;
 pub mod reuse;

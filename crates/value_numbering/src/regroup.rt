@@ -126,19 +126,23 @@ fn is_low(registers: u32, operand: &Operand<u32>) -> bool
 }
 
 fn is_register(operand: &Operand<u32>) -> bool {
-    match operand {
-        Operand::At(_) => true,
-        _ => false,
-    }
+    matches!(operand, Operand::At(_))
 }
 
 /// Whether it is worth to add one operand to a register that has the sum of two others: a sum of a long and a number is part of an address, and that number is added last.
+/// That a register holds itself and 0, as it does where it holds a whole word, is no sum.
 fn is_better(
     operation: &Operation,
     kept: &Operand<u32>,
     rest: &Operand<u32>,
     added: &Operand<u32>,
 ) -> bool {
+    if matches!(
+        (kept, rest),
+        (Operand::Number(0), _) | (_, Operand::Number(0))
+    ) {
+        return false;
+    }
     let is_short = match rest {
         Operand::Number(number) => is_immediate(*number),
         _ => true,

@@ -1,9 +1,8 @@
 //! Whether lines of a function may compute what others do: a guess, before it is found what is known where.
 use crate::extensions::extension_in;
-use crate::fact::{Expression, computed};
-use crate::known::is_back;
+use crate::fact::{Expression, Fact, computed, names, stays};
+use crate::known::{canonical, is_back, is_plain, kept_fact};
 use crate::lines::{is_dear, is_worth};
-use crate::open::{Open, first_head, open_in, reads_open};
 use crate::same::{same_operand, same_operation};
 use flow::graph::reachable;
 use rv_isa::instruction::{RegOp, RegWOp};
@@ -12,14 +11,33 @@ use vcode::code::Block;
 use vcode::line::{Line, Operation};
 use vcode::place::Operand;
 
-/// How many computations are compared with each other, at most: where there are more, some may repeat others.
+/// How many values are compared with each other, at most: where there are more, some may repeat others.
 const MOST: usize = 16;
 
-/// What a line computes, and whether a register that it reads may hold what another does.
+/// What a line computes.
 #[derive(Clone, Copy)]
 struct Seen {
-    value: Expression,
+    /// of registers that are no copies, as far as its block tells
+    fact: Fact,
+
+    /// whether a register that it reads may hold what another does all the same
     is_open: bool,
+
+    /// which line it is, counted through all blocks
+    line: usize,
+}
+
+/// What is known on the way along a block.
+#[derive(Drop)]
+struct Way {
+    values: Vec<Seen>,
+
+    /// copies that this block made
+    copies: Vec<Fact>,
+
+    /// copies that other blocks made
+    outer: Vec<Fact>,
+    line: usize,
 }
 
 /// Whether the operands may hold the same: two registers may, where one is open.
@@ -30,18 +48,24 @@ fn may_be_same(is_open: bool, one: &Operand<u32>, other: &Operand<u32>) -> bool 
     }
 }
 
-/// Whether the operation adds a number, to a word or to a long: that may give the same.
-fn is_sum(operation: &Operation, right: &Operand<u32>) -> bool {
-    match (operation, right) {
-        (Operation::Reg(RegOp::Add), Operand::Number(_)) => true,
-        (Operation::RegW(RegWOp::Addw), Operand::Number(_)) => true,
+fn is_tick(line: &Line<u32>) -> bool {
+    matches!(line, Line::Tick { .. })
+}
+
+/// Whether the operation is a sum, of words or of longs.
+fn is_sum(operation: &Operation) -> bool {
+    match operation {
+        Operation::Reg(RegOp::Add) | Operation::RegW(RegWOp::Addw) => true,
         _ => false,
     }
 }
 
-/// Whether two operations may give the same of the same operands, of which the right one is given.
+/// Whether two operations may give the same of the same operands, of which the right one is given: a number may be added to a word or to a long.
 fn may_agree(one: &Operation, other: &Operation, right: &Operand<u32>) -> bool {
-    same_operation(*one, *other) || (is_sum(one, right) && is_sum(other, right))
+    match right {
+        Operand::Number(_) if is_sum(one) => is_sum(other),
+        _ => same_operation(*one, *other),
+    }
 }
 
 /// Whether both shift to the left: what one shifts may be an extension by the other.
@@ -55,7 +79,7 @@ fn are_shifts(one: &Operation, other: &Operation) -> bool {
 /// Whether what one computes may be what the other does, or be made of that.
 fn may_repeat(one: &Seen, other: &Seen) -> bool {
     let is_open = one.is_open || other.is_open;
-    match (&one.value, &other.value) {
+    match (&one.fact.value, &other.fact.value) {
         (Expression::Operated(op, a, b), Expression::Operated(by, c, d)) => {
             are_shifts(op, by)
                 || may_agree(op, by, b)
@@ -69,6 +93,11 @@ fn may_repeat(one: &Seen, other: &Seen) -> bool {
     }
 }
 
+/// Whether one may be made of the other, and one of the two is worth a register.
+fn are_worth(one: &Seen, other: &Seen) -> bool {
+    (is_worth(one.fact.value) || is_worth(other.fact.value)) && may_repeat(one, other)
+}
+
 /// Whether a value is an extension, or may be one together with what stands before it.
 fn may_extend(value: &Expression) -> bool {
     match *value {
@@ -79,89 +108,238 @@ fn may_extend(value: &Expression) -> bool {
     }
 }
 
-/// Whether it is among those, and one of the two is worth a register.
-fn is_among(seen: &[Seen], one: &Seen) -> bool {
-    for other in seen {
-        if may_repeat(other, one) && (is_worth(other.value) || is_worth(one.value)) {
-            return true;
+/// Whether sums of what it gives may be known otherwise.
+fn is_linear(value: &Expression) -> bool {
+    match value {
+        Expression::Operated(Operation::Reg(RegOp::Add | RegOp::Sll | RegOp::Mul), _, _) => true,
+        Expression::Operated(Operation::RegW(RegWOp::Addw), _, _) => true,
+        _ => false,
+    }
+}
+
+/// Whether it is a sum of registers: that may be known beyond a change of what it is made of.
+fn is_sum_of_registers(value: &Expression) -> bool {
+    match value {
+        Expression::Operated(Operation::Reg(RegOp::Add), Operand::At(_), Operand::At(_)) => true,
+        _ => false,
+    }
+}
+
+impl Way {
+    /// Whether another block may have made the operand a copy.
+    fn is_copy(&self, operand: &Operand<u32>) -> bool {
+        self.outer.iter().any(|copy| names(copy.register, *operand))
+    }
+
+    fn is_linear(&self, operand: &Operand<u32>) -> bool {
+        self.values.iter().any(|seen| names(seen.fact.register, *operand)
+            && is_linear(&seen.fact.value))
+    }
+
+    /// Whether a register that the value reads may hold what another does, or, where that tells of a sum, what others do and a number more.
+    fn is_open(&self, value: &Expression) -> bool {
+        match value {
+            Expression::Operated(operation, left, right) => {
+                self.is_copy(left)
+                    || self.is_copy(right)
+                    || is_sum(operation) && (self.is_linear(left) || self.is_linear(right))
+            }
+            Expression::Loaded(_, base, _) => self.is_copy(base),
+            _ => true,
         }
     }
-    false
-}
 
-/// Notes what a line computes; says whether it may be known already.
-fn note(seen: &mut Vec<Seen>, one: &Seen) -> Result<bool, AllocError> {
-    if seen.len() >= MOST || may_extend(&one.value) || is_among(seen.as_slice(), one) {
-        return Ok(true);
-    }
-    seen.push(*one)?;
-    Ok(false)
-}
-
-fn line_may_repeat(
-    seen: &mut Vec<Seen>,
-    open: &Option<Open>,
-    line: &Line<u32>,
-) -> Result<bool, AllocError> {
-    match computed(line) {
-        Some(fact) if is_dear(fact.value) => {
-            let is_open = reads_open(open, &fact.value);
-            note(
-                seen,
-                &Seen {
-                    value: fact.value,
-                    is_open,
-                },
-            )
+    /// What the line that comes next computes.
+    fn seen(&self, fact: &Fact) -> Seen {
+        let value = if self.copies.is_empty() {
+            fact.value
+        } else {
+            canonical(self.copies.as_slice(), fact.value)
+        };
+        Seen {
+            fact: Fact {
+                register: fact.register,
+                value,
+            },
+            is_open: self.is_open(&value),
+            line: self.line,
         }
-        _ => Ok(false),
     }
-}
 
-fn block_may_repeat(
-    seen: &mut Vec<Seen>,
-    open: &mut Option<Open>,
-    block: &Block<u32>,
-) -> Result<bool, AllocError> {
-    for line in block.lines.as_slice() {
-        if line_may_repeat(seen, open, line)? {
+    /// Whether what a line computes may be known where it stands.
+    fn may_know(&self, one: &Seen) -> bool {
+        is_dear(one.fact.value)
+            && self
+                .values
+                .iter()
+                .any(|other| other.line != one.line && are_worth(other, one))
+    }
+
+    /// Leaves what is known behind a line.
+    fn forget(&mut self, line: &Line<u32>) {
+        if !self.values.is_empty() {
+            self.values.retain(|seen| is_sum_of_registers(&seen.fact.value)
+                || stays(line, seen.fact));
+        }
+        if !self.copies.is_empty() || !self.outer.is_empty() {
+            self.copies.retain(|copy| stays(line, *copy));
+            self.outer.retain(|copy| stays(line, *copy));
+        }
+    }
+
+    /// One value more, or one copy.
+    fn note(&mut self, seen: &Seen) -> Result<(), AllocError> {
+        match (kept_fact(seen.fact), seen.fact.value) {
+            (Some(copy), Expression::Same(_)) => self.copies.push(copy)?,
+            (Some(_), value) if is_dear(value) => self.values.push(*seen)?,
+            _ => {}
+        }
+        Ok(())
+    }
+
+    /// Goes over a line; says whether it may compute what is known, or whether there are many copies.
+    fn pass(&mut self, line: &Line<u32>) -> Result<bool, AllocError> {
+        self.line = self.line.saturating_add(1);
+        let fact = match computed(line) {
+            Some(fact) if !is_plain(fact.value) => fact,
+            _ => {
+                self.forget(line);
+                return Ok(false);
+            }
+        };
+        let seen = self.seen(&fact);
+        if self.may_know(&seen) || self.copies.len() >= MOST {
             return Ok(true);
         }
-        if let Some(open) = open {
-            open.note(line);
+        self.forget(line);
+        self.note(&seen)?;
+        Ok(false)
+    }
+
+    /// Goes along a block in the same way.
+    fn pass_block(&mut self, block: &Block<u32>) -> Result<bool, AllocError> {
+        for line in block.lines.as_slice().iter().filter(|line| !is_tick(line)) {
+            if self.pass(line)? {
+                return Ok(true);
+            }
+        }
+        Ok(false)
+    }
+
+    /// Goes on at the begin of a block, where all this may be known.
+    fn begin(&mut self, known: &Way) -> Result<(), AllocError> {
+        self.values.clear();
+        self.copies.clear();
+        self.outer.clear();
+        if !known.values.is_empty() {
+            self.values.extend_from_slice(known.values.as_slice())?;
+        }
+        if !known.outer.is_empty() {
+            self.outer.extend_from_slice(known.outer.as_slice())?;
+        }
+        Ok(())
+    }
+
+    /// Takes in what is known behind a block; says whether there are many copies.
+    fn take(&mut self, way: &Way) -> Result<bool, AllocError> {
+        if !way.values.is_empty() {
+            self.values.extend_from_slice(way.values.as_slice())?;
+        }
+        if !way.copies.is_empty() {
+            self.outer.extend_from_slice(way.copies.as_slice())?;
+        }
+        Ok(self.outer.len() >= MOST)
+    }
+}
+
+fn nothing(alloc: Global) -> Way {
+    Way {
+        values: Vec::new(alloc),
+        copies: Vec::new(alloc),
+        outer: Vec::new(alloc),
+        line: 0,
+    }
+}
+
+/// What may be known where blocks end that something leads to, by their own lines; none where a line may compute what is known by its block, or there are many copies.
+fn known_behind(
+    alloc: Global,
+    is_reachable: &[bool],
+    blocks: &[Block<u32>],
+) -> Result<Option<Way>, AllocError> {
+    let none = nothing(alloc);
+    let mut all = nothing(alloc);
+    let mut way = nothing(alloc);
+    for (block, is_reached) in blocks.iter().zip(is_reachable) {
+        if *is_reached {
+            way.begin(&none)?;
+            if way.pass_block(block)? || all.take(&way)? {
+                return Ok(None);
+            }
+        }
+    }
+    Ok(Some(all))
+}
+
+/// Whether a line may compute what is known where it stands, if all this may be known where each block begins.
+fn any_is_known(
+    alloc: Global,
+    is_reachable: &[bool],
+    known: &Way,
+    blocks: &[Block<u32>],
+) -> Result<bool, AllocError> {
+    let mut way = nothing(alloc);
+    for (block, is_reached) in blocks.iter().zip(is_reachable) {
+        if *is_reached {
+            way.begin(known)?;
+            if way.pass_block(block)? {
+                return Ok(true);
+            }
         }
     }
     Ok(false)
 }
 
-/// Whether some line of the blocks may compute what another does, if every register may hold what another does.
-fn any_may_repeat(alloc: Global, blocks: &[Block<u32>]) -> Result<bool, AllocError> {
-    let mut seen = Vec::with_capacity(alloc, MOST)?;
-    for block in blocks {
-        if block_may_repeat(&mut seen, &mut None, block)? {
-            return Ok(true);
-        }
+/// Whether a line may compute what is known where it stands.
+fn may_be_known(alloc: Global, blocks: &[Block<u32>]) -> Result<bool, AllocError> {
+    let reached = reachable(alloc, blocks)?;
+    match known_behind(alloc, reached.as_slice(), blocks)? {
+        Some(known) => any_is_known(alloc, reached.as_slice(), &known, blocks),
+        None => Ok(true),
     }
-    Ok(false)
 }
 
-/// The same, if only open registers may, of blocks that something leads to. In front of all blocks that a jump leads back to, those are open that were so before.
-fn open_may_repeat(alloc: Global, blocks: &[Block<u32>]) -> Result<bool, AllocError> {
-    let is_reachable = reachable(alloc, blocks)?;
-    let first = first_head(blocks);
-    let mut seen = Vec::with_capacity(alloc, MOST)?;
-    let mut open = Some(Open::none());
-    for (number, block) in blocks.iter().enumerate() {
-        if number == first {
-            open = Some(open_in(blocks));
-        }
-        if is_reachable.get(number).copied() == Some(true)
-            && block_may_repeat(&mut seen, &mut open, block)?
+/// The values that lines compute, as if any register might hold what another does; none where they are many, or one is an extension.
+fn values(alloc: Global, blocks: &[Block<u32>]) -> Result<Option<Vec<Seen>>, AllocError> {
+    let mut values = Vec::new(alloc);
+    for line in blocks
+        .iter()
+        .flat_map(|block| block.lines.as_slice())
+        .filter(|line| !is_tick(line))
+    {
+        if let Some(fact) = computed(line)
+            && is_dear(fact.value)
         {
-            return Ok(true);
+            if values.len() >= MOST || may_extend(&fact.value) {
+                return Ok(None);
+            }
+            values.push(Seen {
+                fact,
+                is_open: true,
+                line: values.len(),
+            })?;
         }
     }
-    Ok(false)
+    Ok(Some(values))
+}
+
+/// Whether one of the values may be what another is.
+fn any_may_repeat(values: &[Seen]) -> bool {
+    values.iter().any(|one| {
+        values
+            .iter()
+            .any(|other| other.line < one.line && are_worth(other, one))
+    })
 }
 
 /// Whether some line of the blocks may compute what another does, or extend something.
@@ -170,5 +348,8 @@ fn open_may_repeat(alloc: Global, blocks: &[Block<u32>]) -> Result<bool, AllocEr
 ///
 /// Only where memory was refused.
 pub(crate) fn blocks_may_repeat(alloc: Global, blocks: &[Block<u32>]) -> Result<bool, AllocError> {
-    Ok(any_may_repeat(alloc, blocks)? && open_may_repeat(alloc, blocks)?)
+    match values(alloc, blocks)? {
+        Some(values) => Ok(any_may_repeat(values.as_slice()) && may_be_known(alloc, blocks)?),
+        None => Ok(true),
+    }
 }

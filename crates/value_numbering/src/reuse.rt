@@ -187,28 +187,18 @@ fn by_any_claims(
     }
 }
 
-/// The same, by the registers that hold whole words alone.
-fn by_marks(alloc: Global, function: &VFunc) -> Result<Option<VFunc>, AllocError>
-    ensures { IfOk result (λ o. IfSome o (λ w. Keeps (virtual_code function.now) (virtual_code w))) }
-{
-    let marks = whole_registers(alloc, &function.code, function.registers)?;
-    by_any_claims(alloc, function, marks.as_slice())
-}
-
 /// The function in which lines that compute what a register holds are copies of it, extensions of what was loaded are loads, and stores of what was extended or masked write what it was made of, within
 /// blocks and, where the claims are right, across them. A function in which no line may compute what another does stays as it is.
 ///
 /// # Errors
 ///
 /// Only where memory was refused.
-pub fn reuse_values(alloc: Global, function: VFunc) -> Result<VFunc, AllocError>
-    ensures { IfOk result (λ w. Keeps (virtual_code function) (virtual_code w)) }
+pub fn reuse_values(alloc: Global, function: &VFunc) -> Result<Option<VFunc>, AllocError>
+    ensures { IfOk result (λ o. IfSome o (λ w. Keeps (virtual_code function.now) (virtual_code w))) }
 {
     if !blocks_may_repeat(alloc, function.code.blocks.as_slice())? {
-        return Ok(function);
+        return Ok(None);
     }
-    match by_marks(alloc, &function)? {
-        Some(made) => Ok(made),
-        None => Ok(function),
-    }
+    let marks = whole_registers(alloc, &function.code, function.registers)?;
+    by_any_claims(alloc, function, marks.as_slice())
 }

@@ -58,10 +58,6 @@ fn placed(
 }
 
 /// The blocks that the order names, in that order, with jumps to where their targets stand there.
-///
-/// # Errors
-///
-/// Only where memory was refused.
 pub(crate) fn blocks_in_order(
     alloc: Global,
     order: &[usize],

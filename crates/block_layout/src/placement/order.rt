@@ -88,17 +88,13 @@ fn stands(order: &[usize]) -> bool {
 /// # Errors
 ///
 /// Only where memory was refused.
-#[tactic(auto, using(crate::proofs::Standing::ordered_as_it_is))]
-pub fn place_blocks(alloc: Global, function: VFunc) -> Result<VFunc, AllocError>
-    ensures kept { IfOk result (λ w. Keeps (virtual_code function) (virtual_code w)) }
-    ensures ordered { IfOk result (λ w. IsOrdered function w) }
+pub fn place_blocks(alloc: Global, function: &VFunc) -> Result<Option<VFunc>, AllocError>
+    ensures kept { IfOk result (λ o. IfSome o (λ w. Keeps (virtual_code function.now) (virtual_code w))) }
+    ensures ordered { IfOk result (λ o. IfSome o (λ w. IsOrdered function.now w)) }
 {
     let order = chained(alloc, function.code.blocks.as_slice())?;
     if order.len() == function.code.blocks.len() && stands(order.as_slice()) {
-        return Ok(function);
+        return Ok(None);
     }
-    match in_order(alloc, &function, order.as_slice())? {
-        Some(made) => Ok(made),
-        None => Ok(function),
-    }
+    in_order(alloc, function, order.as_slice())
 }

@@ -39,10 +39,6 @@ fn fill(order: &[usize], places: &mut [usize]) -> bool
 }
 
 /// Where each of so many blocks stands in the order; none where that names a block twice or one that isn't there. It takes time as the order is long.
-///
-/// # Errors
-///
-/// Only where memory was refused.
 pub(crate) fn places(
     alloc: Global,
     order: &[usize],
@@ -96,12 +92,9 @@ pub(crate) fn is_closed(order: &[usize], places: &[usize], blocks: &[Block<u32>]
     requires { ArePlaces order.now places.now }
     ensures { result ≡ list_all (λ k. leads_within order.now (block_at blocks.now k).jump) order.now }
 {
-    for number in order {
-        if !leads_on(order, places, blocks, *number) {
-            return false;
-        }
-    }
-    true
+    order
+        .iter()
+        .all(|number| leads_on(order, places, blocks, *number))
 }
 
 /// Whether the order begins with the first of so many blocks, where there is one.

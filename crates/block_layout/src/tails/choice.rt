@@ -62,10 +62,8 @@ fn are_few(lines: &[Line<u32>], most: u64) -> bool {
 
 /// Whether the block branches or returns, and has few lines.
 fn is_short(block: &Block<u32>, most: u64) -> bool {
-    match &block.jump {
-        Jump::Branch { .. } | Jump::Return(_) => are_few(block.lines.as_slice(), most),
-        Jump::Goto(_) | Jump::Halt => false,
-    }
+    matches!(block.jump, Jump::Branch { .. } | Jump::Return(_))
+        && are_few(block.lines.as_slice(), most)
 }
 
 /// Whether a block to which several jumps lead is worth copies.
@@ -77,7 +75,7 @@ fn is_copied(block: &Block<u32>, sources: Sources, worth: Worth) -> bool {
 }
 
 /// Whether the block counts: where there are no marks, all do.
-fn is_marked(marks: &[bool], block: usize) -> bool {
+pub(crate) fn is_marked(marks: &[bool], block: usize) -> bool {
     marks.get(block).copied().unwrap_or(true)
 }
 
@@ -88,34 +86,38 @@ fn is_worth(
     to: usize,
     worth: Worth,
 ) -> bool {
-    if from == to {
-        return false;
-    }
     match (blocks.get(to), sources.get(to)) {
-        (Some(block), Some(sources)) => sources.count == 1 || is_copied(block, *sources, worth),
+        (Some(block), Some(sources)) if from != to => {
+            sources.count == 1 || is_copied(block, *sources, worth)
+        }
         _ => false,
     }
 }
 
-/// Whether the block goes to one that is worth a copy.
+/// Whether the block has a mark and goes to one that is worth a copy.
 fn is_chosen(
     blocks: &[Block<u32>],
+    marks: &[bool],
     sources: &[Sources],
     number: usize,
-    block: &Block<u32>,
     worth: Worth,
 ) -> bool {
-    match &block.jump {
-        Jump::Goto(to) => is_worth(blocks, sources, number, *to, worth),
-        Jump::Branch { .. } | Jump::Return(_) | Jump::Halt => false,
+    match blocks.get(number) {
+        Some(
+            Block {
+                jump: Jump::Goto(to),
+                ..
+            },
+        ) => is_marked(marks, number) && is_worth(blocks, sources, number, *to, worth),
+        _ => false,
     }
 }
 
 fn count(sources: &mut [Sources], to: Option<usize>) {
-    if let Some(to) = to {
-        if let Some(of) = sources.get_mut(to) {
-            of.count = of.count.saturating_add(1);
-        }
+    if let Some(to) = to
+        && let Some(of) = sources.get_mut(to)
+    {
+        of.count = of.count.saturating_add(1);
     }
 }
 
@@ -130,11 +132,12 @@ fn count_sources(sources: &mut [Sources], blocks: &[Block<u32>], marks: &[bool])
 }
 
 fn note_entry(sources: &mut [Sources], depths: &[u32], from: usize, to: Option<usize>) {
-    if let Some(to) = to {
-        match (sources.get_mut(to), depths.get(from), depths.get(to)) {
-            (Some(of), Some(outer), Some(inner)) => of.is_entry = of.is_entry || outer < inner,
-            _ => {}
-        }
+    if let Some(to) = to
+        && let Some(of) = sources.get_mut(to)
+        && let Some(outer) = depths.get(from)
+        && let Some(inner) = depths.get(to)
+    {
+        of.is_entry = of.is_entry || outer < inner;
     }
 }
 
@@ -146,32 +149,20 @@ fn note_entries(
 ) -> Result<(), AllocError> {
     let depths = depths(alloc, blocks)?;
     for (number, block) in blocks.iter().enumerate() {
-        note_entry(
-            sources,
-            depths.as_slice(),
-            number,
-            successor(&block.jump, 0),
-        );
-        note_entry(
-            sources,
-            depths.as_slice(),
-            number,
-            successor(&block.jump, 1),
-        );
+        for to in [successor(&block.jump, 0), successor(&block.jump, 1)] {
+            note_entry(sources, depths.as_slice(), number, to);
+        }
     }
     Ok(())
 }
 
 /// Whether several jumps lead to a block that does nothing but branch.
 fn has_bare_branch(sources: &[Sources], blocks: &[Block<u32>]) -> bool {
-    for (of, block) in sources.iter().zip(blocks) {
-        if let Jump::Branch { .. } = &block.jump {
-            if 1 < of.count && are_few(block.lines.as_slice(), 1) {
-                return true;
-            }
-        }
-    }
-    false
+    sources.iter().zip(blocks).any(|(of, block)| {
+        1 < of.count
+            && matches!(block.jump, Jump::Branch { .. })
+            && are_few(block.lines.as_slice(), 1)
+    })
 }
 
 /// Notes the jumps from marked blocks that lead to each block.
@@ -189,38 +180,6 @@ fn note_sources(
     }
 }
 
-/// The first block that is chosen, from this one on.
-fn first_chosen(
-    blocks: &[Block<u32>],
-    marks: &[bool],
-    sources: &[Sources],
-    worth: Worth,
-) -> Option<usize> {
-    for (number, block) in blocks.iter().enumerate() {
-        if is_marked(marks, number) && is_chosen(blocks, sources, number, block, worth) {
-            return Some(number);
-        }
-    }
-    None
-}
-
-/// Says of each block whether it is chosen; the first that is, is known.
-fn choose(
-    chosen: &mut [bool],
-    blocks: &[Block<u32>],
-    marks: &[bool],
-    sources: &[Sources],
-    worth: Worth,
-) {
-    for (number, block) in blocks.iter().enumerate() {
-        if is_marked(marks, number) && is_chosen(blocks, sources, number, block, worth) {
-            if let Some(is_this) = chosen.get_mut(number) {
-                *is_this = true;
-            }
-        }
-    }
-}
-
 fn chosen_by(
     alloc: Global,
     blocks: &[Block<u32>],
@@ -228,14 +187,13 @@ fn chosen_by(
     sources: &[Sources],
     worth: Worth,
 ) -> Result<Option<Vec<bool>>, AllocError> {
-    match first_chosen(blocks, marks, sources, worth) {
-        Some(_) => {
-            let mut chosen = vec![in alloc; false; blocks.len()]?;
-            choose(chosen.as_mut_slice(), blocks, marks, sources, worth);
-            Ok(Some(chosen))
-        }
-        None => Ok(None),
+    let mut numbers = 0..blocks.len();
+    if !numbers.any(|number| is_chosen(blocks, marks, sources, number, worth)) {
+        return Ok(None);
     }
+    let chosen = (0..blocks.len()).map(|number| is_chosen(blocks, marks, sources, number, worth));
+    let chosen: Vec<bool> = chosen.collect(alloc)?;
+    Ok(Some(chosen))
 }
 
 /// For each block whether the block that it goes to is worth a copy; none where no block is. Blocks without a mark don't count; where there are no marks, all do.
@@ -260,20 +218,11 @@ pub fn chosen_tails(
 }
 
 /// The numbers of the blocks to which a way leads from the first, in their order.
-///
-/// # Errors
-///
-/// Only where memory was refused.
 pub(crate) fn reached_blocks(
     alloc: Global,
     blocks: &[Block<u32>],
 ) -> Result<Vec<usize>, AllocError> {
     let marks = reachable(alloc, blocks)?;
-    let mut order = Vec::with_capacity(alloc, blocks.len())?;
-    for (number, is_reached) in marks.iter().enumerate() {
-        if *is_reached {
-            order.push(number)?;
-        }
-    }
-    Ok(order)
+    let reached = (0..marks.len()).filter(|number| marks.get(*number) == Some(&true));
+    reached.collect(alloc)
 }

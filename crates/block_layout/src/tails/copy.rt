@@ -183,15 +183,15 @@ fn copied_twice(alloc: Global, function: &VFunc, worth: Worth) -> Result<Option<
 ///
 /// Only where memory was refused.
 #[tactic(auto, using(il_ast::proofs::Passing::keeps_compose))]
-pub fn thread_jumps(alloc: Global, function: VFunc) -> Result<VFunc, AllocError>
-    ensures { IfOk result (λ w. Keeps (virtual_code function) (virtual_code w)) }
+pub fn thread_jumps(alloc: Global, function: &VFunc) -> Result<Option<VFunc>, AllocError>
+    ensures { IfOk result (λ o. IfSome o (λ w. Keeps (virtual_code function.now) (virtual_code w))) }
 {
-    match copied_twice(alloc, &function, Worth::Bare)? {
+    match copied_twice(alloc, function, Worth::Bare)? {
         Some(made) => {
             let reached = without_unreached(alloc, made)?;
-            Ok(reached)
+            Ok(Some(reached))
         }
-        None => Ok(function),
+        None => Ok(None),
     }
 }
 
@@ -201,11 +201,8 @@ pub fn thread_jumps(alloc: Global, function: VFunc) -> Result<VFunc, AllocError>
 /// # Errors
 ///
 /// Only where memory was refused.
-pub fn duplicate_tails(alloc: Global, function: VFunc) -> Result<VFunc, AllocError>
-    ensures { IfOk result (λ w. Keeps (virtual_code function) (virtual_code w)) }
+pub fn duplicate_tails(alloc: Global, function: &VFunc) -> Result<Option<VFunc>, AllocError>
+    ensures { IfOk result (λ o. IfSome o (λ w. Keeps (virtual_code function.now) (virtual_code w))) }
 {
-    match copied_twice(alloc, &function, Worth::Short)? {
-        Some(made) => Ok(made),
-        None => Ok(function),
-    }
+    copied_twice(alloc, function, Worth::Short)
 }

@@ -179,8 +179,8 @@ fn all_later(
 const ROUNDS: usize = 4;
 
 /// The function with sums put off, none of them over another one that is.
-fn put_off_some(alloc: Global, function: VFunc, counts: &[u32]) -> Result<VFunc, AllocError>
-    ensures { IfOk result (λ w. Keeps (virtual_code function) (virtual_code w)) }
+fn put_off_some(alloc: Global, function: &VFunc, counts: &[u32]) -> Result<VFunc, AllocError>
+    ensures { IfOk result (λ w. Keeps (virtual_code function.now) (virtual_code w)) }
 {
     let made = all_later(alloc, function.code.blocks.as_slice(), counts)?;
     function.with_blocks(alloc, function.registers, Seq::from_vec(made))
@@ -191,16 +191,21 @@ fn put_off_some(alloc: Global, function: VFunc, counts: &[u32]) -> Result<VFunc,
 /// # Errors
 ///
 /// Only where memory was refused.
-pub fn put_off_sums(alloc: Global, function: VFunc) -> Result<VFunc, AllocError>
-    ensures { IfOk result (λ w. Keeps (virtual_code function) (virtual_code w)) }
+pub fn put_off_sums(alloc: Global, function: &VFunc) -> Result<Option<VFunc>, AllocError>
+    ensures { IfOk result (λ o. IfSome o (λ w. Keeps (virtual_code function.now) (virtual_code w))) }
 {
-    let mut function = function;
     let counts = count_reads(alloc, function.registers, function.code.blocks.as_slice())?;
-    for _round in 0..ROUNDS {
-        if !is_any_put_off(function.code.blocks.as_slice(), counts.as_slice()) {
+    if !is_any_put_off(function.code.blocks.as_slice(), counts.as_slice()) {
+        return Ok(None);
+    }
+    let first = put_off_some(alloc, function, counts.as_slice())?;
+    let mut made = first;
+    for _round in 1..ROUNDS {
+        if !is_any_put_off(made.code.blocks.as_slice(), counts.as_slice()) {
             break;
         }
-        function = put_off_some(alloc, function, counts.as_slice())?;
+        let next = put_off_some(alloc, &made, counts.as_slice())?;
+        made = next;
     }
-    Ok(function)
+    Ok(Some(made))
 }

@@ -1,5 +1,5 @@
 //! Constants of loops.
-ghost use Rattle.std.specs.Prelude.{IfOk};
+ghost use Rattle.std.specs.Prelude.{IfOk, IfSome};
 ghost use Rattle.il_ast.specs.Passes.{Keeps};
 ghost use Rattle.vcode.specs.Coded.{virtual_code};
 
@@ -9,13 +9,23 @@ use crate::hoisting::plan::Plan;
 use std::alloc::{AllocError, Global};
 use vcode::function::VFunc;
 
-/// The function by the plan, or as it is where that isn't right.
-fn by_plan(alloc: Global, function: VFunc, plan: &Plan) -> Result<VFunc, AllocError>
-    ensures { IfOk result (λ w. Keeps (virtual_code function) (virtual_code w)) }
+/// What was made of the function, or the function itself, by one plan more, if that is right.
+#[tactic(auto, using(il_ast::proofs::Passing::keeps_compose))]
+fn by_plan(
+    alloc: Global,
+    function: &VFunc,
+    held: Option<VFunc>,
+    plan: &Plan,
+) -> Result<Option<VFunc>, AllocError>
+    requires { IfSome held (λ h. Keeps (virtual_code function.now) (virtual_code h)) }
+    ensures { IfOk result (λ o. IfSome o (λ w. Keeps (virtual_code function.now) (virtual_code w))) }
 {
-    match with_constant(alloc, &function, plan)? {
-        Some(made) => Ok(made),
-        None => Ok(function),
+    match held {
+        Some(before) => match with_constant(alloc, &before, plan)? {
+            Some(made) => Ok(Some(made)),
+            None => Ok(Some(before)),
+        },
+        None => with_constant(alloc, function, plan),
     }
 }
 
@@ -25,13 +35,13 @@ fn by_plan(alloc: Global, function: VFunc, plan: &Plan) -> Result<VFunc, AllocEr
 /// # Errors
 ///
 /// Only where memory was refused.
-pub fn hoist_constants(alloc: Global, function: VFunc) -> Result<VFunc, AllocError>
-    ensures { IfOk result (λ w. Keeps (virtual_code function) (virtual_code w)) }
+pub fn hoist_constants(alloc: Global, function: &VFunc) -> Result<Option<VFunc>, AllocError>
+    ensures { IfOk result (λ o. IfSome o (λ w. Keeps (virtual_code function.now) (virtual_code w))) }
 {
-    let plans = choose_plans(alloc, &function)?;
-    let mut held = function;
+    let plans = choose_plans(alloc, function)?;
+    let mut held = None;
     for plan in plans.as_slice() {
-        let made = by_plan(alloc, held, plan)?;
+        let made = by_plan(alloc, function, held, plan)?;
         held = made;
     }
     Ok(held)

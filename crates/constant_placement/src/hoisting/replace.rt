@@ -76,10 +76,6 @@ fn held_block(
 }
 
 /// The blocks by a plan: where it holds, its constant is read from its register, and where it sets, that is set right before the jump.
-///
-/// # Errors
-///
-/// Only where memory was refused.
 pub(crate) fn with_blocks(
     alloc: Global,
     plan: &Plan,

@@ -46,12 +46,7 @@ fn made_spares(register: u32, to: &Option<u32>) -> bool
 fn args_spare(register: u32, args: &[Argument<u32>]) -> bool
     ensures { result ≡ list_all (λ (a : AnArgument ℕ). operand_keeps (is_other register) a.value) args.now }
 {
-    for arg in args {
-        if !operand_spares(register, &arg.value) {
-            return false;
-        }
-    }
-    true
+    args.iter().all(|arg| operand_spares(register, &arg.value))
 }
 
 fn line_spares(register: u32, line: &Line<u32>) -> bool
@@ -100,34 +95,21 @@ fn jump_spares(register: u32, jump: &Jump<u32>) -> bool
 fn lines_spare(register: u32, lines: &[Line<u32>]) -> bool
     ensures { result ≡ list_all (line_keeps (is_other register)) lines.now }
 {
-    for line in lines {
-        if !line_spares(register, line) {
-            return false;
-        }
-    }
-    true
+    lines.iter().all(|line| line_spares(register, line))
 }
 
 fn blocks_spare(register: u32, blocks: &[Block<u32>]) -> bool
     ensures { result ≡ list_all (block_keeps (is_other register)) blocks.now }
 {
-    for block in blocks {
-        if !(lines_spare(register, block.lines.as_slice()) && jump_spares(register, &block.jump)) {
-            return false;
-        }
-    }
-    true
+    blocks.iter().all(|block| {
+        lines_spare(register, block.lines.as_slice()) && jump_spares(register, &block.jump)
+    })
 }
 
 fn params_spare(register: u32, params: &[Destination<u32>]) -> bool
     ensures { result ≡ list_all (λ (d : ADestination ℕ). is_other register d.place) params.now }
 {
-    for param in params {
-        if param.place == register {
-            return false;
-        }
-    }
-    true
+    params.iter().all(|param| param.place != register)
 }
 
 fn may_lead(plan: &Plan, has: bool, to: usize) -> bool
@@ -179,10 +161,5 @@ pub(crate) fn fits(plan: &Plan, function: &VFunc) -> bool
 pub(crate) fn are_paid(blocks: &[Block<u32>]) -> bool
     ensures { result ≡ list_all is_paid blocks.now }
 {
-    for block in blocks {
-        if !is_paid(block) {
-            return false;
-        }
-    }
-    true
+    blocks.iter().all(|block| is_paid(block))
 }

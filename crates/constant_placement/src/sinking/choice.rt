@@ -43,10 +43,7 @@ fn entries(alloc: Global, blocks: &[Block<u32>]) -> Result<Vec<Entry>, AllocErro
 
 /// Whether only the block `number` leads to that block, and that comes later in the text.
 fn may_set(entries: &[Entry], number: usize, block: usize) -> bool {
-    match entries.get(block) {
-        Some(entry) => entry.is_alone && block > number,
-        None => false,
-    }
+    block > number && entries.get(block).is_some_and(|entry| entry.is_alone)
 }
 
 /// The two blocks behind a block, if one of them may set what the block does.
@@ -104,20 +101,18 @@ struct Ahead {
 impl Ahead {
     /// Whether the register is live where the block begins.
     fn wants(&self, block: usize, register: u32) -> bool {
-        match self.entries.get(block) {
-            Some(entry) => self.live.holds(entry.point, register),
-            None => false,
-        }
+        let entry = self.entries.get(block);
+        entry.is_some_and(|entry| self.live.holds(entry.point, register))
     }
 
     fn add(&mut self, number: usize, block: usize, known: Known) -> Result<(), AllocError> {
-        match self.sets.get_mut(block) {
-            Some(sets) if sets.len() < SETS && may_set(self.entries.as_slice(), number, block) => {
-                sets.push(known)?;
-                Ok(())
-            }
-            _ => Ok(()),
+        if let Some(sets) = self.sets.get_mut(block)
+            && sets.len() < SETS
+            && may_set(self.entries.as_slice(), number, block)
+        {
+            sets.push(known)?;
         }
+        Ok(())
     }
 
     /// The one of two blocks behind a block that wants the register is to set it.

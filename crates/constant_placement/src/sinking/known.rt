@@ -33,12 +33,7 @@ fn same(one: &Known, other: &Known) -> bool
 fn is_planned(plan: &[Known], wanted: &Known) -> bool
     ensures { result ≡ is_planned plan.now wanted.now }
 {
-    for known in plan {
-        if same(wanted, known) {
-            return true;
-        }
-    }
-    false
+    plan.iter().any(|known| same(wanted, known))
 }
 
 /// Whether the line sets its register to this number.
@@ -93,10 +88,7 @@ pub(crate) fn plan_at(plans: &[Plan], block: usize) -> &[Known]
 
 /// Behind how many of its lines.
 pub(crate) fn place_at(plans: &[Plan], block: usize) -> usize {
-    match plans.get(block) {
-        Some(plan) => plan.behind,
-        None => 0,
-    }
+    plans.get(block).map_or(0, |plan| plan.behind)
 }
 
 /// Whether all that is planned stays known behind these lines.

@@ -1,6 +1,6 @@
 //! Numbers that a block sets registers to and doesn't read.
-use crate::reads::{Reads, jump_reads, line_reads};
 use crate::sinking::known::Known;
+use cfg_live::reads::{Reads, jump_reads, line_reads, register_of};
 use cfg_live::uses::line_writes;
 use std::alloc::{AllocError, Global};
 use vcode::code::Block;
@@ -19,15 +19,9 @@ pub(crate) struct Numbers {
 
 impl Numbers {
     /// Of so many registers.
-    ///
-    /// # Errors
-    ///
-    /// Only where memory was refused.
     pub(crate) fn new(alloc: Global, registers: u32) -> Result<Numbers, AllocError> {
-        let mut last = Vec::new(alloc);
-        last.resize(registers as usize, None)?;
         Ok(Numbers {
-            last,
+            last: vec![in alloc; None; registers as usize]?,
             set: Vec::new(alloc),
         })
     }
@@ -44,17 +38,17 @@ impl Numbers {
         Ok(())
     }
 
-    fn read(&mut self, operand: Option<Operand<u32>>) {
-        if let Some(Operand::At(register)) = operand {
+    fn forget(&mut self, register: Option<u32>) {
+        if let Some(register) = register {
             self.put(register, None);
         }
     }
 
     fn read_all(&mut self, reads: Reads<'_>) {
-        self.read(reads.first);
-        self.read(reads.second);
+        self.forget(reads.first);
+        self.forget(reads.second);
         for arg in reads.args {
-            self.read(Some(arg.value));
+            self.forget(register_of(&arg.value));
         }
     }
 
@@ -69,19 +63,13 @@ impl Numbers {
                 number: *number,
             }),
             _ => {
-                if let Some(register) = line_writes(line) {
-                    self.put(register, None);
-                }
+                self.forget(line_writes(line));
                 Ok(())
             }
         }
     }
 
     /// What is set in a block, or before it, and not read before its end.
-    ///
-    /// # Errors
-    ///
-    /// Only where memory was refused.
     pub(crate) fn unread(
         &mut self,
         alloc: Global,
@@ -95,28 +83,23 @@ impl Numbers {
             self.pass(line)?;
         }
         self.read_all(jump_reads(&block.jump));
-        let unread = take_all(alloc, self.last.as_mut_slice(), self.set.as_slice())?;
+        self.take_all(alloc)
+    }
+
+    /// The numbers of the registers that were set, which it forgets.
+    fn take_all(&mut self, alloc: Global) -> Result<Vec<Known>, AllocError> {
+        let mut unread = Vec::new(alloc);
+        for register in self.set.iter() {
+            if let Some(last) = self.last.get_mut(*register as usize)
+                && let Some(number) = last.take()
+            {
+                unread.push(Known {
+                    register: *register,
+                    number,
+                })?;
+            }
+        }
         self.set.clear();
         Ok(unread)
     }
-}
-
-fn take(last: &mut [Option<u64>], register: u32) -> Option<Known> {
-    let number = last.get_mut(register as usize)?.take()?;
-    Some(Known { register, number })
-}
-
-/// The numbers of these registers, which it forgets.
-fn take_all(
-    alloc: Global,
-    last: &mut [Option<u64>],
-    set: &[u32],
-) -> Result<Vec<Known>, AllocError> {
-    let mut unread = Vec::new(alloc);
-    for register in set {
-        if let Some(known) = take(last, *register) {
-            unread.push(known)?;
-        }
-    }
-    Ok(unread)
 }

@@ -1,13 +1,12 @@
 //! Where a block may set registers.
-use crate::reads::line_reads;
 use crate::sinking::known::{Known, Plan};
+use cfg_live::reads::{line_reads, register_of};
 use cfg_live::uses::line_writes;
 use il_ast::list::Seq;
 use std::alloc::{AllocError, Global};
 use vcode::code::Block;
 use vcode::cost::{is_immediate, line_cost};
 use vcode::line::{Jump, Line};
-use vcode::place::{Argument, Operand};
 
 /// The most that a jump costs.
 fn jump_cost(jump: &Jump<u32>) -> u128 {
@@ -53,39 +52,17 @@ fn room(alloc: Global, block: &Block<u32>) -> Result<Vec<u128>, AllocError> {
 }
 
 fn is_in(sets: &[Known], register: u32) -> bool {
-    for known in sets {
-        if known.register == register {
-            return true;
-        }
-    }
-    false
-}
-
-fn is_at(sets: &[Known], operand: Option<Operand<u32>>) -> bool {
-    match operand {
-        Some(Operand::At(register)) => is_in(sets, register),
-        _ => false,
-    }
-}
-
-fn are_args(sets: &[Known], args: &[Argument<u32>]) -> bool {
-    for arg in args {
-        if is_at(sets, Some(arg.value)) {
-            return true;
-        }
-    }
-    false
+    sets.iter().any(|known| known.register == register)
 }
 
 /// Whether the line reads or writes one of these registers.
 fn names(sets: &[Known], line: &Line<u32>) -> bool {
-    if let Some(register) = line_writes(line)
-        && is_in(sets, register)
-    {
-        return true;
-    }
     let reads = line_reads(line);
-    is_at(sets, reads.first) || is_at(sets, reads.second) || are_args(sets, reads.args)
+    [line_writes(line), reads.first, reads.second].iter().any(|named| named.is_some_and(
+        |register| is_in(sets, register),
+    )) || reads.args.iter().any(|arg| {
+        register_of(&arg.value).is_some_and(|register| is_in(sets, register))
+    })
 }
 
 /// What it costs to set the register.
@@ -95,14 +72,10 @@ fn cost(known: &Known) -> u128 {
 
 /// Whether there is room for all of them.
 fn fit(room: &[u128], place: usize, sets: &[Known]) -> bool {
-    let mut cost_of_all = 0u128;
-    for known in sets {
-        cost_of_all = cost_of_all.saturating_add(cost(known));
-    }
-    match room.get(place) {
-        Some(room) => cost_of_all <= *room,
-        None => false,
-    }
+    let cost = sets
+        .iter()
+        .fold(0u128, |all: u128, known| all.saturating_add(cost(known)));
+    room.get(place).is_some_and(|room| cost <= *room)
 }
 
 /// In front of which line they are set; those for which there is no room are left out.
@@ -122,10 +95,6 @@ fn place(room: &[u128], sets: &mut Vec<Known>, lines: &[Line<u32>]) -> usize {
 }
 
 /// What a block is to set, and where: in front of the first line that names one of the registers, if there is room for all of them, else without that one.
-///
-/// # Errors
-///
-/// Only where memory was refused.
 pub(crate) fn placed(
     alloc: Global,
     planned: Vec<Known>,

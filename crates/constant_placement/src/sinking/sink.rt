@@ -42,14 +42,11 @@ pub fn apply(alloc: Global, function: &VFunc, plans: &[Plan]) -> Result<Option<V
 /// # Errors
 ///
 /// Only where memory was refused.
-pub fn sink_constants(alloc: Global, function: VFunc) -> Result<VFunc, AllocError>
-    ensures { IfOk result (λ w. Keeps (virtual_code function) (virtual_code w)) }
+pub fn sink_constants(alloc: Global, function: &VFunc) -> Result<Option<VFunc>, AllocError>
+    ensures { IfOk result (λ o. IfSome o (λ w. Keeps (virtual_code function.now) (virtual_code w))) }
 {
-    match choose(alloc, &function)? {
-        Some(plans) => match apply(alloc, &function, plans.as_slice())? {
-            Some(made) => Ok(made),
-            None => Ok(function),
-        },
-        None => Ok(function),
+    match choose(alloc, function)? {
+        Some(plans) => apply(alloc, function, plans.as_slice()),
+        None => Ok(None),
     }
 }

@@ -106,10 +106,6 @@ fn sinks(
 }
 
 /// The blocks by these plans; none where what is planned of a block isn't known on each way there.
-///
-/// # Errors
-///
-/// Only where memory was refused.
 pub(crate) fn all_sunk(
     alloc: Global,
     registers: u32,

@@ -1,6 +1,7 @@
 //! Why bytes of memory can't be loaded, stored or put out.
 use crate::trace::source::Story;
 use il_ast::value::Value;
+use text_maker::say;
 
 /// Says why so many bytes at an address are none that can be accessed. Answers whether they are none.
 pub fn add_no_access(story: &mut Story<'_>, at: Option<Value>, count: u64) -> bool {
@@ -15,26 +16,15 @@ pub fn add_no_access(story: &mut Story<'_>, at: Option<Value>, count: u64) -> bo
 
 /// The same of bytes from an offset of a block on.
 fn add_outside(story: &mut Story<'_>, block: u128, offset: u64, count: u64) -> bool {
-    let Some(size) = story.running.block_size(block) else {
-        story
-            .words
-            .add("the block is dead, since its function has returned");
-        return true;
-    };
-    let size = size as u64;
-    if offset <= size && count <= size - offset {
-        return false;
-    }
-    if count == 1 {
-        story.words.add("the byte at offset ");
-        story.words.add_signed(offset);
-        story.words.add(" is outside its block");
-    } else {
-        story
-            .words
-            .add_with_numbers("the # bytes from offset ", &[count]);
-        story.words.add_signed(offset);
-        story.words.add(" on are outside its block");
+    let words = &mut story.words;
+    let from = offset.cast_signed();
+    match story.running.block_size(block) {
+        None => words.add("the block is dead, since its function has returned"),
+        Some(size) if offset <= size as u64 && count <= size as u64 - offset => return false,
+        Some(_) if count == 1 => say!(words; "the byte at offset {from} is outside its block"),
+        Some(_) => {
+            say!(words; "the {count} bytes from offset {from} on are outside its block");
+        }
     }
     true
 }
@@ -44,14 +34,13 @@ pub fn add_blank(story: &mut Story<'_>, at: Option<Value>, count: u64) -> bool {
     let Some(Value::Pointer { block, offset }) = at else {
         return false;
     };
-    for k in 0..count {
-        let byte = offset.wrapping_add(k);
-        if !story.running.is_byte(block, byte) {
-            story.words.add("offset ");
-            story.words.add_signed(byte);
-            story.words.add(" holds no number: nothing was stored there, or a part of a pointer");
-            return true;
-        }
-    }
-    false
+    let running = story.running;
+    let mut bytes = (0..count).map(|k| offset.wrapping_add(k));
+    let Some(byte) = bytes.find(|byte| !running.is_byte(block, *byte)) else {
+        return false;
+    };
+    let byte = byte.cast_signed();
+    let why = "nothing was stored there, or a part of a pointer";
+    say!(story.words; "offset {byte} holds no number: {why}");
+    true
 }

@@ -1,23 +1,23 @@
 //! Why a turn has no meaning.
 use crate::call::{Call, add_difference};
 use crate::label::targets;
-use crate::name::{add_name_in, add_temp};
-use crate::place::{Step, StepList};
+use crate::name::add_operand;
+use crate::place::Step;
 use crate::trace::access::{add_blank, add_no_access};
 use crate::trace::operation::add_no_value;
 use crate::trace::source::{Story, function_at};
-use crate::trace::turn::{add_phis, value_of, value_read};
-use crate::trace::values::add_callee;
+use crate::trace::turn::{steps_of, value_of, value_read};
+use crate::trace::values::callee_name;
 use il_ast::block::Block;
 use il_ast::function::Func;
 use il_ast::instruction::{Inst, Jump};
 use il_ast::label::Label;
-use il_ast::operand::Val;
 use il_ast::operation::{Class, Extension, Size, UnaryOp};
 use il_ast::program::InText;
-use il_ast::value::{Callee, Value};
+use il_ast::value::Value;
 use il_interp::trace::Place;
 use std::alloc::{AllocError, Global};
+use text_maker::say;
 
 /// What is said where no more is known.
 const NO_MEANING: &str = "this has no meaning";
@@ -28,7 +28,7 @@ pub fn add_cause(alloc: Global, story: &mut Story<'_>, place: Place) -> Result<(
         && let Some(block) = place.in_block(story.source.linked)
     {
         let target = taken_target(story, function.text, block);
-        let steps = steps_to(alloc, function.item, block, place.next, target)?;
+        let steps = steps_of(alloc, function.item, block, place.next, [target, None])?;
         story.words.add("    ");
         if !add_unfit_operand(story, function, block.label, steps.as_slice()) {
             add_reason(story, function, place, block);
@@ -51,27 +51,6 @@ fn taken_target(story: &Story<'_>, text: usize, block: &Block) -> Option<Label> 
     one
 }
 
-/// What a turn of a block reads: an instruction, or the jump with the phis of the block that it leads to.
-fn steps_to(
-    alloc: Global,
-    function: &Func,
-    block: &Block,
-    next: usize,
-    target: Option<Label>,
-) -> Result<Vec<Step>, AllocError> {
-    let mut steps = StepList::new(alloc);
-    match block.insts.as_slice().get(next) {
-        Some(inst) => steps.add_inst(inst),
-        None => {
-            if let Some(jump) = &block.jump {
-                steps.add_jump(jump);
-            }
-            add_phis(&mut steps, function.blocks.as_slice(), target);
-        }
-    }
-    steps.finish()
-}
-
 /// Says of the first operand that has no value, or none for its place, what it is. Answers whether there is one.
 fn add_unfit_operand(
     story: &mut Story<'_>,
@@ -83,7 +62,7 @@ fn add_unfit_operand(
         if let Some(operand) = value_read(step, label) {
             let value = value_of(story, function.text, &operand);
             if let Some(reason) = unfit(value, step.class) {
-                add_operand(story, function, &operand);
+                add_operand(&mut story.words, story.source.linked, function, operand);
                 story.words.add(reason);
                 return true;
             }
@@ -102,23 +81,14 @@ fn unfit(value: Option<Value>, class: Class) -> Option<&'static str> {
     }
 }
 
-fn add_operand(story: &mut Story<'_>, function: &InText<&Func>, operand: &Val) {
-    let words = &mut story.words;
-    match operand {
-        Val::Int(number) => words.add_number(*number),
-        Val::Temp(temp) => add_temp(words, function.item, *temp),
-        Val::Global(symbol) => add_name_in(words, story.source.linked, function.text, *symbol),
-    }
-}
-
 /// Says why a turn has no meaning whose operands have values that fit their places.
 fn add_reason(story: &mut Story<'_>, function: &InText<&Func>, place: Place, block: &Block) {
     let text = function.text;
     match place.instruction(story.source.linked) {
-        Some(Inst::Unary { op, value, .. }) => {
-            let value = value_of(story, text, value);
-            add_of_unary(story, *op, value)
-        }
+        Some(Inst::Unary { op, value, .. }) => match bytes_loaded(*op) {
+            Some(count) => add_no_read(story, value_of(story, text, value), count),
+            None => story.words.add("only a number can be negated"),
+        },
         Some(
             Inst::Binary {
                 op,
@@ -131,8 +101,7 @@ fn add_reason(story: &mut Story<'_>, function: &InText<&Func>, place: Place, blo
             _ => story.words.add(NO_MEANING),
         },
         Some(Inst::Store { size, at, .. }) => {
-            let at = value_of(story, text, at);
-            let _ = add_no_access(story, at, bytes_stored(*size));
+            let _ = add_no_access(story, value_of(story, text, at), bytes_stored(*size));
         }
         Some(Inst::Blit { from, to, count }) => {
             let from = value_of(story, text, from);
@@ -144,23 +113,12 @@ fn add_reason(story: &mut Story<'_>, function: &InText<&Func>, place: Place, blo
             }
         }
         Some(Inst::Call { to, callee, args }) => {
-            let call = Call {
-                to: *to,
-                args: args.as_slice(),
-            };
-            let callee = value_of(story, text, callee);
-            add_of_call(story, text, callee, &call)
+            let args = args.as_slice();
+            let call = Call { to: *to, args };
+            add_of_call(story, text, value_of(story, text, callee), &call)
         }
         Some(Inst::Alloc { .. }) => story.words.add(NO_MEANING),
         None => add_of_jump(story, function, block),
-    }
-}
-
-/// Why an operation on one value has none: a load, or what takes numbers alone.
-fn add_of_unary(story: &mut Story<'_>, op: UnaryOp, value: Option<Value>) {
-    match bytes_loaded(op) {
-        Some(count) => add_no_read(story, value, count),
-        None => story.words.add("only a number can be negated"),
     }
 }
 
@@ -193,22 +151,17 @@ fn bytes_stored(size: Size) -> u64 {
 
 /// Why a call has no meaning: what is called is no function, or has other classes, or puts out what isn't there.
 fn add_of_call(story: &mut Story<'_>, text: usize, callee: Option<Value>, call: &Call<'_>) {
+    let words = &mut story.words;
     match callee {
-        Some(Value::Function(callee)) => add_of_callee(story, text, callee, call),
-        Some(Value::Integer(_)) => story
-            .words
-            .add("what is called is a number, and no function"),
-        _ => story
-            .words
-            .add("what is called is a pointer to data, and no function"),
-    }
-}
-
-fn add_of_callee(story: &mut Story<'_>, text: usize, callee: Callee, call: &Call<'_>) {
-    add_callee(&mut story.words, story.source, callee);
-    if !add_difference(&mut story.words, story.source.linked, call, callee) {
-        story.words.add(": ");
-        add_of_write(story, text, call);
+        Some(Value::Function(callee)) => {
+            say!(words; "{}", callee_name(story.source, callee));
+            if !add_difference(words, story.source.linked, call, callee) {
+                words.add(": ");
+                add_of_write(story, text, call);
+            }
+        }
+        Some(Value::Integer(_)) => words.add("what is called is a number, and no function"),
+        _ => words.add("what is called is a pointer to data, and no function"),
     }
 }
 
@@ -218,27 +171,26 @@ fn add_of_write(story: &mut Story<'_>, text: usize, call: &Call<'_>) {
         story.words.add(NO_MEANING);
         return;
     };
-    let at = value_of(story, text, &at.value);
     match value_of(story, text, &count.value) {
-        Some(Value::Integer(count)) => add_no_read(story, at, count),
+        Some(Value::Integer(count)) => add_no_read(story, value_of(story, text, &at.value), count),
         _ => story.words.add("the count of bytes is no number"),
     }
 }
 
 /// Why a jump has no meaning whose condition and phis have values.
 fn add_of_jump(story: &mut Story<'_>, function: &InText<&Func>, block: &Block) {
-    let item = match &block.jump {
-        Some(jump) => jump.item,
-        None => Jump::Halt,
+    let Some(jump) = &block.jump else {
+        story.words.add(NO_MEANING);
+        return;
     };
-    match item {
+    match jump.item {
         Jump::Return(None) => story
             .words
             .add("no value is returned, and the call wants one"),
         Jump::Return(Some(operand)) => {
             let value = value_of(story, function.text, &operand);
-            add_operand(story, function, &operand);
             let class = function.item.result.unwrap_or(Class::L);
+            add_operand(&mut story.words, story.source.linked, function, operand);
             story
                 .words
                 .add(unfit(value, class).unwrap_or(" can't be returned"));

@@ -1,5 +1,5 @@
 //! Why a call finds too little stack.
-use crate::trace::source::{Source, Story, add_function, function_at};
+use crate::trace::source::{Source, Story, function_at, function_name};
 use crate::trace::turn::value_of;
 use il_ast::instruction::Inst;
 use il_ast::limits::STACK_ROOM;
@@ -9,24 +9,21 @@ use il_interp::trace::Place;
 use il_types::cost::capped_need;
 use std::alloc::{AllocError, Global};
 use text_maker::maker::TextMaker;
+use text_maker::say;
 
 /// So many functions are told.
 const MOST_FUNCTIONS: usize = 20;
 
 /// What a function needs.
 fn need_of(source: &Source<'_>, number: usize) -> u64 {
-    match function_at(source, number) {
-        Some(function) => capped_need(function.item),
-        None => 0,
-    }
+    function_at(source, number).map_or(0, |function| capped_need(function.item))
 }
 
 /// Adds that a call of a function needs more bytes than so many that are left.
 fn add_need(words: &mut TextMaker, source: &Source<'_>, number: usize, left: u64) {
+    let name = function_name(source, number);
     let need = need_of(source, number);
-    words.add("    ");
-    add_function(words, source, number);
-    words.add_with_numbers(" needs # bytes of stack, and # are left\n", &[need, left]);
+    say!(words; "    {name} needs {need} bytes of stack, and {left} are left\n");
 }
 
 /// Adds why a program comes to no turn.
@@ -49,12 +46,13 @@ pub fn add_needs(alloc: Global, story: &mut Story<'_>, place: Place) -> Result<(
 /// The function that a turn calls.
 fn called(story: &Story<'_>, place: Place) -> Option<usize> {
     let text = function_at(story.source, place.function)?.text;
-    if let Some(Inst::Call { callee, .. }) = place.instruction(story.source.linked)
-        && let Some(Value::Function(Callee::Defined(number))) = value_of(story, text, callee)
-    {
-        return Some(number);
+    let Some(Inst::Call { callee, .. }) = place.instruction(story.source.linked) else {
+        return None;
+    };
+    match value_of(story, text, callee)? {
+        Value::Function(Callee::Defined(number)) => Some(number),
+        _ => None,
     }
-    None
 }
 
 /// For each function how many calls of it a turn stands in.
@@ -82,31 +80,25 @@ fn count(calls: &mut Vec<u64>, number: usize) {
 
 /// How much stack so many calls take.
 fn taken(source: &Source<'_>, calls: &[u64]) -> u64 {
-    let mut sum: u64 = 0;
-    for (number, count) in calls.iter().enumerate() {
-        sum = sum.saturating_add(count.saturating_mul(need_of(source, number)));
-    }
-    sum
+    calls
+        .iter()
+        .enumerate()
+        .fold(0, |sum: u64, (number, count)| {
+            sum.saturating_add(count.saturating_mul(need_of(source, number)))
+        })
 }
 
 /// Adds a line for each function that is called, as far as they are told.
 fn add_shares(words: &mut TextMaker, source: &Source<'_>, calls: &[u64]) {
-    let mut told: usize = 0;
-    for (number, count) in calls.iter().enumerate() {
-        if *count > 0 && told < MOST_FUNCTIONS {
-            add_share(words, source, number, *count);
-            told = told.saturating_add(1);
-        }
+    let called = calls.iter().enumerate().filter(|(_, count)| **count > 0);
+    for (number, count) in called.take(MOST_FUNCTIONS) {
+        let (plural, each) = if *count == 1 {
+            ("", "")
+        } else {
+            ("s", " each")
+        };
+        let name = function_name(source, number);
+        let need = need_of(source, number);
+        say!(words; "    {count} call{plural} of {name} with {need} bytes{each}\n");
     }
-}
-
-fn add_share(words: &mut TextMaker, source: &Source<'_>, number: usize, count: u64) {
-    let (calls, each) = if count == 1 {
-        ("    # call of ", " with # bytes\n")
-    } else {
-        ("    # calls of ", " with # bytes each\n")
-    };
-    words.add_with_numbers(calls, &[count]);
-    add_function(words, source, number);
-    words.add_with_numbers(each, &[need_of(source, number)]);
 }

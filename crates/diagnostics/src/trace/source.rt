@@ -1,5 +1,5 @@
 //! Lines and names of the texts that are run.
-use crate::name::add_name_in;
+use crate::name::{Named, name_in};
 use il_ast::function::Func;
 use il_ast::program::InText;
 use il_interp::pieces::Running;
@@ -8,6 +8,7 @@ use memchr::memchr;
 use obj_link::linking::linked::Linked;
 use std::str;
 use text_maker::maker::TextMaker;
+use text_maker::say;
 
 /// Texts that are a program, with the paths of their files and with what these hold, in the same order.
 #[derive(Drop)]
@@ -30,29 +31,37 @@ pub fn function_at<'a>(source: &Source<'a>, number: usize) -> Option<&'a InText<
     source.linked.functions.as_slice().get(number)
 }
 
-/// Adds the name of a function.
-pub fn add_function(words: &mut TextMaker, source: &Source<'_>, number: usize) {
+/// The name of a function.
+pub fn function_name<'a>(source: &'a Source<'_>, number: usize) -> Named<'a> {
     match function_at(source, number) {
-        Some(function) => add_name_in(words, source.linked, function.text, function.item.name),
-        None => words.add("$?"),
+        Some(function) => name_in(source.linked, function.text, function.item.name),
+        None => Named::global("?"),
     }
+}
+
+/// Adds where a turn is due: how it stands there, and what is written in its line.
+pub fn add_turn(words: &mut TextMaker, source: &Source<'_>, place: Place, how: &str) {
+    add_place(words, source, place);
+    let written = written(source, place);
+    say!(words; ": {how} {}: {written}", function_name(source, place.function));
 }
 
 /// Adds the file and the line of a turn.
 pub fn add_place(words: &mut TextMaker, source: &Source<'_>, place: Place) {
     if let Some(function) = function_at(source, place.function) {
-        words.add(source.paths.get(function.text).copied().unwrap_or("?"));
-        words.add_with_numbers(":#", &[place.line(source.linked) as u64]);
+        let path = source.paths.get(function.text).copied().unwrap_or("?");
+        say!(words; "{path}:{}", place.line(source.linked));
     }
 }
 
-/// Adds what stands in the line of a turn.
-pub fn add_written(words: &mut TextMaker, source: &Source<'_>, place: Place) {
-    if let Some(function) = function_at(source, place.function) {
-        let text = source.texts.get(function.text).copied().unwrap_or(&[]);
-        let written = without_comment(line_in(text, place.line(source.linked)));
-        words.add(str::from_utf8(written).unwrap_or("?").trim());
-    }
+/// What stands in the line of a turn, up to its comment. Lines of functions have no strings.
+fn written<'a>(source: &Source<'a>, place: Place) -> &'a str {
+    let Some(function) = function_at(source, place.function) else {
+        return "";
+    };
+    let text = source.texts.get(function.text).copied().unwrap_or(&[]);
+    let line = line_in(text, place.line(source.linked));
+    str::from_utf8(before(b'#', line)).unwrap_or("?").trim()
 }
 
 /// The line of a text with this number, counted from 1, without its end.
@@ -67,15 +76,8 @@ fn line_in(text: &[u8], number: usize) -> &[u8] {
     before(b'\n', rest)
 }
 
-/// A line up to its comment. Lines of functions have no strings.
-fn without_comment(line: &[u8]) -> &[u8] {
-    before(b'#', line)
-}
-
 /// What stands before the first such byte, or all where there is none.
 fn before(byte: u8, bytes: &[u8]) -> &[u8] {
-    match memchr(byte, bytes) {
-        Some(end) => bytes.get(..end).unwrap_or(bytes),
-        None => bytes,
-    }
+    let end = memchr(byte, bytes).unwrap_or(bytes.len());
+    bytes.get(..end).unwrap_or(bytes)
 }

@@ -1,7 +1,7 @@
 //! The turn that was the last.
 use crate::call::target;
 use crate::label::targets;
-use crate::name::{add_name_in, add_temp};
+use crate::name;
 use crate::place::{Does, Step, StepList};
 use crate::trace::source::{Story, function_at};
 use crate::trace::values::add_value;
@@ -19,18 +19,20 @@ pub fn add_operands(alloc: Global, story: &mut Story<'_>, place: Place) -> Resul
     if let Some(function) = function_at(story.source, place.function)
         && let Some(block) = place.in_block(story.source.linked)
     {
-        let steps = steps_of(alloc, function.item, block, place.next)?;
+        let (one, other) = targets(block);
+        let steps = steps_of(alloc, function.item, block, place.next, [one, other])?;
         add_each(story, function, block.label, steps.as_slice());
     }
     Ok(())
 }
 
-/// What a turn of a block does: an instruction, or the jump with the phis of the blocks that it may lead to.
-fn steps_of(
+/// What a turn of a block does: an instruction, or the jump with the phis of the blocks of these labels.
+pub fn steps_of(
     alloc: Global,
     function: &Func,
     block: &Block,
     next: usize,
+    behind: [Option<Label>; 2],
 ) -> Result<Vec<Step>, AllocError> {
     let mut steps = StepList::new(alloc);
     match block.insts.as_slice().get(next) {
@@ -39,32 +41,32 @@ fn steps_of(
             if let Some(jump) = &block.jump {
                 steps.add_jump(jump);
             }
-            let (one, other) = targets(block);
-            add_phis(&mut steps, function.blocks.as_slice(), one);
-            add_phis(&mut steps, function.blocks.as_slice(), other);
+            let blocks = function.blocks.as_slice();
+            add_phis(&mut steps, blocks, behind[0]);
+            add_phis(&mut steps, blocks, behind[1]);
         }
     }
     steps.finish()
 }
 
 /// Adds what the phis of the block of a label take.
-pub fn add_phis(steps: &mut StepList, blocks: &[Block], label: Option<Label>) {
-    for block in blocks {
-        if label == Some(block.label) {
-            for phi in block.phis.as_slice() {
-                steps.add_phi(phi);
-            }
-        }
+fn add_phis(steps: &mut StepList, blocks: &[Block], label: Option<Label>) {
+    let led_to = blocks.iter().filter(|block| label == Some(block.label));
+    for phi in led_to.flat_map(|block| block.phis.as_slice()) {
+        steps.add_phi(phi);
     }
 }
 
 /// Adds a line for each value that a turn of the block of a label reads, once.
 fn add_each(story: &mut Story<'_>, function: &InText<&Func>, label: Label, steps: &[Step]) {
     for (number, step) in steps.iter().enumerate() {
-        if let Some(operand) = value_read(step, label) {
-            if !is_read(steps, number, label, &operand) {
-                add_operand(story, function, operand);
-            }
+        let before = steps.get(..number).unwrap_or(&[]);
+        if let Some(operand) = value_read(step, label)
+            && !before
+                .iter()
+                .any(|step| value_read(step, label) == Some(operand))
+        {
+            add_operand(story, function, operand);
         }
     }
 }
@@ -72,49 +74,26 @@ fn add_each(story: &mut Story<'_>, function: &InText<&Func>, label: Label, steps
 /// The value that a step reads in the block of a label, or behind it.
 pub fn value_read(step: &Step, label: Label) -> Option<Val> {
     match step.does {
-        Does::Reads(value) | Does::Returns(value) => Some(value),
-        Does::Takes(from, value) if from == label => Some(value),
-        Does::Takes(..) | Does::Assigns(_) => None,
+        Does::Takes(from, _) if from != label => None,
+        _ => step.read(),
     }
 }
 
-/// Whether one of the first steps reads the value.
-fn is_read(steps: &[Step], count: usize, label: Label, operand: &Val) -> bool {
-    for step in steps.get(..count).unwrap_or(&[]) {
-        if let Some(value) = value_read(step, label) {
-            if value == *operand {
-                return true;
-            }
-        }
-    }
-    false
-}
-
+/// Adds a line that says what an operand holds, where it is a temporary or the address of a datum.
 fn add_operand(story: &mut Story<'_>, function: &InText<&Func>, operand: Val) {
-    match operand {
-        Val::Int(_) => {}
-        Val::Temp(temp) => {
-            let held = story.running.value(temp.number());
-            story.words.add("    ");
-            add_temp(&mut story.words, function.item, temp);
-            add_held(story, held);
-        }
-        Val::Global(symbol) => {
-            let held = value_of(story, function.text, &operand);
-            if let Some(Value::Pointer { .. }) = held {
-                story.words.add("    ");
-                add_name_in(&mut story.words, story.source.linked, function.text, symbol);
-                add_held(story, held);
-            }
-        }
+    let held = value_of(story, function.text, &operand);
+    let is_told = match operand {
+        Val::Int(_) => false,
+        Val::Temp(_) => true,
+        Val::Global(_) => matches!(held, Some(Value::Pointer { .. })),
+    };
+    if is_told {
+        story.words.add("    ");
+        name::add_operand(&mut story.words, story.source.linked, function, operand);
+        story.words.add(" is ");
+        add_value(story, held);
+        story.words.add("\n");
     }
-}
-
-/// Adds what an operand holds, and ends its line.
-fn add_held(story: &mut Story<'_>, value: Option<Value>) {
-    story.words.add(" is ");
-    add_value(story, value);
-    story.words.add("\n");
 }
 
 /// What an operand holds.

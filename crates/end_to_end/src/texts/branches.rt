@@ -1,5 +1,6 @@
 //! Texts that branch by each condition on each pair of ten longs: at the edges of words and of longs, and with a low word of 0.
 use text_maker::maker::TextMaker;
+use text_maker::say;
 
 const CONDITIONS: [&str; 10] = [
     "eq", "ne", "sle", "slt", "sge", "sgt", "ule", "ult", "uge", "ugt",
@@ -40,49 +41,28 @@ ret
 }
 ";
 
-// A function for a way to go on from a comparison of operands of a class, by the class `of`.
-fn push_function(text: &mut TextMaker, condition: &str, number: u64, class: &str, of: &str) {
-    text.add_with_word("function w $#", condition);
-    text.add_number(number);
-    text.add_with_word("(# %a, # %b) {\n@s\n", class);
-    text.add_with_word("%c =w c#", condition);
-    text.add_with_word("# %a, %b\n", of);
-}
-
 // A function for each way to go on from a comparison of operands of a class, by the class `of`.
 fn push_functions(text: &mut TextMaker, condition: &str, class: &str, of: &str) {
     for (number, (is_over, ending)) in ENDINGS.iter().enumerate() {
-        push_function(text, condition, number as u64, class, of);
+        say!(text; "function w ${condition}{number}({class} %a, {class} %b) {{\n@s\n");
+        say!(text; "%c =w c{condition}{of} %a, %b\n");
         if *is_over {
-            text.add_with_word("%a =# sub %b, %a\n%b =# copy 0\n", class);
+            say!(text; "%a ={class} sub %b, %a\n%b ={class} copy 0\n");
         }
-        text.add("jnz %c, @met, @not\n");
-        text.add(*ending);
-        text.add("}\n");
+        say!(text; "jnz %c, @met, @not\n{ending}}}\n");
     }
 }
 
 // The function that puts out a line, a digit for each pair, for four functions over operands of a class.
 fn push_row(text: &mut TextMaker, class: &str, load: &str) {
     text.add("function $row(l %f, l %g, l %h, l %k) {\n@s\n%at =l copy $line\n@first\n");
-    text.add("%i =l phi @s 0, @next %i1\n%p =l add $edges, %i\n");
-    push_load(text, "a", class, load, "p");
+    say!(text; "%i =l phi @s 0, @next %i1\n%p =l add $edges, %i\n%a ={class} {load} %p\n");
     text.add("@second\n%j =l phi @first 0, @second %j1\n%q =l add $edges, %j\n");
-    push_load(text, "b", class, load, "q");
-    text.add("%sum =w copy 48\n");
+    say!(text; "%b ={class} {load} %q\n%sum =w copy 48\n");
     for callee in CALLS {
-        text.add_with_word("%r =w call %#(", callee);
-        text.add_with_word("# %a, # %b)\n%sum =w add %sum, %r\n", class);
+        say!(text; "%r =w call %{callee}({class} %a, {class} %b)\n%sum =w add %sum, %r\n");
     }
     text.add(LAST);
-}
-
-// An operand of a class, loaded from where a pointer leads.
-fn push_load(text: &mut TextMaker, to: &str, class: &str, load: &str, from: &str) {
-    text.add_with_word("%# ", to);
-    text.add_with_word("=# ", class);
-    text.add(load);
-    text.add_with_word(" %#\n", from);
 }
 
 /// Adds a text of a kind: 0 compares longs, 1 longs as words, 2 words. It puts out a line for each condition, with a digit for each pair: 4 where the condition
@@ -100,7 +80,8 @@ pub fn push_branches(text: &mut TextMaker, kind: u64) {
     push_row(text, class, load);
     text.add("export function w $main() {\n@s\n");
     for condition in CONDITIONS {
-        text.add_with_word("call $row(l $#0, l $#1, l $#2, l $#3)\n", condition);
+        let c = condition;
+        say!(text; "call $row(l ${c}0, l ${c}1, l ${c}2, l ${c}3)\n");
     }
     text.add("ret 0\n}\n");
 }

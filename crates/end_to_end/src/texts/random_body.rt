@@ -1,7 +1,8 @@
 //! The body of a random function. All its temporaries are assigned and all bytes of its blocks written before anything else, divisors are odd and small, places
 //! lie inside their blocks, and loops are counted: so all of it has a meaning.
-use crate::texts::random_text::{Random, Signature};
+use crate::texts::random_text::{Random, Signature, Value};
 use text_maker::maker::TextMaker;
+use text_maker::say;
 
 const BOTH: [&str; 6] = ["add", "sub", "mul", "and", "or", "xor"];
 
@@ -33,76 +34,52 @@ const CLASSES: [&str; 2] = ["w", "l"];
 /// How many temporaries of each class there are.
 const COUNT: u64 = 8;
 
-fn push_temporary(text: &mut TextMaker, class: &str, number: u64) {
-    text.add_with_word("%#", class);
-    text.add_number(number);
+fn temporary<'a>(random: &mut Random, class: &'a str) -> Value<'a> {
+    Value::Temporary(class, random.below(COUNT))
 }
 
 // A temporary of a class, or a number.
-fn push_value(text: &mut TextMaker, random: &mut Random, class: &str) {
+fn value<'a>(random: &mut Random, class: &'a str) -> Value<'a> {
     if random.below(5) == 0 {
         let number = random.next();
         let number = number >> (random.below(56) % 56);
-        text.add(random.one_of(&["", "-"]));
-        text.add_number(number);
-    } else {
-        push_temporary(text, class, random.below(COUNT));
+        let sign = if random.below(2) == 0 { "" } else { "-" };
+        return Value::Number(sign, number);
     }
-}
-
-// Two values of these classes.
-fn push_values(text: &mut TextMaker, random: &mut Random, left: &str, right: &str) {
-    push_value(text, random, left);
-    text.add(", ");
-    push_value(text, random, right);
-}
-
-fn push_result(text: &mut TextMaker, random: &mut Random, class: &str) {
-    text.add("\t");
-    push_temporary(text, class, random.below(COUNT));
-    text.add_with_word(" =# ", class);
-}
-
-// A result of a class, and one of these words.
-fn push_word(text: &mut TextMaker, random: &mut Random, class: &str, words: &[&str]) {
-    push_result(text, random, class);
-    text.add_with_word("# ", random.one_of(words));
+    temporary(random, class)
 }
 
 // An operation of one of these words on values of these classes, which has a result of the first.
 fn push_binary(text: &mut TextMaker, random: &mut Random, words: &[&str], left: &str, right: &str) {
-    push_word(text, random, left, words);
-    push_values(text, random, left, right);
-    text.add("\n");
+    let to = temporary(random, left);
+    let word = random.one_of(words);
+    let (one, other) = (value(random, left), value(random, right));
+    say!(text; "\t{to} ={left} {word} {one}, {other}\n");
 }
 
 // A quotient or remainder by an odd number below 128.
 fn push_division(text: &mut TextMaker, random: &mut Random, class: &str) {
-    text.add_with_word("\t%#d =# and ", class);
-    push_temporary(text, class, random.below(COUNT));
-    text.add(", 126\n");
-    text.add_with_word("\t%#d =# add %#d, 1\n", class);
-    push_word(text, random, class, &DIVISIONS);
-    push_value(text, random, class);
-    text.add_with_word(", %#d\n", class);
+    say!(text; "\t%{class}d ={class} and {}, 126\n", temporary(random, class));
+    say!(text; "\t%{class}d ={class} add %{class}d, 1\n");
+    let to = temporary(random, class);
+    let word = random.one_of(&DIVISIONS);
+    say!(text; "\t{to} ={class} {word} {}, %{class}d\n", value(random, class));
 }
 
 fn push_comparison(text: &mut TextMaker, random: &mut Random) {
     let class = random.one_of(&CLASSES);
-    push_result(text, random, class);
+    let to = temporary(random, class);
     let order = random.one_of(&ORDERS);
     let of = random.one_of(&CLASSES);
-    text.add_with_word("c#", order);
-    text.add_with_word("# ", of);
-    push_values(text, random, of, of);
-    text.add("\n");
+    let (one, other) = (value(random, of), value(random, of));
+    say!(text; "\t{to} ={class} c{order}{of} {one}, {other}\n");
 }
 
 // An operation of one of these words on a value of a class.
 fn push_unary(text: &mut TextMaker, random: &mut Random, class: &str, words: &[&str], of: &str) {
-    push_word(text, random, class, words);
-    push_value(text, random, of);
-    text.add("\n");
+    let to = temporary(random, class);
+    let word = random.one_of(words);
+    say!(text; "\t{to} ={class} {word} {}\n", value(random, of));
 }
 
 fn push_one(text: &mut TextMaker, random: &mut Random) {
@@ -114,48 +91,32 @@ fn push_one(text: &mut TextMaker, random: &mut Random) {
     }
 }
 
-// A pointer to eight bytes of a block or of the datum, by what a temporary holds.
-fn push_place(text: &mut TextMaker, random: &mut Random) {
-    text.add("\t%o =l and ");
-    push_temporary(text, "l", random.below(COUNT));
-    text.add(", 56\n");
-    text.add_with_word("\t%a =l add #, %o\n", random.one_of(&BASES));
-}
-
 fn push_load(text: &mut TextMaker, random: &mut Random, class: &str, words: &[&str]) {
-    push_word(text, random, class, words);
-    text.add("%a\n");
+    let to = temporary(random, class);
+    say!(text; "\t{to} ={class} {} %a\n", random.one_of(words));
 }
 
-fn push_store(text: &mut TextMaker, random: &mut Random, word: &str, class: &str) {
-    text.add_with_word("\t# ", word);
-    push_value(text, random, class);
-    text.add(", %a\n");
-}
-
+// A load or a store, by a pointer to eight bytes of a block or of the datum, by what a temporary holds.
 fn push_memory(text: &mut TextMaker, random: &mut Random) {
-    push_place(text, random);
+    say!(text; "\t%o =l and {}, 56\n", temporary(random, "l"));
+    say!(text; "\t%a =l add {}, %o\n", random.one_of(&BASES));
     match random.below(4) {
-        0 => {
-            push_result(text, random, "l");
-            text.add("loadl %a\n");
-        }
-        1 => push_store(text, random, "storel", "l"),
+        0 => say!(text; "\t{} =l loadl %a\n", temporary(random, "l")),
+        1 => say!(text; "\tstorel {}, %a\n", value(random, "l")),
         2 => {
             let class = random.one_of(&CLASSES);
             push_load(text, random, class, &LOADS);
         }
         _ => {
             let word = random.one_of(&STORES);
-            push_store(text, random, word, "w");
+            say!(text; "\t{word} {}, %a\n", value(random, "w"));
         }
     }
 }
 
 fn push_blit(text: &mut TextMaker, random: &mut Random) {
     let count = random.below(65);
-    text.add_with_word("\tblit #, ", random.one_of(&BLITS));
-    text.add_with_numbers("#\n", &[count]);
+    say!(text; "\tblit {}, {count}\n", random.one_of(&BLITS));
 }
 
 fn push_call(text: &mut TextMaker, random: &mut Random, known: &[Signature]) {
@@ -167,19 +128,16 @@ fn push_call(text: &mut TextMaker, random: &mut Random, known: &[Signature]) {
 
 // A call by the name or by a pointer.
 fn push_call_of(text: &mut TextMaker, random: &mut Random, callee: &Signature) {
-    let number = callee.number;
-    if random.below(3) == 0 {
-        text.add_with_numbers("\t%g =l copy $f#\n", &[number]);
-        push_result(text, random, callee.result);
-        text.add("call %g(");
+    let (number, class) = (callee.number, callee.result);
+    let is_by_pointer = random.below(3) == 0;
+    let to = temporary(random, class);
+    if is_by_pointer {
+        say!(text; "\t%g =l copy $f{number}\n\t{to} ={class} call %g(");
     } else {
-        push_result(text, random, callee.result);
-        text.add_with_numbers("call $f#(", &[number]);
+        say!(text; "\t{to} ={class} call $f{number}(");
     }
     for class in &callee.params {
-        text.add_with_word("# ", *class);
-        push_value(text, random, *class);
-        text.add(", ");
+        say!(text; "{class} {}, ", value(random, *class));
     }
     text.add(")\n");
 }
@@ -206,17 +164,16 @@ fn push_instructions(text: &mut TextMaker, random: &mut Random, known: &[Signatu
 
 // The head of a loop: two phis that exchange values, beside the one that counts.
 fn push_loop_head(text: &mut TextMaker, n: u64, rounds: u64) {
-    text.add_with_numbers("\tjmp @in#\n@in#\n\tjmp @loop#\n@loop#\n", &[n, n, n, n]);
-    text.add_with_numbers("\t%i# =w phi @in# #, @next# %j#\n", &[n, n, rounds, n, n]);
-    text.add_with_numbers("\t%x# =l phi @in# %l1, @next# %y#\n", &[n, n, n, n]);
-    text.add_with_numbers("\t%y# =l phi @in# %l2, @next# %x#\n", &[n, n, n, n]);
+    say!(text; "\tjmp @in{n}\n@in{n}\n\tjmp @loop{n}\n@loop{n}\n");
+    say!(text; "\t%i{n} =w phi @in{n} {rounds}, @next{n} %j{n}\n");
+    say!(text; "\t%x{n} =l phi @in{n} %l1, @next{n} %y{n}\n");
+    say!(text; "\t%y{n} =l phi @in{n} %l2, @next{n} %x{n}\n");
 }
 
 // The end of a loop: it goes on until the count is 0.
 fn push_loop_end(text: &mut TextMaker, n: u64) {
-    text.add_with_numbers("\t%l1 =l xor %l1, %x#\n", &[n]);
-    text.add_with_numbers("@next#\n\t%j# =w sub %i#, 1\n", &[n, n, n]);
-    text.add_with_numbers("\tjnz %j#, @loop#, @out#\n@out#\n", &[n, n, n, n]);
+    say!(text; "\t%l1 =l xor %l1, %x{n}\n@next{n}\n\t%j{n} =w sub %i{n}, 1\n");
+    say!(text; "\tjnz %j{n}, @loop{n}, @out{n}\n@out{n}\n");
 }
 
 // A loop of a few rounds with two phis that exchange values, and a way round in it.
@@ -225,36 +182,30 @@ fn push_loop(text: &mut TextMaker, random: &mut Random, known: &[Signature], n: 
     let on = random.below(COUNT);
     push_loop_head(text, n, rounds);
     push_instructions(text, random, known);
-    text.add_with_numbers("\tjnz %w#, @one#, @two#\n@one#\n", &[on, n, n, n]);
+    say!(text; "\tjnz %w{on}, @one{n}, @two{n}\n@one{n}\n");
     push_instructions(text, random, known);
-    text.add_with_numbers("\tjmp @join#\n@two#\n", &[n, n]);
+    say!(text; "\tjmp @join{n}\n@two{n}\n");
     push_instructions(text, random, known);
-    text.add_with_numbers("@join#\n\t%w# =w phi @one# %w3, @two# 7\n", &[n, on, n, n]);
+    say!(text; "@join{n}\n\t%w{on} =w phi @one{n} %w3, @two{n} 7\n");
     push_instructions(text, random, known);
     push_loop_end(text, n);
-}
-
-fn push_temporaries(text: &mut TextMaker, random: &mut Random) {
-    for number in 0..COUNT {
-        let first = random.next();
-        let second = random.below(1000);
-        text.add_with_numbers("\t%w# =w copy #\n", &[number, second]);
-        text.add_with_numbers("\t%l# =l copy #\n", &[number, first]);
-    }
 }
 
 // All temporaries and all bytes of the blocks.
 fn push_start(text: &mut TextMaker, random: &mut Random, params: &[&'static str]) {
     text.add("\t%b0 =l alloc8 64\n\t%b1 =l alloc16 64\n\t%o =l copy 0\n");
-    push_temporaries(text, random);
-    for offset in 0..8 {
-        let at = offset * 8u64;
-        text.add_with_numbers("\t%a =l add %b0, #\n\tstorel %l#, %a\n", &[at, offset]);
+    for number in 0..COUNT {
+        let first = random.next();
+        let second = random.below(1000);
+        say!(text; "\t%w{number} =w copy {second}\n\t%l{number} =l copy {first}\n");
+    }
+    for number in 0..8 {
+        let at = number * 8u64;
+        say!(text; "\t%a =l add %b0, {at}\n\tstorel %l{number}, %a\n");
     }
     text.add("\tblit %b0, %b1, 64\n");
-    for (k, class) in params.iter().enumerate() {
-        text.add_with_word("\t%#0 =# xor %#0, ", *class);
-        text.add_with_numbers("%p#\n", &[k as u64]);
+    for (number, class) in params.iter().enumerate() {
+        say!(text; "\t%{class}0 ={class} xor %{class}0, %p{number}\n");
     }
 }
 

@@ -1,7 +1,9 @@
 //! The text of a random program: functions, a datum, and `main`.
 use crate::texts::random_body::push_body;
 use std::alloc::{AllocError, Global};
+use std::fmt;
 use text_maker::maker::TextMaker;
+use text_maker::say;
 
 /// A sequence of numbers that looks random (xorshift).
 #[derive(Drop)]
@@ -36,9 +38,26 @@ impl Random {
     /// One of some words.
     pub fn one_of<'a>(&mut self, words: &[&'a str]) -> &'a str {
         let at = self.below(words.len() as u64) as usize;
-        match words.get(at) {
-            Some(word) => *word,
-            None => "",
+        words.get(at).copied().unwrap_or("")
+    }
+}
+
+/// A value of a random function.
+#[derive(Clone, Copy)]
+pub enum Value<'a> {
+    /// digits behind a sign
+    Number(&'static str, u64),
+    Word(&'static str),
+    /// one of the temporaries of a class
+    Temporary(&'a str, u64),
+}
+
+impl fmt::Display for Value<'_> {
+    fn fmt<W: fmt::Write>(&self, f: &mut fmt::Formatter<W>) -> fmt::Result {
+        match *self {
+            Value::Number(sign, digits) => write!(f, "{sign}{digits}"),
+            Value::Word(word) => write!(f, "{word}"),
+            Value::Temporary(class, number) => write!(f, "%{class}{number}"),
         }
     }
 }
@@ -68,17 +87,19 @@ pub(crate) fn random_signature(
     })
 }
 
-fn push_function(text: &mut TextMaker, random: &mut Random, known: &[Signature], own: &Signature) {
-    let result = own.result;
-    text.add_with_word("function # ", result);
-    text.add_with_numbers("$f#(", &[own.number]);
-    for (k, class) in own.params.iter().enumerate() {
-        text.add_with_word("# ", *class);
-        text.add_with_numbers("%p#, ", &[k as u64]);
+/// Adds the head of a function, up to its first label.
+pub(crate) fn push_head(text: &mut TextMaker, own: &Signature) {
+    say!(text; "function {} $f{}(", own.result, own.number);
+    for (number, class) in own.params.iter().enumerate() {
+        say!(text; "{class} %p{number}, ");
     }
     text.add(") {\n@start\n");
+}
+
+fn push_function(text: &mut TextMaker, random: &mut Random, known: &[Signature], own: &Signature) {
+    push_head(text, own);
     push_body(text, random, known, own.params.as_slice());
-    text.add_with_word("\tret %#0\n}\n", result);
+    say!(text; "\tret %{}0\n}}\n", own.result);
 }
 
 fn push_main(text: &mut TextMaker, random: &mut Random, known: &[Signature]) {

@@ -1,9 +1,10 @@
 //! Random programs of many small functions. What is called is small, and calls stand in loops: so most calls of leaves can be done in place. Half of the leaves make
 //! calls themselves, of leaves before them, by name and by pointer, and of `write`. As in other random programs, all temporaries are assigned before anything else,
 //! divisors are odd and small, places lie inside the datum, and loops are counted.
-use crate::texts::random_text::{Random, Signature, random_signature};
+use crate::texts::random_text::{Random, Signature, Value, push_head, random_signature};
 use std::alloc::{AllocError, Global};
 use text_maker::maker::TextMaker;
+use text_maker::say;
 
 /// How many leaves there are, and how many functions that call them.
 const LEAVES: u64 = 12;
@@ -42,70 +43,66 @@ const NUMBERS: [&str; 8] = [
     "-6442450945",
 ];
 
+fn temporary<'a>(random: &mut Random, class: &'a str) -> Value<'a> {
+    Value::Temporary(class, random.below(COUNT))
+}
+
+fn number(random: &mut Random) -> &'static str {
+    random.one_of(&NUMBERS)
+}
+
 // A temporary that fits a place of this class, which a long does in each, or a number.
-fn push_value(text: &mut TextMaker, random: &mut Random, class: &str) {
+fn value<'a>(random: &mut Random, class: &'a str) -> Value<'a> {
     match random.below(5) {
-        0 => text.add(random.one_of(&NUMBERS)),
-        1 => push_temporary(text, "l", random.below(COUNT)),
-        _ => push_temporary(text, class, random.below(COUNT)),
+        0 => Value::Word(number(random)),
+        1 => temporary(random, "l"),
+        _ => temporary(random, class),
     }
 }
 
-fn push_temporary(text: &mut TextMaker, class: &str, number: u64) {
-    text.add_with_word("%#", class);
-    text.add_number(number);
-}
-
-fn push_result(text: &mut TextMaker, random: &mut Random, class: &str) {
-    push_temporary(text, class, random.below(COUNT));
-    text.add_with_word(" =# ", class);
-}
-
-// An operation of this word on values of these classes.
-fn push_operation(text: &mut TextMaker, random: &mut Random, word: &str, left: &str, right: &str) {
-    text.add_with_word("# ", word);
-    push_value(text, random, left);
-    text.add(", ");
-    push_value(text, random, right);
-    text.add("\n");
+// An operation of one of these words on values of these classes, which has a result of the first.
+fn push_operation(
+    text: &mut TextMaker,
+    random: &mut Random,
+    words: &[&str],
+    left: &str,
+    right: &str,
+) {
+    let to = temporary(random, left);
+    let word = random.one_of(words);
+    let (one, other) = (value(random, left), value(random, right));
+    say!(text; "{to} ={left} {word} {one}, {other}\n");
 }
 
 fn push_division(text: &mut TextMaker, random: &mut Random, class: &str) {
-    text.add_with_word("%#d =# and ", class);
-    push_value(text, random, class);
-    text.add_with_word(", 62\n%#d =# add %#d, 1\n", class);
-    push_result(text, random, class);
-    text.add_with_word("# ", random.one_of(&DIVISIONS));
-    push_value(text, random, class);
-    text.add_with_word(", %#d\n", class);
+    say!(text; "%{class}d ={class} and {}, 62\n", value(random, class));
+    say!(text; "%{class}d ={class} add %{class}d, 1\n");
+    let to = temporary(random, class);
+    let word = random.one_of(&DIVISIONS);
+    say!(text; "{to} ={class} {word} {}, %{class}d\n", value(random, class));
 }
 
 fn push_comparison(text: &mut TextMaker, random: &mut Random, class: &str) {
     let of = random.one_of(&CLASSES);
-    push_result(text, random, class);
-    text.add_with_word("c#", random.one_of(&ORDERS));
-    push_operation(text, random, of, of, of);
+    let to = temporary(random, class);
+    let order = random.one_of(&ORDERS);
+    let (one, other) = (value(random, of), value(random, of));
+    say!(text; "{to} ={class} c{order}{of} {one}, {other}\n");
 }
 
 fn push_extension(text: &mut TextMaker, random: &mut Random) {
-    push_result(text, random, "l");
-    text.add_with_word("# ", random.one_of(&EXTENSIONS));
-    push_value(text, random, "w");
-    text.add("\n");
+    let to = temporary(random, "l");
+    let word = random.one_of(&EXTENSIONS);
+    say!(text; "{to} =l {word} {}\n", value(random, "w"));
 }
 
 // A load or a store of eight bytes of the datum.
 fn push_access(text: &mut TextMaker, random: &mut Random) {
-    text.add("%a =l and ");
-    push_value(text, random, "l");
-    text.add(", 56\n%a =l add $d, %a\n");
+    say!(text; "%a =l and {}, 56\n%a =l add $d, %a\n", value(random, "l"));
     if random.below(2) == 0 {
-        push_result(text, random, "l");
-        text.add("loadl %a\n");
+        say!(text; "{} =l loadl %a\n", temporary(random, "l"));
     } else {
-        text.add("storel ");
-        push_value(text, random, "l");
-        text.add(", %a\n");
+        say!(text; "storel {}, %a\n", value(random, "l"));
     }
 }
 
@@ -116,21 +113,9 @@ fn push_line(text: &mut TextMaker, random: &mut Random) {
         1 => push_comparison(text, random, class),
         2 | 3 => push_extension(text, random),
         4 => push_access(text, random),
-        5 => push_shift(text, random, class),
-        _ => push_sum(text, random, class),
+        5 => push_operation(text, random, &SHIFTS, class, "w"),
+        _ => push_operation(text, random, &OPERATIONS, class, class),
     }
-}
-
-fn push_shift(text: &mut TextMaker, random: &mut Random, class: &str) {
-    push_result(text, random, class);
-    let word = random.one_of(&SHIFTS);
-    push_operation(text, random, word, class, "w");
-}
-
-fn push_sum(text: &mut TextMaker, random: &mut Random, class: &str) {
-    push_result(text, random, class);
-    let word = random.one_of(&OPERATIONS);
-    push_operation(text, random, word, class, class);
 }
 
 fn push_lines(text: &mut TextMaker, random: &mut Random, most: u64) {
@@ -141,39 +126,35 @@ fn push_lines(text: &mut TextMaker, random: &mut Random, most: u64) {
 
 // A branch by a value to one of two blocks of this number, of which the first begins.
 fn push_branch(text: &mut TextMaker, random: &mut Random, number: u64) {
-    text.add("jnz ");
-    push_value(text, random, "w");
-    text.add_with_numbers(", @one#, @two#\n@one#\n", &[number, number, number]);
+    let on = value(random, "w");
+    say!(text; "jnz {on}, @one{number}, @two{number}\n@one{number}\n");
 }
 
-// A parameter that fits a place of this class, or is widened to it, or a number where there is none.
-fn push_given(text: &mut TextMaker, random: &mut Random, class: &str, params: &[&'static str]) {
+// The first value of a temporary: a parameter that fits its class, or is widened to it, or a number where there is none.
+fn push_first(
+    text: &mut TextMaker,
+    random: &mut Random,
+    to: Value<'_>,
+    class: &str,
+    params: &[&'static str],
+) {
     let number = random.below(params.len() as u64);
     match params.get(number as usize) {
-        Some(param) => {
-            let is_widened = class == "l" && *param == "w";
-            text.add(if is_widened { "extsw " } else { "copy " });
-            text.add_with_numbers("%p#", &[number]);
+        Some(param) if class == "l" && *param == "w" => {
+            say!(text; "{to} =l extsw %p{number}\n");
         }
-        None => text.add_with_word("copy #", random.one_of(&NUMBERS)),
+        Some(_) => say!(text; "{to} ={class} copy %p{number}\n"),
+        None => say!(text; "{to} ={class} copy {}\n", random.one_of(&NUMBERS)),
     }
-    text.add("\n");
 }
 
 // The first values of all temporaries.
 fn push_temporaries(text: &mut TextMaker, random: &mut Random, params: &[&'static str]) {
     for number in 0..COUNT {
-        text.add_with_numbers("%w# =w ", &[number]);
-        push_given(text, random, "w", params);
-        text.add_with_numbers("%l# =l ", &[number]);
-        push_given(text, random, "l", params);
+        for class in CLASSES {
+            push_first(text, random, Value::Temporary(class, number), class, params);
+        }
     }
-}
-
-fn push_return(text: &mut TextMaker, random: &mut Random, class: &str) {
-    text.add("ret ");
-    push_value(text, random, class);
-    text.add("\n");
 }
 
 // Lines, and now and then a call: of one of so many functions, or of `write`.
@@ -196,11 +177,9 @@ fn push_leaf_lines(
 
 // A byte is put out; the answer is now and then left out.
 fn push_write(text: &mut TextMaker, random: &mut Random) {
-    text.add("storeb ");
-    push_value(text, random, "w");
-    text.add(", $byte\n");
+    say!(text; "storeb {}, $byte\n", value(random, "w"));
     if random.below(2) == 0 {
-        push_result(text, random, "l");
+        say!(text; "{} =l ", temporary(random, "l"));
     }
     text.add("call $write(w 1, l $byte, l 1)\n");
 }
@@ -208,8 +187,7 @@ fn push_write(text: &mut TextMaker, random: &mut Random) {
 fn push_leaf_call(text: &mut TextMaker, random: &mut Random, known: &[Signature], callees: u64) {
     let at = random.below(callees) as usize;
     if let Some(callee) = known.get(at) {
-        push_callee(text, random, callee);
-        push_arguments(text, random, callee);
+        push_call(text, random, callee);
     }
 }
 
@@ -232,28 +210,19 @@ fn push_early_return(
 ) {
     push_branch(text, random, 0);
     push_leaf_lines(text, random, known, callees, 3);
-    push_return(text, random, class);
-    text.add("@two0\n");
+    say!(text; "ret {}\n@two0\n", value(random, class));
 }
 
 // A loop of one to four rounds.
 fn push_loop(text: &mut TextMaker, random: &mut Random, known: &[Signature], callees: u64) {
-    text.add("%n =w and ");
-    push_value(text, random, "w");
-    text.add(", 3\n%n =w add %n, 1\n@loop\n");
+    say!(text; "%n =w and {}, 3\n%n =w add %n, 1\n@loop\n", value(random, "w"));
     push_leaf_lines(text, random, known, callees, 5);
     text.add("%n =w sub %n, 1\njnz %n, @loop, @out\n@out\n");
 }
 
-fn push_head(text: &mut TextMaker, random: &mut Random, own: &Signature) {
+fn push_start(text: &mut TextMaker, random: &mut Random, own: &Signature) {
     text.add(random.one_of(&["", "", "", "export "]));
-    text.add_with_word("function # ", own.result);
-    text.add_with_numbers("$f#(", &[own.number]);
-    for (number, class) in own.params.iter().enumerate() {
-        text.add_with_word("# ", *class);
-        text.add_with_numbers("%p#, ", &[number as u64]);
-    }
-    text.add(") {\n@start\n");
+    push_head(text, own);
     push_temporaries(text, random, own.params.as_slice());
 }
 
@@ -271,7 +240,7 @@ fn callees_of(number: u64) -> u64 {
 // A small function, whose calls are of few functions before it.
 fn push_leaf(text: &mut TextMaker, random: &mut Random, known: &[Signature], own: &Signature) {
     let callees = callees_of(own.number);
-    push_head(text, random, own);
+    push_start(text, random, own);
     push_leaf_lines(text, random, known, callees, 5);
     match random.below(4) {
         0 => push_two_ways(text, random, known, callees),
@@ -280,56 +249,39 @@ fn push_leaf(text: &mut TextMaker, random: &mut Random, known: &[Signature], own
         _ => {}
     }
     push_leaf_lines(text, random, known, callees, 4);
-    push_return(text, random, own.result);
-    text.add("}\n");
+    say!(text; "ret {}\n}}\n", value(random, own.result));
 }
 
-fn push_arguments(text: &mut TextMaker, random: &mut Random, callee: &Signature) {
+// A call by the name, or now and then by the address in the table; the result is now and then left out.
+fn push_call(text: &mut TextMaker, random: &mut Random, callee: &Signature) {
+    let (number, class) = (callee.number, callee.result);
+    match random.below(8) {
+        0 => {
+            let place = number.wrapping_mul(8);
+            say!(text; "%a =l add $table, {place}\n%a =l loadl %a\n");
+            say!(text; "{} ={class} call %a(", temporary(random, class));
+        }
+        1 => say!(text; "call $f{number}("),
+        _ => say!(text; "{} ={class} call $f{number}(", temporary(random, class)),
+    }
     for class in &callee.params {
-        text.add_with_word("# ", *class);
-        push_value(text, random, *class);
-        text.add(", ");
+        say!(text; "{class} {}, ", value(random, *class));
     }
     text.add(")\n");
 }
 
-// By the name, or now and then by the address in the table; the result is now and then left out.
-fn push_callee(text: &mut TextMaker, random: &mut Random, callee: &Signature) {
-    let number = callee.number;
-    match random.below(8) {
-        0 => {
-            text.add_with_numbers("%a =l add $table, #\n", &[number.wrapping_mul(8)]);
-            text.add("%a =l loadl %a\n");
-            push_result(text, random, callee.result);
-            text.add("call %a(");
-        }
-        1 => text.add_with_numbers("call $f#(", &[number]),
-        _ => {
-            push_result(text, random, callee.result);
-            text.add_with_numbers("call $f#(", &[number]);
-        }
-    }
-}
-
-// A call, behind which temporaries are added to the sum.
-fn push_call(text: &mut TextMaker, random: &mut Random, callee: &Signature) {
-    push_callee(text, random, callee);
-    push_arguments(text, random, callee);
-    push_fold(text, random);
-}
-
+// Adds temporaries to the sum.
 fn push_fold(text: &mut TextMaker, random: &mut Random) {
-    text.add("%sum =l mul %sum, 31\n%a =l extsw ");
-    push_temporary(text, random.one_of(&CLASSES), random.below(COUNT));
-    text.add("\n%sum =l add %sum, %a\n%sum =l xor %sum, ");
-    push_temporary(text, "l", random.below(COUNT));
-    text.add("\n");
+    let class = random.one_of(&CLASSES);
+    say!(text; "%sum =l mul %sum, 31\n%a =l extsw {}\n", temporary(random, class));
+    say!(text; "%sum =l add %sum, %a\n%sum =l xor %sum, {}\n", temporary(random, "l"));
 }
 
 fn push_call_of_one(text: &mut TextMaker, random: &mut Random, known: &[Signature]) {
     let at = random.below(known.len() as u64) as usize;
     if let Some(callee) = known.get(at) {
         push_call(text, random, callee);
+        push_fold(text, random);
     }
 }
 
@@ -340,9 +292,9 @@ fn push_step(text: &mut TextMaker, random: &mut Random, known: &[Signature], num
         1 => {
             push_branch(text, random, number);
             push_call_of_one(text, random, known);
-            text.add_with_numbers("jmp @end#\n@two#\n", &[number, number]);
+            say!(text; "jmp @end{number}\n@two{number}\n");
             push_call_of_one(text, random, known);
-            text.add_with_numbers("@end#\n", &[number]);
+            say!(text; "@end{number}\n");
         }
         _ => push_call_of_one(text, random, known),
     }
@@ -357,15 +309,9 @@ fn push_steps(text: &mut TextMaker, random: &mut Random, known: &[Signature]) {
 // A loop of one to three rounds of calls behind the first values; then the sum.
 fn push_rounds(text: &mut TextMaker, random: &mut Random, known: &[Signature]) {
     let rounds = random.below(3).wrapping_add(1);
-    text.add_with_numbers("%sum =l copy %l0\n%n =w copy #\n@loop\n", &[rounds]);
+    say!(text; "%sum =l copy %l0\n%n =w copy {rounds}\n@loop\n");
     push_steps(text, random, known);
     text.add("%n =w sub %n, 1\njnz %n, @loop, @out\n@out\n");
-}
-
-fn push_caller(text: &mut TextMaker, random: &mut Random, known: &[Signature], own: &Signature) {
-    push_head(text, random, own);
-    push_rounds(text, random, known);
-    text.add("ret %sum\n}\n");
 }
 
 fn push_functions(
@@ -379,7 +325,9 @@ fn push_functions(
         if number < LEAVES {
             push_leaf(text, random, known.as_slice(), &own);
         } else {
-            push_caller(text, random, known.as_slice(), &own);
+            push_start(text, random, &own);
+            push_rounds(text, random, known.as_slice());
+            text.add("ret %sum\n}\n");
         }
         known.push(own)?;
     }
@@ -390,7 +338,7 @@ fn push_functions(
 fn push_table(text: &mut TextMaker, known: &[Signature]) {
     text.add("data $table = { l");
     for function in known {
-        text.add_with_numbers(" $f#", &[function.number]);
+        say!(text; " $f{}", function.number);
     }
     text.add(
         " }\ndata $d = align 16 { l 1 -2 3 4294967296 -5 2147483648 7 -8 }\ndata $byte = { z 1 }\n",
@@ -403,7 +351,7 @@ fn push_main(text: &mut TextMaker, random: &mut Random, known: &[Signature]) {
     push_temporaries(text, random, &[]);
     push_rounds(text, random, known);
     for half in [32, 16, 8u64] {
-        text.add_with_numbers("%a =l shr %sum, #\n%sum =l xor %sum, %a\n", &[half]);
+        say!(text; "%a =l shr %sum, {half}\n%sum =l xor %sum, %a\n");
     }
     text.add("storel %sum, $d\n%a =l call $write(w 1, l $d, l 64)\nret %sum\n}\n");
 }

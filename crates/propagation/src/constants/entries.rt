@@ -1,12 +1,12 @@
 //! What is claimed where blocks begin: a guess, of which nothing is proved.
 use crate::constants::claim::{Claim, Entry};
+use crate::constants::replace::is_short;
 use crate::constants::walk::Walk;
 use il_ast::list::Seq;
 use std::alloc::{AllocError, Global};
 use vcode::code::Block;
 use vcode::function::VFunc;
 use vcode::line::{Jump, Line};
-use vcode::place::Operand;
 
 /// How often the guess goes over a function at most.
 const ROUNDS: usize = 8;
@@ -14,44 +14,27 @@ const ROUNDS: usize = 8;
 /// What is claimed where a block begins, once a way leads there.
 #[derive(Drop)]
 struct Guess {
-    claims: Seq<Claim>,
+    claims: Vec<Claim>,
     is_led_to: bool,
 
     /// whether the block is still to be gone over with these
     is_new: bool,
 }
 
-/// Those of the claims that are known.
-fn still_known(alloc: Global, walk: &Walk, claims: &[Claim]) -> Result<Seq<Claim>, AllocError> {
-    let mut kept = Seq::new(alloc);
-    for claim in claims {
-        if walk.knows(claim) {
-            kept.push(*claim)?;
-        }
-    }
-    Ok(kept)
-}
-
 /// One more way leads to a block, at the end of what the walk went along; returns whether less is claimed of the block than before, or something for the first time.
 fn meet(alloc: Global, walk: &mut Walk, guess: &mut Guess) -> Result<bool, AllocError> {
     if guess.is_led_to {
-        if guess
-            .claims
-            .as_slice()
-            .iter()
-            .all(|claim| walk.knows(claim))
-        {
+        let before = guess.claims.len();
+        guess.claims.retain(|claim| walk.knows(claim));
+        if guess.claims.len() == before {
             return Ok(false);
         }
-        guess.claims = still_known(alloc, walk, guess.claims.as_slice())?;
-        guess.is_new = true;
-        Ok(true)
     } else {
         guess.claims = walk.known(alloc)?;
         guess.is_led_to = true;
-        guess.is_new = true;
-        Ok(true)
     }
+    guess.is_new = true;
+    Ok(true)
 }
 
 fn meet_at(
@@ -140,7 +123,7 @@ fn unknown(alloc: Global, blocks: usize) -> Result<Vec<Guess>, AllocError> {
     let mut guesses = Vec::with_capacity(alloc, blocks)?;
     for number in 0..blocks {
         guesses.push(Guess {
-            claims: Seq::new(alloc),
+            claims: Vec::new(alloc),
             is_led_to: number == 0,
             is_new: true,
         })?;
@@ -148,25 +131,38 @@ fn unknown(alloc: Global, blocks: usize) -> Result<Vec<Guess>, AllocError> {
     Ok(guesses)
 }
 
+/// The claims for each block; for none, where nothing is claimed of any.
 fn as_entries(alloc: Global, guesses: Vec<Guess>) -> Result<Vec<Entry>, AllocError> {
+    if guesses.iter().all(|guess| guess.claims.is_empty()) {
+        return Ok(Vec::new(alloc));
+    }
     let mut entries = Vec::with_capacity(alloc, guesses.len())?;
     for guess in guesses {
         entries.push(Entry {
-            claims: guess.claims,
+            claims: Seq::from_vec(guess.claims),
         })?;
     }
     Ok(entries)
 }
 
-/// Whether a line of the block sets a register to what may be claimed of it.
+/// Whether a line of the block sets a register to what may take its place.
 fn sets_registers(block: &Block<u32>) -> bool {
     block.lines.as_slice().iter().any(|line| match line {
-        Line::Set { value, .. } => match value {
-            Operand::Name(_) => false,
-            _ => true,
-        },
+        Line::Set { value, .. } => is_short(value),
         _ => false,
     })
+}
+
+/// Whether nothing would be claimed in the end, as where all copies stand for phis: all blocks that set a register go to one block, with different values.
+fn claims_nothing(walk: &mut Walk, blocks: &[Block<u32>]) -> Result<bool, AllocError> {
+    for block in blocks {
+        walk.begin(&[])?;
+        walk.go(block.lines.as_slice())?;
+        if !walk.note_ways(block) {
+            return Ok(false);
+        }
+    }
+    Ok(walk.all_differ())
 }
 
 /// What is claimed where each block begins: that registers hold what they do behind every block that leads there. Nothing, where that isn't found in a few rounds.
@@ -180,6 +176,9 @@ pub(crate) fn entries(alloc: Global, function: &VFunc) -> Result<Vec<Entry>, All
         return Ok(Vec::new(alloc));
     }
     let mut walk = Walk::new(alloc, function)?;
+    if claims_nothing(&mut walk, blocks)? {
+        return Ok(Vec::new(alloc));
+    }
     let mut guesses = unknown(alloc, blocks.len())?;
     for _ in 0..ROUNDS {
         if !round(alloc, &mut walk, guesses.as_mut_slice(), blocks)? {

@@ -1,5 +1,5 @@
 //! Blocks and functions, put by what is known.
-ghost use Rattle.std.specs.Prelude.{◌≡◌, ◌+◌, ◌*◌, ◌^◌, ◌<◌, ◌≤◌, [], ℕ, List, length, IfOk, IfSome, None};
+ghost use Rattle.std.specs.Prelude.{◌≡◌, true, ◌+◌, ◌*◌, ◌^◌, ◌<◌, ◌≤◌, [], ℕ, List, length, IfOk, IfSome, None};
 ghost use Rattle.il_ast.specs.Passes.{Keeps};
 ghost use Rattle.vcode.specs.declared.line.Line.{Line as ALine};
 ghost use Rattle.vcode.specs.declared.line.Jump.{Jump as AJump};
@@ -13,16 +13,15 @@ ghost use Rattle.propagation.specs.After.{changes_memory, sum_of, fact_of, after
 use crate::constants::claim::{Claim, Entry, claims_at, leads_well};
 use crate::constants::entries::entries;
 use crate::constants::fact::Fact;
-use crate::constants::look::may_change;
+use crate::constants::look::{Extent, block_may_change, first_change};
 use crate::constants::replace::{is_add, jump, line as forwarded};
-use crate::constants::strength_reduction::shortened;
 use crate::constants::table::FactTable;
 use cfg_live::uses::line_writes;
 use il_ast::list::Seq;
 use std::alloc::{AllocError, Global};
 use vcode::code::Block;
 use vcode::function::VFunc;
-use vcode::line::{Comparison, Jump, Line, Operation};
+use vcode::line::{Comparison, Jump, Line, Operation, push_lines};
 use vcode::place::{Destination, Operand};
 
 fn changes_memory(line: &Line<u32>) -> bool
@@ -77,16 +76,6 @@ fn fact_of(line: &Line<u32>) -> Option<Fact>
     }
 }
 
-/// How much is put by what is known.
-#[derive(Clone, Copy)]
-enum Extent {
-    /// operands, lines and jumps
-    Operands,
-
-    /// copies, and branches whose outcome is known: no number takes the place of a register but in another copy
-    Copies,
-}
-
 /// Whether one operand is a register where the other is.
 fn are_alike(one: &Operand<u32>, other: &Operand<u32>) -> bool {
     match (one, other) {
@@ -99,7 +88,7 @@ fn are_alike(one: &Operand<u32>, other: &Operand<u32>) -> bool {
 /// Whether a line reads registers where the other does. A copy may become a number.
 fn reads_alike(one: &Line<u32>, other: &Line<u32>) -> bool {
     match (one, other) {
-        (Line::Set { .. }, _) => true,
+        (Line::Tick { .. } | Line::Set { .. } | Line::Alloc { .. }, _) => true,
         (
             Line::Operate { left, right, .. },
             Line::Operate {
@@ -141,7 +130,7 @@ fn put_line(
 ) -> Result<Line<u32>, AllocError>
     ensures { IfOk result (λ m. IsPut (facts_of table.now) line.now m) }
 {
-    let put = shortened(forwarded(alloc, table, line)?);
+    let put = forwarded(alloc, table, line)?;
     match extent {
         Extent::Copies if !reads_alike(line, &put) => line.try_clone(alloc),
         _ => Ok(put),
@@ -217,12 +206,32 @@ fn forwarded_lines(
     Ok(made)
 }
 
-/// The block from what is claimed where it begins, if what is claimed where it leads is known.
+/// Whether nothing is claimed of any block, and nothing of this one may be put otherwise, as of none before the first that may.
+fn stays(entries: &[Entry], extent: Extent, first: usize, number: usize, block: &Block<u32>) -> bool
+    ensures { result ≡ true → entries.now ≡ [] }
+{
+    entries.is_empty()
+        && (number < first || number != first && !block_may_change(extent, &[], block))
+}
+
+fn as_it_is(alloc: Global, block: &Block<u32>) -> Result<Block<u32>, AllocError>
+    ensures { IfOk result (λ c. c ≡ block.now) }
+{
+    let mut lines = Vec::with_capacity(alloc, block.lines.len())?;
+    push_lines(alloc, &mut lines, block.lines.as_slice())?;
+    Ok(Block {
+        lines: Seq::from_vec(lines),
+        jump: block.jump,
+    })
+}
+
+/// The block from what is claimed where it begins, if what is claimed where it leads is known. It is made line by line only where it may be another.
 fn forwarded_block(
     alloc: Global,
     entries: &[Entry],
     table: &mut FactTable,
     extent: Extent,
+    first: usize,
     number: usize,
     block: &Block<u32>,
 ) -> Result<Option<Block<u32>>, AllocError>
@@ -233,6 +242,10 @@ fn forwarded_block(
     ensures count { length table.new.written.items ≡ length table.old.written.items }
     ensures block { IfOk result (λ o. IfSome o (λ v. IsForwarded (length table.old.written.items) entries.now number block.now v)) }
 {
+    if stays(entries, extent, first, number, block) {
+        let same = as_it_is(alloc, block)?;
+        return Ok(Some(same));
+    }
     let claims = claims_at(entries, number);
     let lines = block.lines.as_slice();
     if claims.len() > usize::MAX - lines.len() {
@@ -256,6 +269,7 @@ fn forwarded_blocks(
     entries: &[Entry],
     table: &mut FactTable,
     extent: Extent,
+    first: usize,
     blocks: &[Block<u32>],
 ) -> Result<Option<Seq<Block<u32>>>, AllocError>
     requires table { IsTable table.old }
@@ -264,7 +278,7 @@ fn forwarded_blocks(
 {
     let mut made = Vec::with_capacity(alloc, blocks.len())?;
     for (number, block) in blocks.iter().enumerate() {
-        match forwarded_block(alloc, entries, table, extent, number, block)? {
+        match forwarded_block(alloc, entries, table, extent, first, number, block)? {
             Some(block) => made.push(block)?,
             None => return Ok(None),
         }
@@ -272,7 +286,7 @@ fn forwarded_blocks(
     Ok(Some(Seq::from_vec(made)))
 }
 
-/// The function by these claims, if they are right.
+/// The function by these claims, if they are right, and something may be put otherwise.
 fn propagated(
     alloc: Global,
     function: &VFunc,
@@ -284,38 +298,17 @@ fn propagated(
     if claims_at(entries, 0).len() != 0 {
         return Ok(None);
     }
+    let blocks = function.code.blocks.as_slice();
+    let Some(first) = first_change(extent, entries, blocks) else {
+        return Ok(None);
+    };
     let mut table = FactTable::new(alloc, function.registers)?;
-    match forwarded_blocks(
-        alloc,
-        entries,
-        &mut table,
-        extent,
-        function.code.blocks.as_slice(),
-    )? {
+    match forwarded_blocks(alloc, entries, &mut table, extent, first, blocks)? {
         Some(blocks) => {
             let made = function.with_blocks(alloc, function.registers, blocks)?;
             Ok(Some(made))
         }
         None => Ok(None),
-    }
-}
-
-/// Whether anything is claimed.
-fn claims_any(entries: &[Entry]) -> bool {
-    entries.iter().any(|entry| entry.claims.len() != 0)
-}
-
-/// The function by the claims that are found, or by none where those aren't right; none where nothing may be put otherwise.
-fn propagated_by_any(alloc: Global, function: &VFunc) -> Result<Option<VFunc>, AllocError>
-    ensures { IfOk result (λ o. IfSome o (λ w. Keeps (virtual_code function.now) (virtual_code w))) }
-{
-    let entries = entries(alloc, function)?;
-    if !claims_any(entries.as_slice()) && !may_change(function.code.blocks.as_slice()) {
-        return Ok(None);
-    }
-    match propagated(alloc, function, Extent::Operands, entries.as_slice())? {
-        Some(made) => Ok(Some(made)),
-        None => propagated(alloc, function, Extent::Operands, &[]),
     }
 }
 
@@ -327,12 +320,13 @@ fn propagated_by_any(alloc: Global, function: &VFunc) -> Result<Option<VFunc>, A
 /// # Errors
 ///
 /// Only where memory was refused.
-pub fn propagate_constants(alloc: Global, function: VFunc) -> Result<VFunc, AllocError>
-    ensures { IfOk result (λ w. Keeps (virtual_code function) (virtual_code w)) }
+pub fn propagate_constants(alloc: Global, function: &VFunc) -> Result<Option<VFunc>, AllocError>
+    ensures { IfOk result (λ o. IfSome o (λ w. Keeps (virtual_code function.now) (virtual_code w))) }
 {
-    match propagated_by_any(alloc, &function)? {
-        Some(made) => Ok(made),
-        None => Ok(function),
+    let entries = entries(alloc, function)?;
+    match propagated(alloc, function, Extent::Operands, entries.as_slice())? {
+        None if !entries.is_empty() => propagated(alloc, function, Extent::Operands, &[]),
+        made => Ok(made),
     }
 }
 
@@ -342,14 +336,8 @@ pub fn propagate_constants(alloc: Global, function: VFunc) -> Result<VFunc, Allo
 /// # Errors
 ///
 /// Only where memory was refused.
-pub fn fold_branches(alloc: Global, function: VFunc) -> Result<VFunc, AllocError>
-    ensures { IfOk result (λ w. Keeps (virtual_code function) (virtual_code w)) }
+pub fn fold_branches(alloc: Global, function: &VFunc) -> Result<Option<VFunc>, AllocError>
+    ensures { IfOk result (λ o. IfSome o (λ w. Keeps (virtual_code function.now) (virtual_code w))) }
 {
-    if !may_change(function.code.blocks.as_slice()) {
-        return Ok(function);
-    }
-    match propagated(alloc, &function, Extent::Copies, &[])? {
-        Some(made) => Ok(made),
-        None => Ok(function),
-    }
+    propagated(alloc, function, Extent::Copies, &[])
 }

@@ -1,6 +1,6 @@
 //! Lines and jumps, put by what is known of registers.
-ghost use Rattle.std.specs.Prelude.{◌≡◌, ◌++◌, ◌%◌, ℕ, true, false, nat_eq, map, drop, length, OnOk, IfOk, Some, None};
-ghost use Rattle.std.specs.Option.{option_map};
+ghost use Rattle.std.specs.Prelude.{◌≡◌, ◌++◌, ◌%◌, ℕ, true, false, nat_eq, if◌then◌else◌, map, drop, length, OnOk, IfOk, Some, None};
+ghost use Rattle.std.specs.Option.{option_map, option_map_or};
 ghost use Rattle.vcode.specs.declared.place.Operand.TheVariants.{At};
 ghost use Rattle.vcode.specs.declared.line.Jump.TheVariants.{Branch};
 ghost use Rattle.vcode.specs.Addresses.{distance};
@@ -8,9 +8,11 @@ ghost use Rattle.vcode.specs.Cost.{is_immediate};
 ghost use Rattle.vcode.specs.Replaced.{with_base, with_returned, with_comparison};
 ghost use Rattle.propagation.specs.FactTable.{facts_of};
 ghost use Rattle.propagation.specs.Forwarded.{is_short, propagate, regrouped, grouped, operands_of, further, with_address, with_line, tested_by, afforded, with_test, with_branch, numbers_hold, with_outcome, with_jump};
+ghost use Rattle.propagation.specs.Shortened.{shortened};
 ghost use Rattle.propagation.specs.After.{is_add};
 
 use crate::constants::fact::Fact;
+use crate::constants::strength_reduction::shortened;
 use crate::constants::table::FactTable;
 use il_ast::condition::numbers_hold;
 use il_ast::operation::{Class, Condition};
@@ -31,20 +33,25 @@ pub(crate) fn is_short(operand: &Operand<u32>) -> bool
     }
 }
 
+/// What the register is a copy of, where that may take its place.
+fn in_place(copy: Option<Operand<u32>>, register: u32) -> Operand<u32>
+    ensures { result ≡ option_map_or (λ a. if is_short a then a else At register) copy (At register) }
+{
+    match copy {
+        Some(operand) => if is_short(&operand) {
+            operand
+        } else {
+            Operand::At(register)
+        },
+        None => Operand::At(register),
+    }
+}
+
 /// What a register is known to be a copy of, in its place.
 fn copied(table: &FactTable, register: u32) -> Operand<u32>
     ensures { result ≡ propagate (facts_of table.now) (At register) }
 {
-    match table.fact(register) {
-        Some(Fact::Same(operand)) => {
-            if is_short(&operand) {
-                operand
-            } else {
-                Operand::At(register)
-            }
-        }
-        _ => Operand::At(register),
-    }
+    in_place(table.copy(register), register)
 }
 
 impl Replace for FactTable {
@@ -150,7 +157,7 @@ fn address(table: &FactTable, from: &Address<u32>) -> Address<u32>
     }
 }
 
-/// The line with each operand put by what is known.
+/// The line with each operand put by what is known, in its short form.
 ///
 /// # Errors
 ///
@@ -160,7 +167,7 @@ pub(crate) fn line(
     table: &FactTable,
     from: &Line<u32>,
 ) -> Result<Line<u32>, AllocError>
-    ensures { IfOk result (λ v. v ≡ with_line (facts_of table.now) from.now) }
+    ensures { IfOk result (λ v. v ≡ shortened (with_line (facts_of table.now) from.now)) }
 {
     Ok(match from {
         Line::Operate {
@@ -170,12 +177,12 @@ pub(crate) fn line(
             right,
         } => {
             let (left, right) = operands(table, *operation, left, right);
-            Line::Operate {
+            shortened(Line::Operate {
                 to: *to,
                 operation: *operation,
                 left,
                 right,
-            }
+            })
         }
         Line::Load { to, op, at } => Line::Load {
             to: *to,

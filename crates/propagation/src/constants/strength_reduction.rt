@@ -64,7 +64,7 @@ fn computed(line: Line<u32>) -> Line<u32>
 }
 
 /// The k of which the number is 2^k.
-fn exponent(number: u64) -> Option<u32>
+pub(crate) fn exponent(number: u64) -> Option<u32>
     ensures { result ≡ exponent number }
 {
     let places = number.trailing_zeros();

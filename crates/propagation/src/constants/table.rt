@@ -2,7 +2,7 @@
 ghost use Rattle.std.specs.Prelude.{◌≡◌, ◌+◌, ◌*◌, ◌^◌, ◌<◌, ◌≤◌, ℕ, true, false, not, ◌&&◌, ◌||◌, nat_le, length, slice_get, slice_set, IfOk, Some, None};
 ghost use Rattle.std.specs.Option.{option_map};
 ghost use Rattle.propagation.specs.Facts.{names_it, fact_names, kept_if};
-ghost use Rattle.propagation.specs.FactTable.{cell, is_fresh, stands, facts_of, IsTable, IsAtLine, changed, over};
+ghost use Rattle.propagation.specs.FactTable.{cell, is_fresh, stands, counted, facts_of, copy_of, IsTable, IsAtLine, changed, over};
 
 use crate::constants::fact::{DatedFact, Fact};
 use std::alloc::{AllocError, Global};
@@ -144,6 +144,33 @@ impl FactTable {
                     None
                 }
             }
+            None => None,
+        }
+    }
+
+    fn copied(&self, known: &DatedFact) -> Option<Operand<u32>>
+        ensures { result ≡ copy_of (counted self.now.written.items self.now.memory self.now.begun (Some known.now)) }
+    {
+        match &known.fact {
+            Fact::Same(operand) => {
+                if self.begun < known.since && is_fresh(&self.written, known.since, operand) {
+                    Some(*operand)
+                } else {
+                    None
+                }
+            }
+            Fact::Sum(_, _) => None,
+            Fact::Test(_) => None,
+        }
+    }
+
+    /// What a register is known to be a copy of.
+    pub(crate) fn copy(&self, register: u32) -> Option<Operand<u32>>
+        ensures { result ≡ copy_of (facts_of self.now register) }
+    {
+        match self.cells.get(register as usize) {
+            Some(Some(known)) => self.copied(known),
+            Some(None) => None,
             None => None,
         }
     }

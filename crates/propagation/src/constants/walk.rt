@@ -2,35 +2,49 @@
 use crate::constants::claim::Claim;
 use crate::constants::replace::is_short;
 use cfg_live::uses::line_writes;
-use il_ast::list::Seq;
 use std::alloc::{AllocError, Global};
 use std::mem;
+use vcode::code::Block;
 use vcode::function::VFunc;
-use vcode::line::Line;
+use vcode::line::{Jump, Line};
 use vcode::place::Operand;
 
 /// How many claims a block has at most.
 const CLAIMS: usize = 128;
 
-/// What a register holds, and since when.
+/// What is known of a register.
 #[derive(Clone, Copy)]
-struct Held {
-    value: Operand<u32>,
-    since: u64,
+struct Register {
+    /// what it holds since it was last written, if that is known
+    value: Option<Operand<u32>>,
+    /// when it was last written
+    written: u64,
+    /// when it was last claimed
+    claimed: u64,
+    /// how often it is written in the function, 2 for more
+    writes: u8,
+    /// to which block the first goes that sets it, and what it holds there, if that is known
+    set: Option<(usize, Option<Operand<u32>>)>,
+    /// whether another block that goes there leaves something else in it
+    differs: bool,
 }
+
+/// A register that no line writes.
+const UNWRITTEN: Register = Register {
+    value: None,
+    written: 0,
+    claimed: 0,
+    writes: 0,
+    set: None,
+    differs: false,
+};
 
 /// A walk along blocks. Times are counted in writes.
 #[derive(Drop)]
 pub(crate) struct Walk {
-    held: Vec<Option<Held>>,
-    /// when each register was last written
-    written: Vec<u64>,
+    registers: Vec<Register>,
     /// registers of which something was known in this block
     found: Vec<u32>,
-    /// when each register was last claimed
-    claimed: Vec<u64>,
-    /// how often each register is written in the function, 2 for more
-    writes: Vec<u8>,
     clock: u64,
     begun: u64,
 }
@@ -43,30 +57,30 @@ fn names(operand: &Operand<u32>, register: u32) -> bool {
 }
 
 /// One more write of the register, of which 2 are told from more no longer.
-fn count_write(writes: &mut [u8], register: u32) {
-    if let Some(count) = writes.get_mut(register as usize) {
-        *count = if *count == 0 { 1 } else { 2 };
+fn count_write(registers: &mut [Register], register: u32) {
+    if let Some(register) = registers.get_mut(register as usize) {
+        register.writes = if register.writes == 0 { 1 } else { 2 };
     }
 }
 
-/// How often each register is written, a parameter at the begin too.
-fn writes_of(alloc: Global, function: &VFunc) -> Result<Vec<u8>, AllocError> {
-    let mut writes = vec![in alloc; 0u8; function.registers as usize]?;
-    for param in function.code.params.as_slice() {
-        count_write(writes.as_mut_slice(), param.place);
-    }
-    for block in function.code.blocks.as_slice() {
-        count_writes(writes.as_mut_slice(), block.lines.as_slice());
-    }
-    Ok(writes)
-}
-
-fn count_writes(writes: &mut [u8], lines: &[Line<u32>]) {
+fn count_writes(registers: &mut [Register], lines: &[Line<u32>]) {
     for line in lines {
         if let Some(register) = line_writes(line) {
-            count_write(writes, register);
+            count_write(registers, register);
         }
     }
+}
+
+/// The registers, with how often each is written, a parameter at the begin too.
+fn registers_of(alloc: Global, function: &VFunc) -> Result<Vec<Register>, AllocError> {
+    let mut registers = vec![in alloc; UNWRITTEN; function.registers as usize]?;
+    for param in function.code.params.as_slice() {
+        count_write(registers.as_mut_slice(), param.place);
+    }
+    for block in function.code.blocks.as_slice() {
+        count_writes(registers.as_mut_slice(), block.lines.as_slice());
+    }
+    Ok(registers)
 }
 
 fn same(one: &Operand<u32>, other: &Operand<u32>) -> bool {
@@ -79,18 +93,9 @@ fn same(one: &Operand<u32>, other: &Operand<u32>) -> bool {
 
 impl Walk {
     pub(crate) fn new(alloc: Global, function: &VFunc) -> Result<Walk, AllocError> {
-        let mut held = Vec::new(alloc);
-        held.resize(function.registers as usize, None)?;
-        let mut written = Vec::new(alloc);
-        written.resize(function.registers as usize, 0)?;
-        let mut claimed = Vec::new(alloc);
-        claimed.resize(function.registers as usize, 0)?;
-        let writes = writes_of(alloc, function)?;
+        let registers = registers_of(alloc, function)?;
         Ok(Walk {
-            held,
-            written,
-            claimed,
-            writes,
+            registers,
             found: Vec::new(alloc),
             clock: 0,
             begun: 0,
@@ -102,16 +107,19 @@ impl Walk {
     fn is_worth(&self, register: u32, value: &Operand<u32>) -> bool {
         match value {
             Operand::Number(_) => true,
-            Operand::At(_) => self.writes.get(register as usize).copied() == Some(1),
+            Operand::At(_) => match self.registers.get(register as usize) {
+                Some(register) => register.writes == 1,
+                None => false,
+            },
             Operand::Name(_) => false,
         }
     }
 
     /// Whether the operand wasn't written since.
-    fn stands(&self, held: &Held) -> bool {
-        match held.value {
-            Operand::At(register) => match self.written.get(register as usize) {
-                Some(last) => *last <= held.since,
+    fn stands(&self, value: &Operand<u32>, since: u64) -> bool {
+        match value {
+            Operand::At(register) => match self.registers.get(*register as usize) {
+                Some(register) => register.written <= since,
                 None => false,
             },
             _ => true,
@@ -120,14 +128,14 @@ impl Walk {
 
     /// What the register holds.
     fn value(&self, register: u32) -> Option<Operand<u32>> {
-        match self.held.get(register as usize) {
-            Some(Some(held)) => {
-                if self.begun < held.since && self.stands(held) {
-                    Some(held.value)
-                } else {
-                    None
-                }
-            }
+        match self.registers.get(register as usize) {
+            Some(
+                Register {
+                    value: Some(value),
+                    written,
+                    ..
+                },
+            ) if self.begun < *written && self.stands(value, *written) => Some(*value),
             _ => None,
         }
     }
@@ -147,19 +155,11 @@ impl Walk {
     fn write(&mut self, register: u32, value: Option<Operand<u32>>) {
         self.clock = self.clock.saturating_add(1);
         let since = self.clock;
-        if let Some(last) = self.written.get_mut(register as usize) {
-            *last = since;
-        }
-        if let Some(held) = self.held.get_mut(register as usize) {
-            *held = match value {
-                Some(value) => {
-                    if names(&value, register) {
-                        None
-                    } else {
-                        Some(Held { value, since })
-                    }
-                }
-                None => None,
+        if let Some(written) = self.registers.get_mut(register as usize) {
+            written.written = since;
+            written.value = match value {
+                Some(value) if !names(&value, register) => Some(value),
+                _ => None,
             };
         }
     }
@@ -207,6 +207,47 @@ impl Walk {
         Ok(())
     }
 
+    /// Notes to which block a register comes from one that sets it, and with which value. Says whether all blocks that set it so far go there.
+    fn note_way(&mut self, register: u32, to: usize) -> bool {
+        let value = self.value(register);
+        let Some(register) = self.registers.get_mut(register as usize) else {
+            return false;
+        };
+        let Some((block, first)) = register.set else {
+            register.set = Some((to, value));
+            return true;
+        };
+        register.differs |= !match (first, value) {
+            (Some(first), Some(value)) => same(&first, &value),
+            _ => false,
+        };
+        block == to
+    }
+
+    /// Notes where the registers come that a block sets, behind its lines. Says whether all blocks that set one go to the same block.
+    pub(crate) fn note_ways(&mut self, block: &Block<u32>) -> bool {
+        let next = match block.jump {
+            Jump::Goto(next) => next,
+            Jump::Branch { .. } => return self.found.is_empty(),
+            Jump::Return(_) | Jump::Halt => return true,
+        };
+        for line in block.lines.as_slice() {
+            if let Line::Set { to, .. } = line
+                && !self.note_way(*to, next)
+            {
+                return false;
+            }
+        }
+        true
+    }
+
+    /// Whether no register comes to a block with one value by all ways.
+    pub(crate) fn all_differ(&self) -> bool {
+        self.registers
+            .iter()
+            .all(|register| register.differs || register.set.is_none())
+    }
+
     /// Whether what is claimed is known.
     pub(crate) fn knows(&self, claim: &Claim) -> bool {
         match self.value(claim.register) {
@@ -218,10 +259,10 @@ impl Walk {
     /// Whether the register is claimed for the first time at this time.
     fn is_new(&mut self, register: u32) -> bool {
         let now = self.clock;
-        match self.claimed.get_mut(register as usize) {
-            Some(time) => {
-                let is_new = *time < now;
-                *time = now;
+        match self.registers.get_mut(register as usize) {
+            Some(register) => {
+                let is_new = register.claimed < now;
+                register.claimed = now;
                 is_new
             }
             None => false,
@@ -229,8 +270,8 @@ impl Walk {
     }
 
     /// What is known, as claims.
-    pub(crate) fn known(&mut self, alloc: Global) -> Result<Seq<Claim>, AllocError> {
-        let mut claims: Seq<Claim> = Seq::new(alloc);
+    pub(crate) fn known(&mut self, alloc: Global) -> Result<Vec<Claim>, AllocError> {
+        let mut claims = Vec::with_capacity(alloc, self.found.len().min(CLAIMS))?;
         let found = mem::replace(&mut self.found, Vec::new(alloc));
         self.clock = self.clock.saturating_add(1);
         for register in found.as_slice() {

@@ -1,5 +1,5 @@
 //! Blocks and functions that read copies.
-ghost use Rattle.std.specs.Prelude.{◌≡◌, map, OnOk, IfOk};
+ghost use Rattle.std.specs.Prelude.{◌≡◌, map, OnOk, IfOk, IfSome};
 ghost use Rattle.il_ast.specs.Passes.{Keeps};
 ghost use Rattle.vcode.specs.Coded.{virtual_code};
 ghost use Rattle.propagation.specs.Copied.{reading_lines, known_behind, reading_block};
@@ -64,12 +64,12 @@ fn reading(alloc: Global, function: &VFunc) -> Result<VFunc, AllocError>
 /// # Errors
 ///
 /// Only where memory was refused.
-pub fn propagate_copies(alloc: Global, function: VFunc) -> Result<VFunc, AllocError>
-    ensures { IfOk result (λ w. Keeps (virtual_code function) (virtual_code w)) }
+pub fn propagate_copies(alloc: Global, function: &VFunc) -> Result<Option<VFunc>, AllocError>
+    ensures { IfOk result (λ o. IfSome o (λ w. Keeps (virtual_code function.now) (virtual_code w))) }
 {
-    if read_sources(function.code.blocks.as_slice()) {
-        reading(alloc, &function)
-    } else {
-        Ok(function)
+    if !read_sources(function.code.blocks.as_slice()) {
+        return Ok(None);
     }
+    let made = reading(alloc, function)?;
+    Ok(Some(made))
 }

@@ -26,13 +26,8 @@ pub(crate) struct Fronts {
 
 /// Whether no call is made in the block, and no block of memory.
 fn is_quiet(block: &Block<u32>) -> bool {
-    for line in block.lines.as_slice() {
-        match line {
-            Line::Call { .. } | Line::Alloc { .. } => return false,
-            _ => {}
-        }
-    }
-    true
+    let mut lines = block.lines.as_slice().iter();
+    !lines.any(|line| matches!(line, Line::Call { .. } | Line::Alloc { .. }))
 }
 
 fn is_inside(inside: &[bool], block: usize) -> bool {
@@ -41,38 +36,29 @@ fn is_inside(inside: &[bool], block: usize) -> bool {
 
 /// Takes the block out; what it leads to is to be looked at.
 fn take_out(inside: &mut [bool], due: &mut Vec<usize>, block: usize) -> Result<(), AllocError> {
-    match inside.get_mut(block) {
-        Some(at) if *at => {
-            *at = false;
-            due.push(block)?;
-            Ok(())
-        }
-        _ => Ok(()),
+    if let Some(at) = inside.get_mut(block)
+        && *at
+    {
+        *at = false;
+        due.push(block)?;
     }
+    Ok(())
 }
 
 /// Of the blocks that lead to this one, whether some are inside, and whether all are.
 fn sources_inside(inside: &[bool], text: &Text, block: usize) -> (bool, bool) {
-    let mut some = false;
-    let mut all = true;
-    for source in text.sources(block) {
-        if is_inside(inside, *source) {
-            some = true;
-        } else {
-            all = false;
-        }
-    }
-    (some, all)
+    let sources = text.sources(block);
+    let count = sources
+        .iter()
+        .filter(|source| is_inside(inside, **source))
+        .count();
+    (0 < count, count == sources.len())
 }
 
 /// Whether something is live where the block begins that has its place in a frame.
 fn begins_framed(list: &[Location], ground: Ground, block: usize) -> bool {
-    for register in ground.facts.starts.of(block) {
-        if scratch_room(list, *register).is_none() {
-            return true;
-        }
-    }
-    false
+    let mut live = ground.facts.starts.of(block).iter();
+    live.any(|register| scratch_room(list, *register).is_none())
 }
 
 /// Takes out the blocks that lead to this one, if it is outside, others outside lead to it too, and something is live there that has its place in a frame.
@@ -92,22 +78,6 @@ fn settle(
     Ok(())
 }
 
-fn follow_to(
-    inside: &mut [bool],
-    due: &mut Vec<usize>,
-    list: &[Location],
-    ground: Ground,
-    to: Option<usize>,
-) -> Result<(), AllocError> {
-    match to {
-        Some(block) => {
-            take_out(inside, due, block)?;
-            settle(inside, due, list, ground, block)
-        }
-        None => Ok(()),
-    }
-}
-
 /// What a block leads to that was taken out is taken out too.
 fn follow(
     inside: &mut [bool],
@@ -116,22 +86,17 @@ fn follow(
     ground: Ground,
     block: usize,
 ) -> Result<(), AllocError> {
-    match ground.facts.text.stretch(block) {
-        Some(stretch) => {
-            settle(inside, due, list, ground, block)?;
-            follow_to(inside, due, list, ground, stretch.next)?;
-            follow_to(inside, due, list, ground, stretch.other)
+    let Some(stretch) = ground.facts.text.stretch(block) else {
+        return Ok(());
+    };
+    settle(inside, due, list, ground, block)?;
+    for to in [stretch.next, stretch.other] {
+        if let Some(to) = to {
+            take_out(inside, due, to)?;
+            settle(inside, due, list, ground, to)?;
         }
-        None => Ok(()),
     }
-}
-
-/// Whether the first block makes no call.
-fn begins_quiet(ground: Ground) -> bool {
-    match ground.function.code.blocks.as_slice().get(0) {
-        Some(block) => is_quiet(block),
-        None => false,
-    }
+    Ok(())
 }
 
 /// Of each block whether only blocks without calls lead to it, and it makes none.
@@ -153,16 +118,9 @@ fn find_inside(alloc: Global, list: &[Location], ground: Ground) -> Result<Vec<b
     Ok(inside)
 }
 
-fn returns(block: &Block<u32>) -> bool {
-    match block.jump {
-        Jump::Return(_) => true,
-        Jump::Goto(_) | Jump::Branch { .. } | Jump::Halt => false,
-    }
-}
-
 /// Whether the block returns, and is one of these or as good as one for those that lead to it.
 fn returns_bare(inside: &[bool], text: &Text, number: usize, block: &Block<u32>) -> bool {
-    if !returns(block) || !is_quiet(block) {
+    if !matches!(block.jump, Jump::Return(_)) || !is_quiet(block) {
         return false;
     }
     let (some, all) = sources_inside(inside, text, number);
@@ -171,30 +129,9 @@ fn returns_bare(inside: &[bool], text: &Text, number: usize, block: &Block<u32>)
 
 /// Whether a way on which nothing is called returns.
 fn is_worth(inside: &[bool], ground: Ground) -> bool {
-    for (number, block) in ground.function.code.blocks.as_slice().iter().enumerate() {
-        if returns_bare(inside, &ground.facts.text, number, block) {
-            return true;
-        }
-    }
-    false
-}
-
-fn push_inside(fronts: &mut Fronts, number: usize, stretch: Stretch) -> Result<(), AllocError> {
-    fronts.inside.push(number)?;
-    fronts.zones.push(Range {
-        start: right_before(stretch.first),
-        end: right_after(stretch.jump),
-    })?;
-    Ok(())
-}
-
-fn push_head(fronts: &mut Fronts, number: usize, stretch: Stretch) -> Result<(), AllocError> {
-    fronts.heads.push(number)?;
-    fronts.zones.push(Range {
-        start: right_before(stretch.first),
-        end: right_before(stretch.first),
-    })?;
-    Ok(())
+    let text = &ground.facts.text;
+    let mut blocks = ground.function.code.blocks.as_slice().iter().enumerate();
+    blocks.any(|(number, block)| returns_bare(inside, text, number, block))
 }
 
 /// Notes the block, if it is one of these or stands behind them alone.
@@ -206,13 +143,16 @@ fn push_block(
     stretch: Stretch,
 ) -> Result<(), AllocError> {
     let (some, all) = sources_inside(inside, text, number);
+    let start = right_before(stretch.first);
     if is_inside(inside, number) {
-        push_inside(fronts, number, stretch)
+        let end = right_after(stretch.jump);
+        fronts.inside.push(number)?;
+        fronts.zones.push(Range { start, end })?;
     } else if some && all {
-        push_head(fronts, number, stretch)
-    } else {
-        Ok(())
+        fronts.heads.push(number)?;
+        fronts.zones.push(Range { start, end: start })?;
     }
+    Ok(())
 }
 
 fn listed(alloc: Global, inside: &[bool], text: &Text) -> Result<Fronts, AllocError> {
@@ -228,16 +168,13 @@ fn listed(alloc: Global, inside: &[bool], text: &Text) -> Result<Fronts, AllocEr
 }
 
 /// The blocks in front of all calls, if the first one is among them, one of them returns, and they are few. The list has the place of each register.
-///
-/// # Errors
-///
-/// Only where memory was refused.
 pub(crate) fn fronts_of(
     alloc: Global,
     list: &[Location],
     ground: Ground,
 ) -> Result<Option<Fronts>, AllocError> {
-    if !begins_quiet(ground) {
+    let first = ground.function.code.blocks.as_slice().first();
+    if !first.is_some_and(|block| is_quiet(block)) {
         return Ok(None);
     }
     let inside = find_inside(alloc, list, ground)?;

@@ -38,21 +38,19 @@ impl Holders {
 }
 
 fn find(holders: &mut Holders, register: u32) -> Result<(), AllocError> {
-    match holders.is_found.get_mut(register as usize) {
-        Some(found) if !*found => {
-            *found = true;
-            holders.registers.push(register)?;
-            Ok(())
-        }
-        _ => Ok(()),
+    if let Some(found) = holders.is_found.get_mut(register as usize)
+        && !*found
+    {
+        *found = true;
+        holders.registers.push(register)?;
     }
+    Ok(())
 }
 
 fn find_written(holders: &mut Holders, block: &Block<u32>) -> Result<(), AllocError> {
     for line in block.lines.as_slice() {
-        match line_writes(line) {
-            Some(register) => find(holders, register)?,
-            None => {}
+        if let Some(register) = line_writes(line) {
+            find(holders, register)?;
         }
     }
     Ok(())
@@ -121,22 +119,14 @@ fn find_ranges(look: &mut Look, register: u32) -> Result<bool, AllocError> {
     Ok(true)
 }
 
-/// Takes the register's own place, if that isn't in a frame; false where that takes too long.
-fn stay(rooms: &mut Rooms, look: &mut Look, register: u32) -> Result<bool, AllocError> {
-    match scratch_room(look.list, register) {
-        Some(room) => {
-            let is_found = find_ranges(look, register)?;
-            rooms.take(room, look.ranges.as_slice());
-            Ok(is_found)
-        }
-        None => Ok(true),
-    }
-}
-
+/// Takes the own places of registers that aren't in a frame; false where that takes too long.
 fn stay_all(rooms: &mut Rooms, holders: &Holders, look: &mut Look) -> Result<bool, AllocError> {
     for register in holders.registers.iter() {
-        if !stay(rooms, look, *register)? {
-            return Ok(false);
+        if let Some(room) = scratch_room(look.list, *register) {
+            if !find_ranges(look, *register)? {
+                return Ok(false);
+            }
+            rooms.take(room, look.ranges.as_slice());
         }
     }
     Ok(true)
@@ -145,26 +135,18 @@ fn stay_all(rooms: &mut Rooms, holders: &Holders, look: &mut Look) -> Result<boo
 /// Notes where splitting has registers at the begins of blocks that stand behind.
 fn note_behind(holders: &mut Holders, fronts: &Fronts, begins: &[Begin]) {
     for begin in begins {
-        for head in fronts.heads.iter() {
-            if *head == begin.block {
-                set(
-                    holders.behind.as_mut_slice(),
-                    begin.register as usize,
-                    Some(begin.room),
-                );
-            }
+        if fronts.heads.contains(&begin.block) {
+            let register = begin.register as usize;
+            set(holders.behind.as_mut_slice(), register, Some(begin.room));
         }
     }
 }
 
 /// The register of the machine in which the parameter comes.
 fn comes_in(ground: Ground, register: u32) -> Option<usize> {
-    for (argument, param) in ground.function.code.params.as_slice().iter().enumerate() {
-        if param.place == register && argument < 8 {
-            return Some(hinted(argument as u8));
-        }
-    }
-    None
+    let mut params = ground.function.code.params.as_slice().iter().take(8);
+    let argument = params.position(|param| param.place == register)?;
+    Some(hinted(argument))
 }
 
 fn is_same(one: Option<&Location>, other: Option<&Location>) -> bool {
@@ -177,15 +159,12 @@ fn is_same(one: Option<&Location>, other: Option<&Location>) -> bool {
 
 /// The register of the machine that another one has whose own place is the same.
 fn shared(holders: &Holders, list: &[Location], register: u32) -> Option<usize> {
-    for other in holders.registers.iter() {
-        if is_same(list.get(*other as usize), list.get(register as usize)) {
-            match holders.room(*other) {
-                Some(room) => return Some(room),
-                None => {}
-            }
-        }
-    }
-    None
+    let own = list.get(register as usize);
+    holders
+        .registers
+        .iter()
+        .filter(|other| is_same(list.get(**other as usize), own))
+        .find_map(|other| holders.room(*other))
 }
 
 /// Gives the register one of the machine that callees needn't keep; false where none is free.
@@ -203,68 +182,29 @@ fn hold(
         shared(holders, look.list, register),
         holders.behind.get(register as usize).copied().flatten(),
     ];
-    match free_scratch(rooms, wishes.as_slice(), look.ranges.as_slice()) {
-        Some(room) => {
-            rooms.take(room, look.ranges.as_slice());
-            set(holders.rooms.as_mut_slice(), register as usize, Some(room));
-            Ok(true)
-        }
-        None => Ok(false),
-    }
+    let ranges = look.ranges.as_slice();
+    let Some(room) = free_scratch(rooms, wishes.as_slice(), ranges) else {
+        return Ok(false);
+    };
+    rooms.take(room, ranges);
+    set(holders.rooms.as_mut_slice(), register as usize, Some(room));
+    Ok(true)
 }
 
 /// Gives registers of the machine to all whose own place is in a frame; says whether each has one.
 fn hold_all(rooms: &mut Rooms, holders: &mut Holders, look: &mut Look) -> Result<bool, AllocError> {
     for number in 0..holders.registers.len() {
-        match holders.registers.get(number).copied() {
-            Some(register) if scratch_room(look.list, register).is_none() => {
-                if !hold(rooms, holders, look, register)? {
-                    return Ok(false);
-                }
-            }
-            _ => {}
+        if let Some(register) = holders.registers.get(number).copied()
+            && scratch_room(look.list, register).is_none()
+            && !hold(rooms, holders, look, register)?
+        {
+            return Ok(false);
         }
     }
     Ok(true)
 }
 
-/// Whether some register has its own place in a frame.
-fn are_framed(holders: &Holders, list: &[Location]) -> bool {
-    for register in holders.registers.iter() {
-        if scratch_room(list, *register).is_none() {
-            return true;
-        }
-    }
-    false
-}
-
-/// Gives registers of the machine to what has a value in front of all calls; false where there are not enough for all.
-fn place_all(
-    alloc: Global,
-    holders: &mut Holders,
-    list: &[Location],
-    ground: Ground,
-    fronts: &Fronts,
-) -> Result<bool, AllocError> {
-    let mut rooms = Rooms::new(alloc, ground.facts.text.points())?;
-    let mut look = Look {
-        list,
-        ground,
-        fronts,
-        ranges: Vec::new(alloc),
-    };
-    if stay_all(&mut rooms, holders, &mut look)? {
-        hold_all(&mut rooms, holders, &mut look)
-    } else {
-        Ok(false)
-    }
-}
-
 /// Registers of the machine for what has a value in front of all calls and its own place in a frame; none where there is nothing of that, or not enough for all.
-///
-/// # Errors
-///
-/// Only where memory was refused.
 pub(crate) fn holders_of(
     alloc: Global,
     list: &[Location],
@@ -273,11 +213,21 @@ pub(crate) fn holders_of(
     begins: &[Begin],
 ) -> Result<Option<Holders>, AllocError> {
     let mut holders = found(alloc, ground, fronts)?;
-    if !are_framed(&holders, list) {
+    let mut registers = holders.registers.iter();
+    if registers.all(|register| scratch_room(list, *register).is_some()) {
         return Ok(None);
     }
     note_behind(&mut holders, fronts, begins);
-    if place_all(alloc, &mut holders, list, ground, fronts)? {
+    let mut rooms = Rooms::new(alloc, ground.facts.text.points())?;
+    let mut look = Look {
+        list,
+        ground,
+        fronts,
+        ranges: Vec::new(alloc),
+    };
+    if stay_all(&mut rooms, &holders, &mut look)?
+        && hold_all(&mut rooms, &mut holders, &mut look)?
+    {
         Ok(Some(holders))
     } else {
         Ok(None)

@@ -26,10 +26,6 @@ impl Group {
     }
 
     /// One register.
-    ///
-    /// # Errors
-    ///
-    /// Only where memory was refused.
     pub(crate) fn single(alloc: Global, register: u32) -> Result<Group, AllocError> {
         let mut group = Group::empty(alloc);
         group.members.push(register)?;
@@ -77,9 +73,8 @@ fn join_ranges(
     let mut k = 0usize;
     for taken in 0..left.len().saturating_add(right.len()) {
         if let Some((range, is_left)) = next(left.get(k), right.get(taken.saturating_sub(k))) {
-            match ranges.last() {
-                Some(last) if range.start <= last.end => return Ok(false),
-                _ => {}
+            if ranges.last().is_some_and(|last| range.start <= last.end) {
+                return Ok(false);
             }
             ranges.push(range)?;
             if is_left {
@@ -107,10 +102,10 @@ fn push_members(groups: &mut Groups, group: usize, members: &[u32]) -> Result<()
 
 /// How many registers the group has.
 fn size(groups: &Groups, group: usize) -> usize {
-    match groups.groups.get(group) {
-        Some(group) => group.members.len(),
-        None => 0,
-    }
+    groups
+        .groups
+        .get(group)
+        .map_or(0, |group| group.members.len())
 }
 
 /// All ranges of the two groups in order; none where two of them meet.
@@ -145,13 +140,11 @@ fn join(
     if let Some(group) = groups.groups.get_mut(large) {
         group.joined = ranges;
     }
-    match groups.groups.get_mut(small) {
-        Some(group) => {
-            let old = mem::replace(group, Group::empty(alloc));
-            push_members(groups, large, old.members.as_slice())
-        }
-        None => Ok(()),
-    }
+    let Some(group) = groups.groups.get_mut(small) else {
+        return Ok(());
+    };
+    let old = mem::replace(group, Group::empty(alloc));
+    push_members(groups, large, old.members.as_slice())
 }
 
 /// Joins the two groups, the smaller to the larger, if no two ranges of them meet.
@@ -162,35 +155,27 @@ fn try_join(
     left: usize,
     right: usize,
 ) -> Result<(), AllocError> {
-    match joined(alloc, groups, intervals, left, right)? {
-        Some(ranges) => {
-            if size(groups, left) < size(groups, right) {
-                join(alloc, groups, right, left, ranges)
-            } else {
-                join(alloc, groups, left, right, ranges)
-            }
-        }
-        None => Ok(()),
+    let Some(ranges) = joined(alloc, groups, intervals, left, right)? else {
+        return Ok(());
+    };
+    if size(groups, left) < size(groups, right) {
+        join(alloc, groups, right, left, ranges)
+    } else {
+        join(alloc, groups, left, right, ranges)
     }
 }
 
 /// The two groups that a copy leads between, if they are two.
 fn groups_between(groups: &Groups, copying: &Copying) -> Option<(usize, usize)> {
-    match (
-        groups.of_registers.get(copying.to as usize),
-        groups.of_registers.get(copying.from as usize),
-    ) {
-        (Some(to), Some(from)) if to != from => Some((*to, *from)),
-        _ => None,
-    }
+    let to = *groups.of_registers.get(copying.to as usize)?;
+    let from = *groups.of_registers.get(copying.from as usize)?;
+    if to != from { Some((to, from)) } else { None }
 }
 
 /// How many ranges the group has.
 fn range_count(groups: &Groups, intervals: &[LiveInterval], group: usize) -> usize {
-    match groups.groups.get(group) {
-        Some(group) => group.ranges(intervals).len(),
-        None => 0,
-    }
+    let group = groups.groups.get(group);
+    group.map_or(0, |group| group.ranges(intervals).len())
 }
 
 /// How many ranges are looked through for each register, at most.
@@ -217,15 +202,6 @@ fn join_copies(
     Ok(())
 }
 
-/// Makes a group of each register.
-fn push_singles(alloc: Global, groups: &mut Groups, registers: u32) -> Result<(), AllocError> {
-    for register in 0..registers {
-        groups.groups.push(Group::single(alloc, register)?)?;
-        groups.of_registers.push(register as usize)?;
-    }
-    Ok(())
-}
-
 /// Two registers of which one or the other is copied to the other one.
 #[derive(Clone, Copy, PartialEq, Eq, PartialOrd, Ord)]
 struct Pair {
@@ -236,52 +212,37 @@ struct Pair {
 
 /// The pairs of registers that are copied to one another, in order.
 fn pairs_of(alloc: Global, copies: &[Copying]) -> Result<Vec<Pair>, AllocError> {
-    let mut pairs = Vec::with_capacity(alloc, copies.len())?;
-    for copying in copies {
-        pairs.push(Pair {
-            low: copying.to.min(copying.from),
-            high: copying.to.max(copying.from),
-            weight: copying.weight,
-        })?;
-    }
+    let pairs = copies.iter().map(|copying| Pair {
+        low: copying.to.min(copying.from),
+        high: copying.to.max(copying.from),
+        weight: copying.weight,
+    });
+    let mut pairs: Vec<Pair> = pairs.collect(alloc)?;
     pairs.sort()?;
     Ok(pairs)
-}
-
-/// Adds a copy between the registers of a pair; it counts with the last one, if that is between the same.
-fn push_copy(copies: &mut Vec<Copying>, pair: &Pair) -> Result<(), AllocError> {
-    match copies.last_mut() {
-        Some(last) if last.to == pair.low && last.from == pair.high => {
-            last.weight = last.weight.saturating_add(pair.weight);
-            Ok(())
-        }
-        _ => {
-            copies.push(Copying {
-                weight: pair.weight,
-                to: pair.low,
-                from: pair.high,
-            })?;
-            Ok(())
-        }
-    }
 }
 
 /// For each pair of registers all copies between them as one, which is done as often as all of them; the one that is done most often is the last.
 fn copies_by_pair(alloc: Global, copies: &[Copying]) -> Result<Vec<Copying>, AllocError> {
     let pairs = pairs_of(alloc, copies)?;
-    let mut sums = Vec::with_capacity(alloc, pairs.len())?;
+    let mut sums: Vec<Copying> = Vec::with_capacity(alloc, pairs.len())?;
     for pair in pairs.iter() {
-        push_copy(&mut sums, pair)?;
+        match sums.last_mut() {
+            Some(last) if last.to == pair.low && last.from == pair.high => {
+                last.weight = last.weight.saturating_add(pair.weight);
+            }
+            _ => sums.push(Copying {
+                weight: pair.weight,
+                to: pair.low,
+                from: pair.high,
+            })?,
+        }
     }
     sums.sort()?;
     Ok(sums)
 }
 
 /// The groups, those of the copies that are done most often being joined first.
-///
-/// # Errors
-///
-/// Only where memory was refused.
 pub(crate) fn groups_of(
     alloc: Global,
     registers: u32,
@@ -292,7 +253,10 @@ pub(crate) fn groups_of(
         groups: Vec::with_capacity(alloc, registers as usize)?,
         of_registers: Vec::with_capacity(alloc, registers as usize)?,
     };
-    push_singles(alloc, &mut groups, registers)?;
+    for register in 0..registers {
+        groups.groups.push(Group::single(alloc, register)?)?;
+        groups.of_registers.push(register as usize)?;
+    }
     let copies = copies_by_pair(alloc, demands.copies.as_slice())?;
     join_copies(alloc, &mut groups, intervals, copies.as_slice())?;
     Ok(groups)

@@ -4,6 +4,7 @@ ghost use Rattle.std.specs.Prelude.{◌≤◌};
 use crate::intervals::accesses::{Access, Accesses, Kind, sorted};
 use crate::intervals::positions::Range;
 use crate::intervals::text::Text;
+use cfg_live::reads::register_of;
 use std::alloc::{AllocError, Global};
 use vcode::code::{Block, Code};
 use vcode::line::{Jump, Line};
@@ -100,10 +101,8 @@ pub(crate) struct Demands {
 impl Demands {
     /// What the register is used for; nothing, if there is no such register.
     pub(crate) fn of(&self, register: u32) -> Demand {
-        match self.registers.get(register as usize) {
-            Some(demand) => *demand,
-            None => Demand::none(),
-        }
+        let demand = self.registers.get(register as usize);
+        demand.copied().unwrap_or(Demand::none())
     }
 }
 
@@ -172,13 +171,6 @@ fn add_hint(counting: &mut Counting, register: u32, argument: u8, weight: u64) {
     }
 }
 
-/// Counts that what is called stands best where no argument is passed.
-fn keep_from_arguments(counting: &mut Counting, callee: &Operand<u32>, often: u64) {
-    if let Operand::At(register) = callee {
-        add_hint(counting, *register, 8, often);
-    }
-}
-
 /// The number of the k-th argument, where 8 stands for all that are passed on the stack.
 fn argument_number(k: usize) -> u8
     ensures { result ≤ 8 }
@@ -188,9 +180,9 @@ fn argument_number(k: usize) -> u8
 
 /// Counts a read of the operand.
 fn read(counting: &mut Counting, operand: &Operand<u32>, weight: u64) -> Result<(), AllocError> {
-    match operand {
-        Operand::At(register) => add(counting, *register, Kind::Read, weight),
-        _ => Ok(()),
+    match register_of(operand) {
+        Some(register) => add(counting, register, Kind::Read, weight),
+        None => Ok(()),
     }
 }
 
@@ -224,16 +216,14 @@ fn pass(
     argument: u8,
     often: u64,
 ) -> Result<(), AllocError> {
-    match operand {
-        Operand::At(register) => {
-            if argument < 8 {
-                add_hint(counting, *register, argument, often);
-            }
-            let through = passed(argument, often);
-            push_access(counting, *register, Kind::Read, 0, through)
-        }
-        _ => Ok(()),
+    let Some(register) = register_of(operand) else {
+        return Ok(());
+    };
+    if argument < 8 {
+        add_hint(counting, register, argument, often);
     }
+    let through = passed(argument, often);
+    push_access(counting, register, Kind::Read, 0, through)
 }
 
 /// Counts that the arguments are passed.
@@ -248,23 +238,20 @@ fn pass_args(
     Ok(())
 }
 
-/// Counts a parameter that comes as the argument of that number.
-fn count_param(counting: &mut Counting, register: u32, argument: u8) -> Result<(), AllocError> {
-    if let Some(demand) = counting.demands.registers.get_mut(register as usize) {
-        demand.is_param = true;
-    }
-    if argument < 8 {
-        add_hint(counting, register, argument, 1);
-        push_access(counting, register, Kind::Entry, 0, passed(argument, 1))
-    } else {
-        push_access(counting, register, Kind::Entry, 2, Hint::none())
-    }
-}
-
 /// Counts what parameters save in the registers that they come in.
 fn count_params(counting: &mut Counting, params: &[Destination<u32>]) -> Result<(), AllocError> {
     for (k, param) in params.iter().enumerate() {
-        count_param(counting, param.place, argument_number(k))?;
+        let register = param.place;
+        let argument = argument_number(k);
+        if let Some(demand) = counting.demands.registers.get_mut(register as usize) {
+            demand.is_param = true;
+        }
+        if argument < 8 {
+            add_hint(counting, register, argument, 1);
+            push_access(counting, register, Kind::Entry, 0, passed(argument, 1))?;
+        } else {
+            push_access(counting, register, Kind::Entry, 2, Hint::none())?;
+        }
     }
     Ok(())
 }
@@ -275,19 +262,12 @@ fn receive(
     to: &Option<Destination<u32>>,
     often: u64,
 ) -> Result<(), AllocError> {
-    match to {
-        Some(destination) => {
-            add_hint(counting, destination.place, 0, often);
-            push_access(
-                counting,
-                destination.place,
-                Kind::Write,
-                0,
-                passed(0, often),
-            )
-        }
-        None => Ok(()),
-    }
+    let Some(destination) = to else {
+        return Ok(());
+    };
+    add_hint(counting, destination.place, 0, often);
+    let through = passed(0, often);
+    push_access(counting, destination.place, Kind::Write, 0, through)
 }
 
 /// Counts what the jump uses.
@@ -308,22 +288,21 @@ fn copy(
     value: &Operand<u32>,
     often: u64,
 ) -> Result<(), AllocError> {
-    match value {
-        Operand::At(from) => {
-            add(counting, *from, Kind::Read, often)?;
-            add(counting, to, Kind::Write, often)?;
-            counting.demands.copies.push(Copying {
-                weight: often,
-                to,
-                from: *from,
-            })?;
-            Ok(())
-        }
-        _ => add(counting, to, Kind::Write, often.saturating_mul(2)),
-    }
+    let Some(from) = register_of(value) else {
+        return add(counting, to, Kind::Write, often.saturating_mul(2));
+    };
+    add(counting, from, Kind::Read, often)?;
+    add(counting, to, Kind::Write, often)?;
+    counting.demands.copies.push(Copying {
+        weight: often,
+        to,
+        from,
+    })?;
+    Ok(())
 }
 
-/// Counts what the line uses. What a call takes and gives, and what is copied in memory, takes one instruction to or from a register as well as a slot.
+/// Counts what the line uses. What a call takes and gives, and what is copied in memory, takes one instruction to or from a register as well as a slot; what is called
+/// stands best where no argument is passed.
 fn count_line(counting: &mut Counting, line: &Line<u32>, often: u64) -> Result<(), AllocError> {
     let weight = often.saturating_mul(2);
     match line {
@@ -347,31 +326,29 @@ fn count_line(counting: &mut Counting, line: &Line<u32>, often: u64) -> Result<(
         Line::Blit { from, to, .. } => read_both(counting, from, to, 0),
         Line::Call { to, callee, args } => {
             read(counting, callee, weight)?;
-            keep_from_arguments(counting, callee, often);
+            if let Some(register) = register_of(callee) {
+                add_hint(counting, register, 8, often);
+            }
             pass_args(counting, args.as_slice(), often)?;
             receive(counting, to, often)
         }
     }
 }
 
-/// Notes a call: how many calls stand before it, for its point and those before it that follow the last call.
-fn pass_call(counting: &mut Counting) -> Result<(), AllocError> {
-    let before = counting.called;
-    counting.called = before.saturating_add(1);
-    counting.demands.calls.resize(counting.point, before)
-}
-
-/// Counts what the line uses, and goes on behind its point, if it has one.
+/// Counts what the line uses, and goes on behind its point, if it has one. Behind a call it notes how many calls stand before it, for its point and those before it that
+/// follow the last call.
 fn pass_line(counting: &mut Counting, line: &Line<u32>, often: u64) -> Result<(), AllocError> {
     if let Line::Tick { .. } = line {
         return Ok(());
     }
     count_line(counting, line, often)?;
     counting.point = counting.point.saturating_add(1);
-    match line {
-        Line::Call { .. } => pass_call(counting),
-        _ => Ok(()),
+    if let Line::Call { .. } = line {
+        let before = counting.called;
+        counting.called = before.saturating_add(1);
+        counting.demands.calls.resize(counting.point, before)?;
     }
+    Ok(())
 }
 
 /// Counts what the block uses, which runs so often.
@@ -384,15 +361,6 @@ fn count_block(counting: &mut Counting, block: &Block<u32>, often: u64) -> Resul
     Ok(())
 }
 
-/// Counts what the code uses, block by block.
-fn count_code(counting: &mut Counting, code: &Code<u32>, text: &Text) -> Result<(), AllocError> {
-    count_params(counting, code.params.as_slice())?;
-    for (k, block) in code.blocks.as_slice().iter().enumerate() {
-        count_block(counting, block, text.often(k))?;
-    }
-    Ok(())
-}
-
 /// What is found in all of the code.
 fn counted(
     alloc: Global,
@@ -401,6 +369,7 @@ fn counted(
     text: &Text,
     with_accesses: bool,
 ) -> Result<Counting, AllocError> {
+    let most = text.points().saturating_mul(2);
     let mut counting = Counting {
         demands: Demands {
             registers: vec![in alloc; Demand::none(); registers as usize]?,
@@ -409,13 +378,16 @@ fn counted(
         },
         point: 0,
         called: 0,
-        accesses: None,
+        accesses: if with_accesses {
+            Some(Vec::with_capacity(alloc, most)?)
+        } else {
+            None
+        },
     };
-    if with_accesses {
-        let most = text.points().saturating_mul(2);
-        counting.accesses = Some(Vec::with_capacity(alloc, most)?);
+    count_params(&mut counting, code.params.as_slice())?;
+    for (k, block) in code.blocks.as_slice().iter().enumerate() {
+        count_block(&mut counting, block, text.often(k))?;
     }
-    count_code(&mut counting, code, text)?;
     Ok(counting)
 }
 
@@ -428,10 +400,6 @@ fn accesses_in(alloc: Global, counting: &Counting, registers: u32) -> Result<Acc
 }
 
 /// The demands of the registers of this code, and all accesses of them if those are asked for.
-///
-/// # Errors
-///
-/// Only where memory was refused.
 pub(crate) fn demands_of(
     alloc: Global,
     code: &Code<u32>,
@@ -449,10 +417,6 @@ pub(crate) fn demands_of(
 }
 
 /// All accesses of the registers of this code.
-///
-/// # Errors
-///
-/// Only where memory was refused.
 pub(crate) fn accesses_of(
     alloc: Global,
     code: &Code<u32>,

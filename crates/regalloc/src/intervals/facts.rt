@@ -5,10 +5,7 @@ use crate::intervals::live_intervals::{LiveInterval, live_intervals};
 use crate::intervals::starts::{Known, Starts, line_count, starts_of};
 use crate::intervals::text::{Text, text_of};
 use cfg_live::sets::Live;
-use flow::depths::loop_depths;
-use flow::graph::predecessors;
 use std::alloc::{AllocError, Global};
-use vcode::code::Block;
 use vcode::function::VFunc;
 
 /// What is known of a function.
@@ -30,41 +27,10 @@ pub(crate) struct Facts {
     pub(crate) accesses: Accesses,
 }
 
-/// The blocks, with their depths in loops.
-fn text(alloc: Global, blocks: &[Block<u32>]) -> Result<Text, AllocError> {
-    let sources = predecessors(alloc, blocks)?;
-    let depths = loop_depths(alloc, blocks, sources.as_slice())?;
-    text_of(alloc, blocks, depths.as_slice(), sources)
-}
-
 /// With more registers than this some of them are mostly split, for which all accesses have to be found.
 const FEW: u32 = 64;
 
-/// Finds what is live where blocks begin, and by that the live intervals.
-fn find_intervals(
-    alloc: Global,
-    facts: &mut Facts,
-    function: &VFunc,
-    live: &Live,
-    most: usize,
-) -> Result<(), AllocError> {
-    let registers = function.registers;
-    let known = Known {
-        text: &facts.text,
-        live,
-        accesses: &facts.accesses,
-        registers,
-    };
-    facts.starts = starts_of(alloc, known, most)?;
-    facts.intervals = live_intervals(alloc, registers, &function.code, &facts.starts, &facts.text)?;
-    Ok(())
-}
-
 /// The facts of the function, with so many live registers named where blocks begin, for each line and jump, at most.
-///
-/// # Errors
-///
-/// Only where memory was refused.
 pub(crate) fn facts_of(
     alloc: Global,
     function: &VFunc,
@@ -73,18 +39,24 @@ pub(crate) fn facts_of(
 ) -> Result<Facts, AllocError> {
     let code = &function.code;
     let registers = function.registers;
-    let text = text(alloc, code.blocks.as_slice())?;
+    let text = text_of(alloc, code.blocks.as_slice())?;
     let most = line_count(code.blocks.as_slice()).saturating_mul(live_a_line);
     let asked = text.stretches.len().saturating_mul(registers as usize);
     let with_accesses = FEW < registers || most < asked;
     let (demands, accesses) = demands_of(alloc, code, registers, &text, with_accesses)?;
-    let mut facts = Facts {
+    let known = Known {
+        text: &text,
+        live,
+        accesses: &accesses,
+        registers,
+    };
+    let starts = starts_of(alloc, known, most)?;
+    let intervals = live_intervals(alloc, registers, code, &starts, &text)?;
+    Ok(Facts {
         text,
-        starts: Starts::none(alloc),
-        intervals: Vec::new(alloc),
+        starts,
+        intervals,
         demands,
         accesses,
-    };
-    find_intervals(alloc, &mut facts, function, live, most)?;
-    Ok(facts)
+    })
 }

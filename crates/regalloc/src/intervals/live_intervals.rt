@@ -1,14 +1,13 @@
 //! Where in the text of a function its registers have values that are wanted.
 use crate::intervals::positions::{Range, right_after, right_before};
-use crate::intervals::reads::{Reads, jump_reads, line_reads, register_of};
 use crate::intervals::starts::Starts;
 use crate::intervals::text::{Stretch, Text};
+use cfg_live::reads::{Reads, jump_reads, line_reads, register_of};
 use cfg_live::uses::line_writes;
 use smallvec::SmallVec;
 use std::alloc::{AllocError, Global};
 use vcode::code::Code;
 use vcode::line::Line;
-use vcode::place::Destination;
 
 /// The ranges in which a register is live, or was just written, in the order of the text, and apart; one range of all positions where it is taken to have a value
 /// throughout.
@@ -19,10 +18,8 @@ pub(crate) struct LiveInterval {
 
 /// The ranges of a register, in the order of the text.
 pub(crate) fn ranges_of(intervals: &[LiveInterval], register: u32) -> &[Range] {
-    match intervals.get(register as usize) {
-        Some(interval) => interval.ranges.as_slice(),
-        None => &[],
-    }
+    let interval = intervals.get(register as usize);
+    interval.map_or(&[], |interval| interval.ranges.as_slice())
 }
 
 /// The last range goes on up to there.
@@ -32,17 +29,14 @@ fn reach(ranges: &mut SmallVec<Range, 2, Global>, at: usize) {
     }
 }
 
-/// Whether a position is in a range, or opens the block right behind it.
-fn joins(range: Option<&Range>, at: usize) -> bool {
-    match range {
-        Some(range) => at <= range.end || (at % 2 == 0 && at == range.end.saturating_add(1)),
-        None => false,
-    }
+/// Whether a position is in the range, or opens the block right behind it.
+fn joins(range: &Range, at: usize) -> bool {
+    at <= range.end || (at % 2 == 0 && at == range.end.saturating_add(1))
 }
 
 /// A range begins there, or the last one goes on up to there.
 fn begin(ranges: &mut SmallVec<Range, 2, Global>, at: usize) -> Result<(), AllocError> {
-    if joins(ranges.as_slice().last(), at) {
+    if ranges.as_slice().last().is_some_and(|last| joins(last, at)) {
         reach(ranges, at);
         return Ok(());
     }
@@ -65,17 +59,6 @@ fn reach_at(intervals: &mut [LiveInterval], register: u32, at: usize) {
     }
 }
 
-/// Parameters are live where the code begins.
-fn begin_params(
-    intervals: &mut [LiveInterval],
-    params: &[Destination<u32>],
-) -> Result<(), AllocError> {
-    for param in params {
-        begin_at(intervals, param.place, right_before(0))?;
-    }
-    Ok(())
-}
-
 /// The registers are live where a block with that first point begins.
 fn begin_all(
     intervals: &mut [LiveInterval],
@@ -88,17 +71,12 @@ fn begin_all(
     Ok(())
 }
 
-/// The registers are live up to there.
-fn reach_all(intervals: &mut [LiveInterval], registers: &[u32], at: usize) {
-    for register in registers {
-        reach_at(intervals, *register, at);
-    }
-}
-
 /// What is live where the target begins is live up to there.
 fn reach_target(intervals: &mut [LiveInterval], starts: &Starts, target: Option<usize>, at: usize) {
     if let Some(block) = target {
-        reach_all(intervals, starts.of(block), at);
+        for register in starts.of(block) {
+            reach_at(intervals, *register, at);
+        }
     }
 }
 
@@ -126,20 +104,7 @@ fn reach_jump(intervals: &mut [LiveInterval], starts: &Starts, stretch: Stretch,
     reach_target(intervals, starts, stretch.other, end);
 }
 
-/// What the line at a point reads is live up to there, and what it writes from there on.
-fn use_line(
-    intervals: &mut [LiveInterval],
-    line: &Line<u32>,
-    point: usize,
-) -> Result<(), AllocError> {
-    reach_reads(intervals, line_reads(line), right_before(point));
-    match line_writes(line) {
-        Some(register) => begin_at(intervals, register, right_after(point)),
-        None => Ok(()),
-    }
-}
-
-/// Goes through the lines of a block, the first of which has the given point.
+/// What the lines of a block read is live up to them, and what they write from there on; the first of them has the given point.
 fn use_lines(
     intervals: &mut [LiveInterval],
     lines: &[Line<u32>],
@@ -147,12 +112,12 @@ fn use_lines(
 ) -> Result<(), AllocError> {
     let mut point = first;
     for line in lines {
-        match line {
-            Line::Tick { .. } => {}
-            _ => {
-                use_line(intervals, line, point)?;
-                point = point.saturating_add(1);
+        if !matches!(line, Line::Tick { .. }) {
+            reach_reads(intervals, line_reads(line), right_before(point));
+            if let Some(register) = line_writes(line) {
+                begin_at(intervals, register, right_after(point))?;
             }
+            point = point.saturating_add(1);
         }
     }
     Ok(())
@@ -165,7 +130,6 @@ fn use_code(
     starts: &Starts,
     text: &Text,
 ) -> Result<(), AllocError> {
-    begin_params(intervals, code.params.as_slice())?;
     for (number, block) in code.blocks.as_slice().iter().enumerate() {
         if let Some(stretch) = text.stretch(number) {
             begin_all(intervals, starts.of(number), stretch.first)?;
@@ -197,10 +161,6 @@ fn first_intervals(
 }
 
 /// The live interval of each of so many registers; those of parameters start with the code.
-///
-/// # Errors
-///
-/// Only where memory was refused.
 pub(crate) fn live_intervals(
     alloc: Global,
     registers: u32,
@@ -210,6 +170,9 @@ pub(crate) fn live_intervals(
 ) -> Result<Vec<LiveInterval>, AllocError> {
     let end = right_after(text.points().saturating_sub(1));
     let mut intervals = first_intervals(alloc, registers, starts, end)?;
+    for param in code.params.as_slice() {
+        begin_at(intervals.as_mut_slice(), param.place, right_before(0))?;
+    }
     use_code(intervals.as_mut_slice(), code, starts, text)?;
     Ok(intervals)
 }

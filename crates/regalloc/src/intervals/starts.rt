@@ -4,7 +4,6 @@ use crate::intervals::text::Text;
 use crate::lists::{Rows, set};
 use cfg_live::sets::Live;
 use std::alloc::{AllocError, Global};
-use std::mem;
 use vcode::code::Block;
 
 /// The registers that are live where blocks begin. A register that is live at the starts of too many blocks is named for none of them: it is taken to have a
@@ -22,15 +21,6 @@ pub(crate) struct Starts {
 }
 
 impl Starts {
-    /// No registers at all.
-    pub(crate) fn none(alloc: Global) -> Starts {
-        Starts {
-            list: Vec::new(alloc),
-            rows: Rows::none(alloc),
-            throughout: Vec::new(alloc),
-        }
-    }
-
     /// The registers that are live where the block begins, but for those that have a value throughout.
     pub(crate) fn of(&self, block: usize) -> &[u32] {
         self.rows.of(self.list.as_slice(), block)
@@ -80,24 +70,16 @@ fn nothing_found(alloc: Global, blocks: usize, registers: u32) -> Result<Search,
     })
 }
 
-/// Whether the register is live where the block begins.
-fn is_live(known: Known, block: usize, register: u32) -> bool {
-    match known.text.stretch(block) {
-        Some(stretch) => known.live.holds(stretch.first, register),
-        None => false,
-    }
-}
-
 /// Notes that the register is live where the block begins, if it is and that wasn't found yet.
 fn find(search: &mut Search, known: Known, block: usize, register: u32) -> Result<(), AllocError> {
-    match search.last.get_mut(block) {
-        Some(last) if *last != Some(register) && is_live(known, block, register) => {
-            *last = Some(register);
-            search.starts.push(Start { block, register })?;
-            Ok(())
-        }
-        _ => Ok(()),
+    if let Some(last) = search.last.get_mut(block)
+        && *last != Some(register)
+        && known.text.is_live(known.live, block, register)
+    {
+        *last = Some(register);
+        search.starts.push(Start { block, register })?;
     }
+    Ok(())
 }
 
 /// Finds the register where the blocks begin that it is read in.
@@ -170,11 +152,9 @@ fn find_few(search: &mut Search, known: Known, each: usize) -> Result<(), AllocE
 
 /// How many lines and jumps there are, ticks included.
 pub(crate) fn line_count(blocks: &[Block<u32>]) -> usize {
-    let mut count = 0usize;
-    for block in blocks {
-        count = count.saturating_add(block.lines.len()).saturating_add(1);
-    }
-    count
+    blocks.iter().fold(blocks.len(), |count: usize, block| {
+        count.saturating_add(block.lines.len())
+    })
 }
 
 /// What is found if all registers are live at so many starts of blocks altogether; else each is found at its share of them, or taken to have a value throughout.
@@ -189,62 +169,21 @@ fn searched(alloc: Global, known: Known, most: usize) -> Result<Search, AllocErr
     Ok(search)
 }
 
-/// The rows of so many blocks, with room for these registers.
-fn counted(alloc: Global, found: &[Start], blocks: usize) -> Result<Rows, AllocError> {
-    let mut rows = Rows::empty(alloc, blocks)?;
-    for start in found {
-        rows.count(start.block);
-    }
-    rows.close();
-    Ok(rows)
-}
-
-/// The registers that were found, block by block; none has a value throughout.
-fn by_block(alloc: Global, found: &[Start], blocks: usize) -> Result<Starts, AllocError> {
-    let mut starts = Starts {
-        list: vec![in alloc; 0u32; found.len()]?,
-        rows: counted(alloc, found, blocks)?,
-        throughout: Vec::new(alloc),
-    };
+/// The registers that were found, block by block.
+fn by_block(alloc: Global, search: Search, blocks: usize) -> Result<Starts, AllocError> {
+    let found = search.starts.as_slice();
+    let mut list = vec![in alloc; 0u32; found.len()]?;
+    let mut rows = Rows::for_items(alloc, blocks, found, |start| start.block)?;
     for start in found.iter().rev() {
-        if let Some(place) = starts.rows.place(start.block) {
-            set(starts.list.as_mut_slice(), place, start.register);
+        if let Some(place) = rows.place(start.block) {
+            set(list.as_mut_slice(), place, start.register);
         }
     }
-    Ok(starts)
-}
-
-/// The starts, found back from where registers are read.
-fn starts_by_search(alloc: Global, known: Known, most: usize) -> Result<Starts, AllocError> {
-    let mut found = searched(alloc, known, most)?;
-    let blocks = known.text.stretches.len();
-    let mut starts = by_block(alloc, found.starts.as_slice(), blocks)?;
-    mem::swap(&mut starts.throughout, &mut found.throughout);
-    Ok(starts)
-}
-
-/// Adds the registers that are live at the block's first point.
-fn push_live(
-    list: &mut Vec<u32>,
-    live: &Live,
-    first: usize,
-    registers: u32,
-) -> Result<(), AllocError> {
-    for register in 0..registers {
-        if live.holds(first, register) {
-            list.push(register)?;
-        }
-    }
-    Ok(())
-}
-
-/// Asks for each register at each block.
-fn ask_all(starts: &mut Starts, known: Known) -> Result<(), AllocError> {
-    for stretch in known.text.stretches.iter() {
-        starts.rows.push(starts.list.len())?;
-        push_live(&mut starts.list, known.live, stretch.first, known.registers)?;
-    }
-    starts.rows.push(starts.list.len())
+    Ok(Starts {
+        list,
+        rows,
+        throughout: search.throughout,
+    })
 }
 
 /// The starts, each register asked for at each block.
@@ -254,19 +193,21 @@ fn starts_by_asking(alloc: Global, known: Known) -> Result<Starts, AllocError> {
         rows: Rows::none(alloc),
         throughout: Vec::new(alloc),
     };
-    ask_all(&mut starts, known)?;
+    for stretch in known.text.stretches.iter() {
+        starts.rows.push(starts.list.len())?;
+        let first = stretch.first;
+        let registers = 0..known.registers;
+        starts.list.extend(registers.filter(|register| known.live.holds(first, *register)))?;
+    }
+    starts.rows.push(starts.list.len())?;
     Ok(starts)
 }
 
 /// Which registers are live where the blocks begin. Where no accesses are known each register is asked for at each block.
-///
-/// # Errors
-///
-/// Only where memory was refused.
 pub(crate) fn starts_of(alloc: Global, known: Known, most: usize) -> Result<Starts, AllocError> {
     if known.accesses.are_unknown() {
-        starts_by_asking(alloc, known)
-    } else {
-        starts_by_search(alloc, known, most)
+        return starts_by_asking(alloc, known);
     }
+    let search = searched(alloc, known, most)?;
+    by_block(alloc, search, known.text.stretches.len())
 }

@@ -1,6 +1,7 @@
 //! The blocks of a function: where they stand in its text, how often they run, and which lead to which.
-use flow::depths::frequency;
-use flow::graph::successor;
+use cfg_live::sets::Live;
+use flow::depths::{frequency, loop_depths};
+use flow::graph::{predecessors, successor};
 use il_ast::few::Few;
 use std::alloc::{AllocError, Global};
 use vcode::code::Block;
@@ -40,10 +41,8 @@ impl Text {
 
     /// The blocks that lead to this one.
     pub(crate) fn sources(&self, block: usize) -> &[usize] {
-        match self.sources.get(block) {
-            Some(sources) => sources.as_slice(),
-            None => &[],
-        }
+        let sources = self.sources.get(block);
+        sources.map_or(&[], |sources| sources.as_slice())
     }
 
     /// The number of the block with this point; 0 where there is no such point.
@@ -60,18 +59,19 @@ impl Text {
 
     /// How many points the function has.
     pub(crate) fn points(&self) -> usize {
-        match self.stretches.last() {
-            Some(last) => last.jump.saturating_add(1),
-            None => 0,
-        }
+        let last = self.stretches.last();
+        last.map_or(0, |last| last.jump.saturating_add(1))
     }
 
     /// In how many loops the block lies.
     pub(crate) fn depth(&self, block: usize) -> u32 {
-        match self.stretch(block) {
-            Some(stretch) => stretch.depth,
-            None => 0,
-        }
+        self.stretch(block).map_or(0, |stretch| stretch.depth)
+    }
+
+    /// Whether the register is live where the block begins.
+    pub(crate) fn is_live(&self, live: &Live, block: usize, register: u32) -> bool {
+        let stretch = self.stretch(block);
+        stretch.is_some_and(|stretch| live.holds(stretch.first, register))
     }
 
     /// How often the block runs, where one that lies in no loop runs once.
@@ -82,14 +82,10 @@ impl Text {
 
 /// The point of the jump behind these lines, the first of which has the given point.
 fn jump_point(first: usize, lines: &[Line<u32>]) -> usize {
-    let mut point = first;
-    for line in lines {
-        match line {
-            Line::Tick { .. } => {}
-            _ => point = point.saturating_add(1),
-        }
-    }
-    point
+    let points = lines
+        .iter()
+        .filter(|line| !matches!(line, Line::Tick { .. }));
+    first.saturating_add(points.count())
 }
 
 /// Where the blocks stand in the text, and in how many loops each lies.
@@ -114,17 +110,10 @@ fn stretches(
     Ok(stretches)
 }
 
-/// The blocks, which lie in so many loops each, with those that lead to each of them.
-///
-/// # Errors
-///
-/// Only where memory was refused.
-pub(crate) fn text_of(
-    alloc: Global,
-    blocks: &[Block<u32>],
-    depths: &[u32],
-    sources: Vec<Few<usize>>,
-) -> Result<Text, AllocError> {
-    let stretches = stretches(alloc, blocks, depths)?;
+/// The blocks, with those that lead to each of them.
+pub(crate) fn text_of(alloc: Global, blocks: &[Block<u32>]) -> Result<Text, AllocError> {
+    let sources = predecessors(alloc, blocks)?;
+    let depths = loop_depths(alloc, blocks, sources.as_slice())?;
+    let stretches = stretches(alloc, blocks, depths.as_slice())?;
     Ok(Text { stretches, sources })
 }

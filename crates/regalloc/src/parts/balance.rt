@@ -66,10 +66,10 @@ impl Balance {
 
     /// What saving new values costs.
     fn stores(&self) -> u64 {
-        if !self.has_new {
-            0
-        } else {
+        if self.has_new {
             self.eager.min(self.lazy)
+        } else {
+            0
         }
     }
 
@@ -81,11 +81,7 @@ impl Balance {
 
     /// What it saves besides, in the register of that argument.
     pub(crate) fn through(&self, argument: usize) -> u64 {
-        if argument < ARGUMENTS {
-            self.through[argument]
-        } else {
-            0
-        }
+        self.through.get(argument).copied().unwrap_or(0)
     }
 
     /// What is left of the gain, in the register of that argument.
@@ -95,10 +91,7 @@ impl Balance {
 
     /// What is left of it in the register that saves most.
     pub(crate) fn best(&self) -> u64 {
-        let mut most = 0u64;
-        for through in self.through {
-            most = most.max(through);
-        }
+        let most = self.through.iter().copied().max().unwrap_or(0);
         self.left_of(self.gain.saturating_add(most))
     }
 

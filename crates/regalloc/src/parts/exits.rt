@@ -19,27 +19,20 @@ pub(crate) fn outside(view: View, nodes: &Nodes, leader: usize, block: usize) ->
 
 /// Whether the value comes to the part from the blocks that lead to its block, which costs no more than to load it there.
 fn is_entered(view: View, nodes: &Nodes, leader: usize, node: &Node) -> bool {
-    match outside(view, nodes, leader, node.block) {
-        Some(often) => node.enters && often <= view.text.often(node.block),
-        None => false,
-    }
-}
-
-/// Notes whether the value comes to the part from blocks before.
-fn enter(view: View, nodes: &mut Nodes, member: Member) {
-    let is_entered = match nodes.node(member.node) {
-        Some(node) => is_entered(view, nodes, member.leader, &node),
-        None => false,
-    };
-    if let Some(node) = nodes.list.get_mut(member.node) {
-        node.is_entered = is_entered;
-    }
+    node.enters
+        && outside(view, nodes, leader, node.block).is_some_and(|often| often
+            <= view.text.often(node.block))
 }
 
 /// Notes to which parts of the region the value comes from blocks before.
 pub(crate) fn enter_all(view: View, nodes: &mut Nodes, members: &[Member]) {
     for member in members {
-        enter(view, nodes, *member);
+        let node = nodes.node(member.node);
+        let leader = member.leader;
+        let is_entered = node.is_some_and(|node| is_entered(view, nodes, leader, &node));
+        if let Some(node) = nodes.list.get_mut(member.node) {
+            node.is_entered = is_entered;
+        }
     }
 }
 
@@ -54,10 +47,8 @@ fn member_at(view: View, nodes: &Nodes, leader: usize, number: Option<usize>) ->
 
 /// Whether the value comes to the block in the register of the machine.
 fn is_met(view: View, nodes: &Nodes, leader: usize, block: usize) -> bool {
-    match member_at(view, nodes, leader, nodes.entering(block)) {
-        Some(node) => node.is_entered,
-        None => false,
-    }
+    let node = member_at(view, nodes, leader, nodes.entering(block));
+    node.is_some_and(|node| node.is_entered)
 }
 
 /// How the value leaves a block for another.
@@ -85,23 +76,14 @@ impl Exit {
 
 /// Whether the block ends with the value in the register of the machine.
 fn is_brought(view: View, nodes: &Nodes, leader: usize, block: usize) -> bool {
-    match member_at(view, nodes, leader, nodes.leaving(block)) {
-        Some(node) => node.is_entered || !node.is_passed(),
-        None => false,
-    }
+    let node = member_at(view, nodes, leader, nodes.leaving(block));
+    node.is_some_and(|node| node.is_entered || !node.is_passed())
 }
 
 /// Whether all blocks that lead to this one end with the value in the register of the machine.
 fn is_left_for(view: View, nodes: &Nodes, leader: usize, block: usize) -> bool {
-    if block == 0 {
-        return false;
-    }
-    for source in view.text.sources(block) {
-        if !is_brought(view, nodes, leader, *source) {
-            return false;
-        }
-    }
-    true
+    let mut sources = view.text.sources(block).iter();
+    block != 0 && sources.all(|source| is_brought(view, nodes, leader, *source))
 }
 
 /// How the value leaves a block for the target.
@@ -158,16 +140,11 @@ pub(crate) fn exits(view: View, nodes: &Nodes, leader: usize, node: &Node) -> [E
     }
 }
 
-/// Whether the value stays in the register of the machine up to the end of the block, for this exit.
-fn stays(exit: Exit, is_saved: bool) -> bool {
-    match exit {
+/// Whether the value stays in the register of the machine up to the end of the block, for one of these exits.
+pub(crate) fn is_held(exits: [Exit; 2], is_saved: bool) -> bool {
+    exits.iter().any(|exit| match exit {
         Exit::Met => true,
         Exit::Landing => !is_saved,
         Exit::Gone | Exit::Slot => false,
-    }
-}
-
-/// Whether the value stays in the register of the machine up to the end of the block, for one of these exits.
-pub(crate) fn is_held(exits: [Exit; 2], is_saved: bool) -> bool {
-    stays(exits[0], is_saved) || stays(exits[1], is_saved)
+    })
 }

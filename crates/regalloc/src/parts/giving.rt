@@ -1,21 +1,8 @@
 //! Gives a region a register of the machine.
-use crate::parts::exits::{Exit, exits, is_held};
+use crate::parts::exits::{exits, is_held};
 use crate::parts::nodes::Nodes;
 use crate::parts::regions::{Member, View};
 use std::alloc::AllocError;
-
-/// Notes the block behind the exit, if the value comes there to be saved.
-fn land(
-    nodes: &mut Nodes,
-    exit: Exit,
-    block: Option<usize>,
-    room: usize,
-) -> Result<(), AllocError> {
-    match exit.landing(block) {
-        Some(block) => nodes.land(block, room),
-        None => Ok(()),
-    }
-}
 
 /// Gives a part of the region the register of the machine.
 fn give_one(
@@ -36,20 +23,20 @@ fn give_one(
             at.room = Some(room);
         }
     }
-    match view.text.stretch(node.block) {
-        Some(stretch) if !is_saved => {
-            land(nodes, exits[0], stretch.next, room)?;
-            land(nodes, exits[1], stretch.other, room)
+    if !is_saved && let Some(stretch) = view.text.stretch(node.block) {
+        for to in [
+            exits[0].landing(stretch.next),
+            exits[1].landing(stretch.other),
+        ] {
+            if let Some(block) = to {
+                nodes.land(block, room)?;
+            }
         }
-        _ => Ok(()),
     }
+    Ok(())
 }
 
 /// Gives the region a register of the machine.
-///
-/// # Errors
-///
-/// Only where memory was refused.
 pub(crate) fn give(
     view: View,
     nodes: &mut Nodes,

@@ -1,21 +1,9 @@
 //! The positions at which the register of the machine that a region stands in must be free.
 use crate::intervals::positions::{Range, right_after, right_before};
-use crate::intervals::text::Text;
-use crate::parts::exits::{Exit, exits, is_held};
+use crate::parts::exits::{exits, is_held};
 use crate::parts::nodes::{Node, Nodes};
 use crate::parts::regions::{Member, View};
 use std::alloc::{AllocError, Global};
-
-/// Adds the positions at the end of the block.
-fn push_jump(ranges: &mut Vec<Range>, text: &Text, block: usize) -> Result<(), AllocError> {
-    if let Some(stretch) = text.stretch(block) {
-        ranges.push(Range {
-            start: right_before(stretch.jump),
-            end: right_after(stretch.jump),
-        })?;
-    }
-    Ok(())
-}
 
 /// Adds the ends of the blocks that the value is loaded in.
 fn push_outside(
@@ -26,24 +14,13 @@ fn push_outside(
     block: usize,
 ) -> Result<(), AllocError> {
     for source in view.text.sources(block) {
-        if !view.is_inside(nodes.leaving(*source), leader) {
-            push_jump(ranges, view.text, *source)?;
-        }
-    }
-    Ok(())
-}
-
-/// Adds the position where the value comes to a block to be saved there, if this is the exit to it.
-fn push_landing(
-    ranges: &mut Vec<Range>,
-    view: View,
-    exit: Exit,
-    block: Option<usize>,
-) -> Result<(), AllocError> {
-    if let Some(block) = exit.landing(block) {
-        if let Some(stretch) = view.text.stretch(block) {
-            let at = right_before(stretch.first);
-            ranges.push(Range { start: at, end: at })?;
+        if !view.is_inside(nodes.leaving(*source), leader)
+            && let Some(stretch) = view.text.stretch(*source)
+        {
+            ranges.push(Range {
+                start: right_before(stretch.jump),
+                end: right_after(stretch.jump),
+            })?;
         }
     }
     Ok(())
@@ -87,20 +64,23 @@ fn push_ranges(
     if node.is_entered {
         push_outside(ranges, view, nodes, member.leader, node.block)?;
     }
-    match view.text.stretch(node.block) {
-        Some(stretch) if !is_saved => {
-            push_landing(ranges, view, exits[0], stretch.next)?;
-            push_landing(ranges, view, exits[1], stretch.other)
+    if !is_saved && let Some(stretch) = view.text.stretch(node.block) {
+        for to in [
+            exits[0].landing(stretch.next),
+            exits[1].landing(stretch.other),
+        ] {
+            if let Some(block) = to
+                && let Some(landing) = view.text.stretch(block)
+            {
+                let at = right_before(landing.first);
+                ranges.push(Range { start: at, end: at })?;
+            }
         }
-        _ => Ok(()),
     }
+    Ok(())
 }
 
 /// The positions at which the register of the machine must be free.
-///
-/// # Errors
-///
-/// Only where memory was refused.
 pub(crate) fn ranges(
     alloc: Global,
     view: View,

@@ -90,10 +90,9 @@ impl Nodes {
         if self.entering.len() < blocks {
             self.entering.resize(blocks, None)?;
             self.leaving.resize(blocks, None)?;
-            self.landing.resize(blocks, None)
-        } else {
-            Ok(())
+            self.landing.resize(blocks, None)?;
         }
+        Ok(())
     }
 
     /// Forgets the landings.
@@ -115,10 +114,6 @@ impl Nodes {
     }
 
     /// The parts of this register, which has these accesses, in place of those that there were.
-    ///
-    /// # Errors
-    ///
-    /// Only where memory was refused.
     pub(crate) fn fill(
         &mut self,
         alloc: Global,
@@ -133,21 +128,14 @@ impl Nodes {
             calls: facts.demands.calls.as_slice(),
             accesses,
         };
-        push_ranges(
-            outline,
-            self,
-            ranges_of(facts.intervals.as_slice(), register),
-        )?;
+        let ranges = ranges_of(facts.intervals.as_slice(), register);
+        push_ranges(outline, self, ranges)?;
         let wanted = wanted(alloc, &facts.text, self)?;
         self.drop_unwanted(wanted.as_slice());
         Ok(())
     }
 
     /// Puts a part behind the others.
-    ///
-    /// # Errors
-    ///
-    /// Only where memory was refused.
     pub(crate) fn push(&mut self, node: Node) -> Result<(), AllocError> {
         let number = self.list.len();
         if node.enters {
@@ -183,10 +171,6 @@ impl Nodes {
     }
 
     /// The value comes to the block in this register of the machine, to be saved there.
-    ///
-    /// # Errors
-    ///
-    /// Only where memory was refused.
     pub(crate) fn land(&mut self, block: usize, room: usize) -> Result<(), AllocError> {
         let is_new = self.landing(block).is_none();
         set(self.landing.as_mut_slice(), block, Some(room));

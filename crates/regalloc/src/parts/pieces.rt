@@ -71,32 +71,28 @@ fn next_part(
     number: usize,
     access: &Access,
 ) -> Result<Node, AllocError> {
-    match last {
-        Some(node) => {
-            let at = access.position();
-            if at / 2 == node.to / 2 || !is_cut(outline, node.to, at) {
-                return Ok(Node {
-                    end: number.saturating_add(1),
-                    to: at,
-                    ..node
-                });
-            }
-            nodes.push(Node {
-                goes_on: true,
-                ..node
-            })?;
-            Ok(node_from(piece, number, access))
-        }
-        None => {
-            let begins = access.kind != Kind::Entry
-                && piece.enters
-                && !is_cut(outline, piece.range.start, access.position());
-            Ok(Node {
-                enters: begins,
-                ..node_from(piece, number, access)
-            })
-        }
+    let at = access.position();
+    let Some(node) = last else {
+        let begins = access.kind != Kind::Entry
+            && piece.enters
+            && !is_cut(outline, piece.range.start, at);
+        return Ok(Node {
+            enters: begins,
+            ..node_from(piece, number, access)
+        });
+    };
+    if at / 2 == node.to / 2 || !is_cut(outline, node.to, at) {
+        return Ok(Node {
+            end: number.saturating_add(1),
+            to: at,
+            ..node
+        });
     }
+    nodes.push(Node {
+        goes_on: true,
+        ..node
+    })?;
+    Ok(node_from(piece, number, access))
 }
 
 /// Adds the last part of the piece, or that of a block that the register passes through.
@@ -107,28 +103,20 @@ fn close(
     piece: Piece,
     number: usize,
 ) -> Result<(), AllocError> {
+    let from = last.map_or(piece.range.start, |node| node.to);
+    let leaves = piece.leaves && !is_cut(outline, from, piece.range.end);
     match last {
-        Some(node) => {
-            let leaves = piece.leaves && !is_cut(outline, node.to, piece.range.end);
-            nodes.push(Node {
-                leaves,
-                goes_on: piece.leaves && !leaves,
-                ..node
-            })
-        }
-        None => {
-            let passes = piece.enters
-                && piece.leaves
-                && !is_cut(outline, piece.range.start, piece.range.end);
-            if !passes {
-                return Ok(());
-            }
-            nodes.push(Node {
-                enters: true,
-                leaves: true,
-                ..empty_node(piece, number)
-            })
-        }
+        Some(node) => nodes.push(Node {
+            leaves,
+            goes_on: piece.leaves && !leaves,
+            ..node
+        }),
+        None if piece.enters && leaves => nodes.push(Node {
+            enters: true,
+            leaves: true,
+            ..empty_node(piece, number)
+        }),
+        None => Ok(()),
     }
 }
 
@@ -145,8 +133,7 @@ fn push_piece(
         if piece.range.end < access.position() {
             break;
         }
-        let node = next_part(outline, nodes, last, piece, number, access)?;
-        last = Some(node);
+        last = Some(next_part(outline, nodes, last, piece, number, access)?);
         number = number.saturating_add(1);
     }
     close(outline, nodes, last, piece, number)?;
@@ -198,29 +185,19 @@ pub(crate) fn push_ranges(
     nodes: &mut Nodes,
     ranges: &[Range],
 ) -> Result<(), AllocError> {
+    let Some(first) = ranges.first() else {
+        return Ok(());
+    };
     let mut number = 0usize;
-    let mut open: Option<Range> = None;
-    for range in ranges {
-        open = match open {
-            Some(last) => {
-                if are_joined(last, *range) {
-                    Some(Range {
-                        start: last.start,
-                        end: range.end,
-                    })
-                } else {
-                    number = push_range(outline, nodes, last, number)?;
-                    Some(*range)
-                }
-            }
-            None => Some(*range),
-        };
-    }
-    match open {
-        Some(last) => {
-            push_range(outline, nodes, last, number)?;
-            Ok(())
+    let mut open = *first;
+    for range in rest(ranges, 1) {
+        if are_joined(open, *range) {
+            open.end = range.end;
+        } else {
+            number = push_range(outline, nodes, open, number)?;
+            open = *range;
         }
-        None => Ok(()),
     }
+    push_range(outline, nodes, open, number)?;
+    Ok(())
 }

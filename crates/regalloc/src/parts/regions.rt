@@ -1,7 +1,7 @@
 //! Parts of a register's live interval that one register of the machine may serve together, and what that saves.
 use crate::intervals::accesses::Access;
 use crate::intervals::text::Text;
-use crate::lists::{part, rest, set};
+use crate::lists::{part, set};
 use crate::parts::nodes::{Node, Nodes};
 use cfg_live::sets::Live;
 use std::alloc::{AllocError, Global};
@@ -37,10 +37,7 @@ fn is_eligible(text: &Text, node: &Node, reach: Reach) -> bool {
         return false;
     }
     match reach {
-        Reach::Loops(depth) => match text.stretch(node.block) {
-            Some(stretch) => depth <= stretch.depth,
-            None => false,
-        },
+        Reach::Loops(depth) => depth <= text.depth(node.block),
         Reach::Accessed | Reach::Alone => !node.is_passed(),
     }
 }
@@ -62,31 +59,25 @@ fn leader_of(leaders: &mut [Option<usize>], number: usize) -> Option<usize> {
 
 /// Joins the regions of two parts; the first part of both names it.
 fn join(leaders: &mut [Option<usize>], left: usize, right: usize) {
-    match (leader_of(leaders, left), leader_of(leaders, right)) {
-        (Some(left), Some(right)) => {
-            let first = left.min(right);
-            set(leaders, left.max(right), Some(first));
-        }
-        _ => {}
-    }
-}
-
-/// Joins the part's region with that of the part that the block begins with.
-fn join_next(leaders: &mut [Option<usize>], nodes: &Nodes, number: usize, block: Option<usize>) {
-    if let Some(block) = block {
-        if let Some(next) = nodes.entering(block) {
-            join(leaders, number, next);
-        }
+    if let Some(left) = leader_of(leaders, left)
+        && let Some(right) = leader_of(leaders, right)
+    {
+        set(leaders, left.max(right), Some(left.min(right)));
     }
 }
 
 /// Joins the regions of parts that lead to one another.
 fn join_all(leaders: &mut [Option<usize>], text: &Text, nodes: &Nodes) {
     for (number, node) in nodes.list.iter().enumerate() {
-        if node.leaves {
-            if let Some(stretch) = text.stretch(node.block) {
-                join_next(leaders, nodes, number, stretch.next);
-                join_next(leaders, nodes, number, stretch.other);
+        if node.leaves
+            && let Some(stretch) = text.stretch(node.block)
+        {
+            for to in [stretch.next, stretch.other] {
+                if let Some(block) = to
+                    && let Some(next) = nodes.entering(block)
+                {
+                    join(leaders, number, next);
+                }
             }
         }
     }
@@ -101,29 +92,19 @@ fn settle(leaders: &mut [Option<usize>]) {
 }
 
 /// For each part the one that names its region.
-///
-/// # Errors
-///
-/// Only where memory was refused.
 pub(crate) fn leaders(
     alloc: Global,
     text: &Text,
     nodes: &Nodes,
     reach: Reach,
 ) -> Result<Vec<Option<usize>>, AllocError> {
-    let mut leaders = vec![in alloc; None; nodes.list.len()]?;
-    for (number, leader) in leaders.iter_mut().enumerate() {
-        match nodes.list.get(number) {
-            Some(node) if is_eligible(text, node, reach) => *leader = Some(number),
-            _ => {}
-        }
-    }
-    match reach {
-        Reach::Loops(_) | Reach::Accessed => {
-            join_all(leaders.as_mut_slice(), text, nodes);
-            settle(leaders.as_mut_slice());
-        }
-        Reach::Alone => {}
+    let own = nodes.list.iter().enumerate().map(|(number, node)| {
+        is_eligible(text, node, reach).then_some(number)
+    });
+    let mut leaders: Vec<Option<usize>> = own.collect(alloc)?;
+    if !matches!(reach, Reach::Alone) {
+        join_all(leaders.as_mut_slice(), text, nodes);
+        settle(leaders.as_mut_slice());
     }
     Ok(leaders)
 }
@@ -136,10 +117,6 @@ pub(crate) struct Member {
 }
 
 /// The members of all regions, those of a region together.
-///
-/// # Errors
-///
-/// Only where memory was refused.
 pub(crate) fn members(alloc: Global, leaders: &[Option<usize>]) -> Result<Vec<Member>, AllocError> {
     let mut members = Vec::new(alloc);
     for (node, leader) in leaders.iter().enumerate() {
@@ -154,37 +131,15 @@ pub(crate) fn members(alloc: Global, leaders: &[Option<usize>]) -> Result<Vec<Me
     Ok(members)
 }
 
-/// The members of the region that begins with the member of that number; none where there is no such member.
-pub(crate) fn region_from(members: &[Member], first: usize) -> &[Member] {
-    let from = rest(members, first);
-    let Some(leading) = from.first() else {
-        return &[];
-    };
-    let mut count = 0usize;
-    for member in from {
-        if member.leader != leading.leader {
-            break;
-        }
-        count = count.saturating_add(1);
-    }
-    part(from, 0, count)
-}
-
 impl<'a> View<'a> {
     /// Whether that part goes with the region.
     pub(crate) fn is_inside(&self, number: Option<usize>, leader: usize) -> bool {
-        match number {
-            Some(number) => self.leaders.get(number).copied().flatten() == Some(leader),
-            None => false,
-        }
+        number.is_some_and(|number| { self.leaders.get(number).copied().flatten() == Some(leader) })
     }
 
     /// Whether the register is live where the block begins.
     pub(crate) fn is_wanted(&self, block: usize) -> bool {
-        match self.text.stretch(block) {
-            Some(stretch) => self.live.holds(stretch.first, self.register),
-            None => false,
-        }
+        self.text.is_live(self.live, block, self.register)
     }
 
     /// The accesses of a part.

@@ -26,22 +26,15 @@ fn gains(accesses: &[Access], save: u64) -> Balance {
     balance
 }
 
-/// Whether the part begins with a read of the value.
-pub(crate) fn reads_first(accesses: &[Access]) -> bool {
-    match accesses.first() {
-        Some(access) => access.kind == Kind::Read,
-        None => false,
-    }
-}
-
 /// What it costs to load the value for the part, where a move in its block costs `once`.
 fn loads(view: View, nodes: &Nodes, leader: usize, node: &Node, once: u64) -> u64 {
     if node.is_entered {
-        match outside(view, nodes, leader, node.block) {
-            Some(often) => often.saturating_mul(2),
-            None => 0,
-        }
-    } else if node.is_passed() || reads_first(view.accesses_of(node)) {
+        let often = outside(view, nodes, leader, node.block);
+        return often.map_or(0, |often| often.saturating_mul(2));
+    }
+    let first = view.accesses_of(node).first();
+    let reads_first = first.is_some_and(|access| access.kind == Kind::Read);
+    if node.is_passed() || reads_first {
         once
     } else {
         0
@@ -50,22 +43,17 @@ fn loads(view: View, nodes: &Nodes, leader: usize, node: &Node, once: u64) -> u6
 
 /// What it costs to save the value in the block behind the exit, if it is saved there.
 fn landing_cost(view: View, exit: Exit, block: Option<usize>) -> u64 {
-    match exit.landing(block) {
-        Some(block) => view.text.often(block).saturating_mul(2),
-        None => 0,
-    }
+    let landing = exit.landing(block);
+    landing.map_or(0, |block| view.text.often(block).saturating_mul(2))
 }
 
 /// What it costs to save the value in the blocks behind both exits.
 fn landing_costs(view: View, exits: [Exit; 2], node: &Node) -> u64 {
-    match view.text.stretch(node.block) {
-        Some(stretch) => landing_cost(view, exits[0], stretch.next).saturating_add(landing_cost(
-            view,
-            exits[1],
-            stretch.other,
-        )),
-        None => 0,
-    }
+    let Some(stretch) = view.text.stretch(node.block) else {
+        return 0;
+    };
+    let next = landing_cost(view, exits[0], stretch.next);
+    next.saturating_add(landing_cost(view, exits[1], stretch.other))
 }
 
 /// What one part of the region saves and costs.
@@ -87,9 +75,9 @@ fn member_balance(view: View, nodes: &Nodes, member: Member) -> Balance {
 
 /// What the region saves and costs, after `enter_all`.
 pub(crate) fn balance_of(view: View, nodes: &Nodes, members: &[Member]) -> Balance {
-    let mut all = Balance::none();
-    for member in members {
-        all = all.joined(member_balance(view, nodes, *member));
-    }
-    all
+    members
+        .iter()
+        .fold(Balance::none(), |all: Balance, member| {
+            all.joined(member_balance(view, nodes, *member))
+        })
 }

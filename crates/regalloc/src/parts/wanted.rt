@@ -8,11 +8,8 @@ use std::alloc::{AllocError, Global};
 fn new_passed(nodes: &Nodes, wanted: &[bool], block: usize) -> Option<usize> {
     let number = nodes.leaving(block)?;
     let node = nodes.node(number)?;
-    if node.is_passed() && wanted.get(number) == Some(&false) {
-        Some(number)
-    } else {
-        None
-    }
+    let is_new = node.is_passed() && wanted.get(number) == Some(&false);
+    is_new.then_some(number)
 }
 
 /// Marks the parts that lead to this block as wanted, and opens their blocks.
@@ -56,10 +53,6 @@ fn want_all(
 }
 
 /// Of each part whether it is accessed, or an access is reached from it through passed parts alone.
-///
-/// # Errors
-///
-/// Only where memory was refused.
 pub(crate) fn wanted(alloc: Global, text: &Text, nodes: &Nodes) -> Result<Vec<bool>, AllocError> {
     let mut wanted = vec![in alloc; false; nodes.list.len()]?;
     want_all(alloc, text, nodes, wanted.as_mut_slice())?;

@@ -38,60 +38,36 @@ pub(crate) struct Candidate {
     pub(crate) hint: Option<u8>,
 }
 
-/// What all of these registers are used for.
-fn joined_demand(demands: &Demands, members: &[u32]) -> Demand {
-    let mut all = Demand::none();
-    for register in members {
-        all = all.joined(demands.of(*register));
-    }
-    all
-}
-
 /// How many positions there are in the ranges, or a few less.
 fn length(ranges: &[Range]) -> usize {
-    let mut length = 1usize;
-    for range in ranges {
-        length = length.saturating_add(range.end.saturating_sub(range.start));
-    }
-    length
-}
-
-/// Whether one of the ranges is over a call.
-fn are_over_call(calls: &[usize], ranges: &[Range]) -> bool {
-    for range in ranges {
-        if is_over_call(calls, *range) {
-            return true;
-        }
-    }
-    false
+    ranges.iter().fold(1usize, |length: usize, range| {
+        length.saturating_add(range.end.saturating_sub(range.start))
+    })
 }
 
 /// The candidate for the group of that number.
 fn candidate_of(group: &Group, ranges: &[Range], number: usize, demands: &Demands) -> Candidate {
-    let demand = joined_demand(demands, group.members.as_slice());
+    let calls = demands.calls.as_slice();
+    let mut demand = Demand::none();
+    for register in group.members.as_slice() {
+        demand = demand.joined(demands.of(*register));
+    }
     let length = length(ranges) as u64;
     Candidate {
         priority: demand.weight.saturating_mul(1024) / length.max(1),
         weight: demand.weight,
         group: number,
-        over_call: are_over_call(demands.calls.as_slice(), ranges),
+        over_call: ranges.iter().any(|range| is_over_call(calls, *range)),
         hint: demand.hint.wanted(),
     }
 }
 
 /// Whether the list has a slot for the register, and no register of the machine yet.
 pub(crate) fn is_unplaced(list: &[Location], register: u32) -> bool {
-    match list.get(register as usize) {
-        Some(Location::Slot(_)) => true,
-        _ => false,
-    }
+    matches!(list.get(register as usize), Some(Location::Slot(_)))
 }
 
 /// The groups that have values somewhere, the most urgent first.
-///
-/// # Errors
-///
-/// Only where memory was refused.
 pub(crate) fn candidates(
     alloc: Global,
     groups: &[Group],
@@ -114,14 +90,10 @@ pub(crate) fn candidates(
 
 /// Whether some register that has values has no register of the machine yet.
 pub(crate) fn is_left_over(list: &[Location], facts: &Facts) -> bool {
-    for (register, interval) in facts.intervals.iter().enumerate() {
-        if let Some(Location::Slot(_)) = list.get(register) {
-            if interval.ranges.len() > 0 {
-                return true;
-            }
-        }
-    }
-    false
+    let mut places = list.iter().zip(facts.intervals.iter());
+    places.any(|(place, interval)| {
+        matches!(place, Location::Slot(_)) && !interval.ranges.is_empty()
+    })
 }
 
 /// Adds a group for each of the registers that has no register of the machine yet, but for those that have values throughout.
@@ -141,10 +113,6 @@ fn push_singles(
 }
 
 /// A group for each register that has no register of the machine yet, but for those that have values throughout.
-///
-/// # Errors
-///
-/// Only where memory was refused.
 pub(crate) fn singles(
     alloc: Global,
     groups: &[Group],
@@ -161,24 +129,14 @@ pub(crate) fn singles(
 
 /// What the registers that have no register of the machine yet are used for; none where all have one.
 fn left_over(list: &[Location], demands: &Demands, members: &[u32]) -> Option<Demand> {
-    let mut all: Option<Demand> = None;
-    for register in members {
-        if is_unplaced(list, *register) {
-            let demand = demands.of(*register);
-            all = match all {
-                Some(other) => Some(other.joined(demand)),
-                None => Some(demand),
-            };
-        }
-    }
-    all
+    members
+        .iter()
+        .filter(|register| is_unplaced(list, **register))
+        .map(|register| demands.of(*register))
+        .reduce(|all, demand| all.joined(demand))
 }
 
 /// The groups of which some register has no register of the machine.
-///
-/// # Errors
-///
-/// Only where memory was refused.
 pub(crate) fn wishes(
     alloc: Global,
     groups: &[Group],

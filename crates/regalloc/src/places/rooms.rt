@@ -48,10 +48,6 @@ fn mask(range: Range, k: usize) -> u64 {
 
 impl Rooms {
     /// Registers that are free at all positions of so many points.
-    ///
-    /// # Errors
-    ///
-    /// Only where memory was refused.
     pub(crate) fn new(alloc: Global, points: usize) -> Result<Rooms, AllocError> {
         let words = points.saturating_mul(2) / 64;
         Ok(Rooms {
@@ -72,73 +68,52 @@ impl Rooms {
         match w.checked_sub(1) {
             Some(w) if w < self.words => self.more.get(self.behind(k, w)).copied(),
             Some(_) => None,
-            None => { if k < ROOMS { Some(self.first[k]) } else { None } }
+            None => self.first.get(k).copied(),
         }
     }
 
-    /// Takes some of the w-th 64 positions of the k-th register, if there are that many.
-    fn add(&mut self, k: usize, w: usize, positions: u64) {
+    /// The w-th 64 positions of the k-th register, to take some of them.
+    fn word_mut(&mut self, k: usize, w: usize) -> Option<&mut u64> {
         match w.checked_sub(1) {
-            Some(w) => {
-                if w < self.words {
-                    let at = self.behind(k, w);
-                    if let Some(word) = self.more.get_mut(at) {
-                        *word |= positions;
-                    }
-                }
+            Some(w) if w < self.words => {
+                let at = self.behind(k, w);
+                self.more.get_mut(at)
             }
-            None => {
-                if k < ROOMS {
-                    self.first[k] |= positions;
-                }
-            }
+            Some(_) => None,
+            None => self.first.get_mut(k),
         }
     }
 
     /// Whether the k-th register is free at all positions of the range.
     fn is_free_at(&self, k: usize, range: Range) -> bool {
-        for w in range.start / 64..range.end / 64 + 1 {
-            match self.word(k, w) {
-                Some(word) => {
-                    if word & mask(range, w) != 0 {
-                        return false;
-                    }
-                }
-                None => return false,
-            }
-        }
-        true
+        (range.start / 64..range.end / 64 + 1).all(|w| {
+            self.word(k, w)
+                .is_some_and(|word| word & mask(range, w) == 0)
+        })
     }
 
     /// Takes the k-th register at all positions of the range.
     fn take_at(&mut self, k: usize, range: Range) {
         for w in range.start / 64..range.end / 64 + 1 {
-            self.add(k, w, mask(range, w));
+            if let Some(word) = self.word_mut(k, w) {
+                *word |= mask(range, w);
+            }
         }
     }
 
     /// Whether the k-th register is free at all positions of the ranges.
     pub(crate) fn is_free(&self, k: usize, ranges: &[Range]) -> bool {
-        for range in ranges {
-            if !self.is_free_at(k, *range) {
-                return false;
-            }
-        }
-        true
+        ranges.iter().all(|range| self.is_free_at(k, *range))
     }
 
-    /// The range with some positions more in front of it and behind it.
-    fn widened(&self, range: Range) -> Range {
+    /// Whether the k-th register is free at all positions of the range, and at some more in front of it and behind it.
+    fn is_far(&self, k: usize, range: Range) -> bool {
         let last = self.words.saturating_mul(64).saturating_add(63);
-        Range {
+        let widened = Range {
             start: range.start.saturating_sub(APART),
             end: range.end.saturating_add(APART).min(last),
-        }
-    }
-
-    /// Whether the k-th register is free at all positions of the range, and at those close to it.
-    fn is_far(&self, k: usize, range: Range) -> bool {
-        self.is_free_at(k, self.widened(range))
+        };
+        self.is_free_at(k, widened)
     }
 
     /// Whether some value stands in the k-th register.
@@ -164,17 +139,12 @@ fn may_hold(k: usize, over_call: bool) -> bool {
 
 /// The number of the register of the machine that the list has for the register, if callees needn't keep it.
 pub(crate) fn scratch_room(list: &[Location], register: u32) -> Option<usize> {
-    match list.get(register as usize) {
-        Some(Location::Register(number)) => {
-            let number = usize::from(*number);
-            if 10 <= number {
-                17usize.checked_sub(number)
-            } else if number < 8 {
-                Some(number.saturating_add(3))
-            } else {
-                None
-            }
-        }
+    let Some(Location::Register(number)) = list.get(register as usize) else {
+        return None;
+    };
+    match usize::from(*number) {
+        number if number < 8 => Some(number.saturating_add(3)),
+        number if 10 <= number => 17usize.checked_sub(number),
         _ => None,
     }
 }
@@ -185,33 +155,21 @@ pub(crate) fn free_scratch(
     wishes: &[Option<usize>],
     ranges: &[Range],
 ) -> Option<usize> {
-    for wish in wishes {
-        match wish {
-            Some(k) if *k < SCRATCH && rooms.is_free(*k, ranges) => return Some(*k),
-            _ => {}
-        }
-    }
-    for back in 0..SCRATCH {
-        let k = SCRATCH - 1 - back;
-        if rooms.is_free(k, ranges) {
-            return Some(k);
-        }
-    }
-    None
+    wishes
+        .iter()
+        .find_map(|wish| wish.filter(|k| *k < SCRATCH && rooms.is_free(*k, ranges)))
+        .or_else(|| (0..SCRATCH).rev().find(|k| rooms.is_free(*k, ranges)))
 }
 
 /// The register that saves moves, by the number of its argument; the one behind those of arguments for what is called.
-pub(crate) fn hinted(hint: u8) -> usize {
-    let hint = usize::from(hint);
+pub(crate) fn hinted(hint: usize) -> usize {
     7usize.checked_sub(hint).unwrap_or(hint)
 }
 
 /// The register that the hint names, if it is free.
 fn hinted_room(rooms: &Rooms, hint: Option<u8>, ranges: &[Range]) -> Option<usize> {
-    match hint {
-        Some(hint) if rooms.is_free(hinted(hint), ranges) => Some(hinted(hint)),
-        _ => None,
-    }
+    hint.map(|hint| hinted(usize::from(hint)))
+        .filter(|k| rooms.is_free(*k, ranges))
 }
 
 /// A register that is free.
@@ -236,10 +194,8 @@ fn far_room(rooms: &Rooms, ranges: &[Range]) -> Option<usize> {
 
 /// The first register that is free for the ranges and costs nothing, or else the first one that is free.
 fn free_room(rooms: &Rooms, over_call: bool, ranges: &[Range]) -> Option<Choice> {
-    if !over_call {
-        if let Some(k) = far_room(rooms, ranges) {
-            return Some(Choice::Free(k));
-        }
+    if !over_call && let Some(k) = far_room(rooms, ranges) {
+        return Some(Choice::Free(k));
     }
     let mut unused = None;
     for k in 0..ROOMS {
@@ -274,11 +230,12 @@ fn argument_room(rooms: &Rooms, balance: Balance, ranges: &[Range]) -> Option<us
     for argument in 0..8u8 {
         let number = usize::from(argument);
         let through = balance.through(number);
-        if most < through && 0 < balance.net_in(number) {
-            if let Some(k) = hinted_room(rooms, Some(argument), ranges) {
-                most = through;
-                best = Some(k);
-            }
+        if most < through
+            && 0 < balance.net_in(number)
+            && let Some(k) = hinted_room(rooms, Some(argument), ranges)
+        {
+            most = through;
+            best = Some(k);
         }
     }
     best

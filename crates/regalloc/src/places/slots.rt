@@ -31,41 +31,33 @@ struct Shared {
     slot: usize,
 }
 
-/// Adds the events of a wish for these ranges.
-fn push_events(events: &mut Vec<Event>, wish: usize, ranges: &[Range]) -> Result<(), AllocError> {
-    match (ranges.first(), ranges.last()) {
-        (Some(first), Some(last)) => {
-            let taken = Event {
-                at: first.start,
-                takes: true,
-                wish,
-            };
-            let freed = Event {
-                at: last.end.saturating_add(1),
-                takes: false,
-                wish,
-            };
-            events.push(taken)?;
-            events.push(freed)?;
-            Ok(())
-        }
-        _ => Ok(()),
-    }
-}
-
-/// Adds the events of all wishes, and puts them in order.
-fn push_all_events(
-    events: &mut Vec<Event>,
+/// The events of all wishes, in order.
+fn events_of(
+    alloc: Global,
     groups: &[Group],
     intervals: &[LiveInterval],
     wishes: &[Wish],
-) -> Result<(), AllocError> {
-    for (k, wish) in wishes.iter().enumerate() {
-        if let Some(group) = groups.get(wish.group) {
-            push_events(events, k, group.ranges(intervals))?;
+) -> Result<Vec<Event>, AllocError> {
+    let mut events = Vec::with_capacity(alloc, wishes.len().saturating_mul(2))?;
+    for (wish, wanted) in wishes.iter().enumerate() {
+        if let Some(group) = groups.get(wanted.group)
+            && let Some(first) = group.ranges(intervals).first()
+            && let Some(last) = group.ranges(intervals).last()
+        {
+            events.push(Event {
+                at: first.start,
+                takes: true,
+                wish,
+            })?;
+            events.push(Event {
+                at: last.end.saturating_add(1),
+                takes: false,
+                wish,
+            })?;
         }
     }
-    events.sort()
+    events.sort()?;
+    Ok(events)
 }
 
 /// The slots so far.
@@ -112,41 +104,19 @@ fn follow(
     event: Event,
 ) -> Result<(), AllocError> {
     match (slots.get_mut(event.wish), wishes.get(event.wish)) {
-        (Some(at), Some(wish)) => {
-            if event.takes {
-                stand(sharing, at, *wish)
-            } else {
-                sharing.free.push(*at)?;
-                Ok(())
-            }
+        (Some(at), Some(wish)) if event.takes => stand(sharing, at, *wish),
+        (Some(at), _) => {
+            sharing.free.push(*at)?;
+            Ok(())
         }
         _ => Ok(()),
     }
 }
 
-/// Notes at each wish its slot, before slots are numbered by weight.
-fn follow_all(
-    alloc: Global,
-    sharing: &mut Sharing,
-    slots: &mut [usize],
-    groups: &[Group],
-    intervals: &[LiveInterval],
-    wishes: &[Wish],
-) -> Result<(), AllocError> {
-    let mut events = Vec::with_capacity(alloc, wishes.len().saturating_mul(2))?;
-    push_all_events(&mut events, groups, intervals, wishes)?;
-    for event in events.as_slice() {
-        follow(sharing, slots, wishes, *event)?;
-    }
-    Ok(())
-}
-
 /// For each slot its number, by all slots in their order: those of parameters first, the busiest first.
 fn numbers(alloc: Global, all: &[Shared]) -> Result<Vec<usize>, AllocError> {
     let mut numbers = vec![in alloc; 0usize; all.len()]?;
-    let mut number = all.len();
-    for shared in all {
-        number = number.saturating_sub(1);
+    for (number, shared) in all.iter().rev().enumerate() {
         set(numbers.as_mut_slice(), shared.slot, number);
     }
     Ok(numbers)
@@ -161,28 +131,7 @@ fn number_all(alloc: Global, all: &[Shared], slots: &mut [usize]) -> Result<(), 
     Ok(())
 }
 
-/// Notes at each wish the number of its slot.
-fn share(
-    alloc: Global,
-    slots: &mut [usize],
-    groups: &[Group],
-    intervals: &[LiveInterval],
-    wishes: &[Wish],
-) -> Result<(), AllocError> {
-    let mut sharing = Sharing {
-        shared: Vec::new(alloc),
-        free: Vec::new(alloc),
-    };
-    follow_all(alloc, &mut sharing, slots, groups, intervals, wishes)?;
-    sharing.shared.sort()?;
-    number_all(alloc, sharing.shared.as_slice(), slots)
-}
-
 /// A slot for each wish, in order. Groups that have values at the same time have different ones.
-///
-/// # Errors
-///
-/// Only where memory was refused.
 pub(crate) fn shared_slots(
     alloc: Global,
     groups: &[Group],
@@ -190,6 +139,15 @@ pub(crate) fn shared_slots(
     wishes: &[Wish],
 ) -> Result<Vec<usize>, AllocError> {
     let mut slots = vec![in alloc; 0usize; wishes.len()]?;
-    share(alloc, slots.as_mut_slice(), groups, intervals, wishes)?;
+    let mut sharing = Sharing {
+        shared: Vec::new(alloc),
+        free: Vec::new(alloc),
+    };
+    let events = events_of(alloc, groups, intervals, wishes)?;
+    for event in events.iter() {
+        follow(&mut sharing, slots.as_mut_slice(), wishes, *event)?;
+    }
+    sharing.shared.sort()?;
+    number_all(alloc, sharing.shared.as_slice(), slots.as_mut_slice())?;
     Ok(slots)
 }

@@ -121,18 +121,14 @@ fn count_moves(credit: &mut Credit, stretch: Stretch) {
             *moves = all.saturating_sub(paid);
             paid = all;
         }
-        match credit.before.get_mut(point) {
-            Some(before) if stretch.first < point => *before = Some(point.saturating_sub(1)),
-            _ => {}
+        if stretch.first < point {
+            let before = point.saturating_sub(1);
+            set(credit.before.as_mut_slice(), point, Some(before));
         }
     }
 }
 
 /// The moves that the ticks of each block pay for besides its lines and its jump.
-///
-/// # Errors
-///
-/// Only where memory was refused.
 pub(crate) fn credit_of(
     alloc: Global,
     blocks: &[Block<u32>],
@@ -174,14 +170,12 @@ impl Credit {
 
     /// Whether the point itself paid for a move.
     fn pay_at(&mut self, point: usize) -> bool {
-        match self.moves.get_mut(point) {
-            Some(moves) => {
-                let pays = 0 < *moves;
-                *moves = moves.saturating_sub(1);
-                pays
-            }
-            None => false,
-        }
+        let Some(moves) = self.moves.get_mut(point) else {
+            return false;
+        };
+        let pays = 0 < *moves;
+        *moves = moves.saturating_sub(1);
+        pays
     }
 
     /// Pays for a move before a point; false where nothing is left for it.

@@ -2,7 +2,6 @@
 use crate::intervals::accesses::{Access, Kind};
 use crate::parts::nodes::{Node, Nodes};
 use crate::parts::regions::View;
-use crate::parts::savings::reads_first;
 use crate::splitting::splits::{Begin, Entry, Move, Splits, Stay, Way};
 use std::alloc::{AllocError, Global};
 
@@ -17,15 +16,16 @@ struct Standing<'a> {
 /// Adds a move of the register before a point.
 fn push_move(
     splits: &mut Splits,
-    standing: Standing,
+    view: View,
+    room: usize,
     way: Way,
     point: usize,
 ) -> Result<(), AllocError> {
     splits.moves.push(Move {
         point,
         way,
-        register: standing.view.register,
-        room: standing.room,
+        register: view.register,
+        room,
     })?;
     Ok(())
 }
@@ -50,51 +50,27 @@ fn push_begin(
 /// Whether the block begins with the value where the part has it, and asks for no more than that.
 fn is_provided(standing: Standing, nodes: &Nodes, block: usize) -> bool {
     let node = standing.node;
-    if !node.holds {
-        return false;
-    }
-    if nodes.landing(block) == Some(standing.room) {
-        return true;
-    }
-    match nodes.first_part(block) {
-        Some(next) => {
-            next.is_entered && next.room == Some(standing.room) && (node.is_saved || !next.is_saved)
-        }
-        None => false,
-    }
+    let room = Some(standing.room);
+    node.holds
+        && (nodes.landing(block) == room
+            || nodes.first_part(block).is_some_and(|next| {
+                next.is_entered && next.room == room && (node.is_saved || !next.is_saved)
+            }))
 }
 
-/// Whether the block asks for the value in its slot.
-fn asks_slot(standing: Standing, nodes: &Nodes, block: Option<usize>) -> bool {
-    match block {
-        Some(block) => standing.view.is_wanted(block) && !is_provided(standing, nodes, block),
-        None => false,
-    }
-}
-
-/// Whether the slot must have the value behind the part.
+/// Whether the slot must have the value behind the part: where it goes on, or a block that it leaves for asks for it there.
 fn needs_slot(standing: Standing, nodes: &Nodes) -> bool {
     let node = standing.node;
-    if node.goes_on {
-        return true;
+    let view = standing.view;
+    if node.goes_on || !node.leaves {
+        return node.goes_on;
     }
-    match standing.view.text.stretch(node.block) {
-        Some(stretch) if node.leaves => {
-            asks_slot(standing, nodes, stretch.next) || asks_slot(standing, nodes, stretch.other)
-        }
-        _ => false,
-    }
-}
-
-/// The number of the last new value among these accesses.
-fn last_new(accesses: &[Access]) -> Option<usize> {
-    let mut last = None;
-    for (number, access) in accesses.iter().enumerate() {
-        if access.is_new() {
-            last = Some(number);
-        }
-    }
-    last
+    let Some(stretch) = view.text.stretch(node.block) else {
+        return false;
+    };
+    [stretch.next, stretch.other].iter().any(|to| {
+        to.is_some_and(|block| view.is_wanted(block) && !is_provided(standing, nodes, block))
+    })
 }
 
 /// The point before which a new value can be saved.
@@ -145,7 +121,13 @@ fn follow_accesses(
     for (number, access) in accesses.iter().enumerate() {
         push_stay(splits, standing, access)?;
         if is_to_save(standing, accesses, number, access, last) {
-            push_move(splits, standing, Way::Save, behind(access))?;
+            push_move(
+                splits,
+                standing.view,
+                standing.room,
+                Way::Save,
+                behind(access),
+            )?;
         }
     }
     Ok(())
@@ -159,53 +141,34 @@ fn follow_start(
     must_save: bool,
 ) -> Result<(), AllocError> {
     let node = standing.node;
+    let view = standing.view;
+    let room = standing.room;
     if node.is_entered {
-        push_begin(
-            splits,
-            standing.view,
-            node.block,
-            standing.room,
-            node.is_saved,
-        )?;
-        return match standing.view.text.stretch(node.block) {
-            Some(stretch) if must_save => push_move(splits, standing, Way::Save, stretch.first),
-            _ => Ok(()),
-        };
-    }
-    match accesses.first() {
-        Some(access) if reads_first(accesses) => {
-            push_move(splits, standing, Way::Load, access.point)
+        push_begin(splits, view, node.block, room, node.is_saved)?;
+        if must_save && let Some(stretch) = view.text.stretch(node.block) {
+            push_move(splits, view, room, Way::Save, stretch.first)?;
         }
-        _ => Ok(()),
+    } else if let Some(access) = accesses.first()
+        && access.kind == Kind::Read
+    {
+        push_move(splits, view, room, Way::Load, access.point)?;
     }
+    Ok(())
 }
 
-/// Loads the value at the end of a block that leads to the part, if that doesn't end with the value in the register of the machine.
-fn follow_source(
-    splits: &mut Splits,
-    standing: Standing,
-    nodes: &Nodes,
-    source: usize,
-) -> Result<(), AllocError> {
-    let is_there = match nodes.last_part(source) {
-        Some(node) => node.holds && node.room == Some(standing.room),
-        None => false,
-    };
-    match standing.view.text.stretch(source) {
-        Some(stretch) if !is_there => push_move(splits, standing, Way::Load, stretch.jump),
-        _ => Ok(()),
-    }
-}
-
-/// What is done at the ends of the blocks that lead to the part.
+/// Loads the value at the ends of those blocks that lead to the part and don't end with it in the register of the machine.
 fn follow_sources(
     splits: &mut Splits,
     standing: Standing,
     nodes: &Nodes,
 ) -> Result<(), AllocError> {
-    if standing.node.is_entered {
-        for source in standing.view.text.sources(standing.node.block) {
-            follow_source(splits, standing, nodes, *source)?;
+    let view = standing.view;
+    let room = standing.room;
+    for source in view.text.sources(standing.node.block) {
+        let last = nodes.last_part(*source);
+        let is_there = last.is_some_and(|node| node.holds && node.room == Some(room));
+        if !is_there && let Some(stretch) = view.text.stretch(*source) {
+            push_move(splits, view, room, Way::Load, stretch.jump)?;
         }
     }
     Ok(())
@@ -226,44 +189,31 @@ fn follow_node(
     };
     let accesses = view.accesses_of(node);
     let needs = !node.is_saved && needs_slot(standing, nodes);
-    let last = if needs { last_new(accesses) } else { None };
+    let last = if needs {
+        accesses.iter().rposition(|access| access.is_new())
+    } else {
+        None
+    };
     follow_start(splits, standing, accesses, needs && last.is_none())?;
     follow_accesses(splits, standing, accesses, last)?;
-    follow_sources(splits, standing, nodes)
-}
-
-/// Saves the value where the block begins.
-fn follow_landing(
-    splits: &mut Splits,
-    view: View,
-    block: usize,
-    room: usize,
-) -> Result<(), AllocError> {
-    push_begin(splits, view, block, room, false)?;
-    if let Some(stretch) = view.text.stretch(block) {
-        splits.moves.push(Move {
-            point: stretch.first,
-            way: Way::Save,
-            register: view.register,
-            room,
-        })?;
+    if node.is_entered {
+        follow_sources(splits, standing, nodes)?;
     }
     Ok(())
 }
 
-/// Saves the value in all blocks that it comes to for that.
+/// Saves the value at the begins of all blocks that it comes to for that.
 fn follow_landings(splits: &mut Splits, view: View, nodes: &Nodes) -> Result<(), AllocError> {
     for landing in nodes.landings.iter() {
-        follow_landing(splits, view, landing.block, landing.room)?;
+        push_begin(splits, view, landing.block, landing.room, false)?;
+        if let Some(stretch) = view.text.stretch(landing.block) {
+            push_move(splits, view, landing.room, Way::Save, stretch.first)?;
+        }
     }
     Ok(())
 }
 
 /// What is done for a register whose parts have registers of the machine, or not.
-///
-/// # Errors
-///
-/// Only where memory was refused.
 pub(crate) fn splits_of(alloc: Global, view: View, nodes: &Nodes) -> Result<Splits, AllocError> {
     let mut splits = Splits::new(alloc);
     for node in nodes.list.iter() {

@@ -5,7 +5,7 @@ use crate::parts::exits::enter_all;
 use crate::parts::giving::give;
 use crate::parts::needs::ranges;
 use crate::parts::nodes::Nodes;
-use crate::parts::regions::{Member, Reach, View, leaders, members, region_from};
+use crate::parts::regions::{Member, Reach, View, leaders, members};
 use crate::parts::savings::balance_of;
 use crate::places::candidates::Ground;
 use crate::places::rooms::{Rooms, room_for_part};
@@ -76,27 +76,6 @@ fn give_region(
     }
 }
 
-/// Gives registers of the machine to the regions that these are the members of.
-fn give_regions(
-    alloc: Global,
-    view: View,
-    nodes: &mut Nodes,
-    rooms: &mut Rooms,
-    hint: Option<u8>,
-    members: &[Member],
-) -> Result<(), AllocError> {
-    let mut first = 0usize;
-    for _ in 0..members.len() {
-        let region = region_from(members, first);
-        if region.is_empty() {
-            break;
-        }
-        give_region(alloc, view, nodes, rooms, hint, region)?;
-        first = first.saturating_add(region.len());
-    }
-    Ok(())
-}
-
 /// Gives registers of the machine to the regions that the parts make with this reach.
 fn give_within(
     alloc: Global,
@@ -108,22 +87,20 @@ fn give_within(
     let leaders = leaders(alloc, &subject.facts.text, nodes, reach)?;
     let members = members(alloc, leaders.as_slice())?;
     let view = view(subject, leaders.as_slice());
-    give_regions(alloc, view, nodes, rooms, subject.hint, members.as_slice())
+    for region in members.chunk_by(|one, other| one.leader == other.leader) {
+        give_region(alloc, view, nodes, rooms, subject.hint, region)?;
+    }
+    Ok(())
 }
 
 /// Of the parts that the register is accessed in and that have no register of the machine: in how many loops one lies, at most.
 fn depth_left(subject: Subject, nodes: &Nodes) -> Option<u32> {
-    let mut depth: Option<u32> = None;
-    for node in nodes.list.iter() {
-        if node.room.is_none() && !node.is_passed() {
-            let own = subject.facts.text.depth(node.block);
-            depth = match depth {
-                Some(depth) => Some(depth.max(own)),
-                None => Some(own),
-            };
-        }
-    }
-    depth
+    nodes
+        .list
+        .iter()
+        .filter(|node| node.room.is_none() && !node.is_passed())
+        .map(|node| subject.facts.text.depth(node.block))
+        .max()
 }
 
 /// How many loops around one another are looked at, at most.

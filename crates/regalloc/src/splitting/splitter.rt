@@ -7,7 +7,7 @@ use crate::places::rooms::Rooms;
 use crate::splitting::credit::{Credit, credit_of};
 use crate::splitting::outcome::splits_of;
 use crate::splitting::reaches::{Subject, give_all, subject_of, view};
-use crate::splitting::splits::{Move, Splits};
+use crate::splitting::splits::Splits;
 use crate::splitting::worth::split_costs_over_kept;
 use std::alloc::{AllocError, Global};
 use vcode::place::Location;
@@ -47,34 +47,16 @@ impl Splitter {
     }
 
     /// What is done where registers are split, in the order of the text.
-    ///
-    /// # Errors
-    ///
-    /// Only where memory was refused.
     pub(crate) fn finish(self) -> Result<Splits, AllocError> {
         let mut splits = self.splits;
-        splits.sort()?;
+        splits.stays.sort()?;
+        splits.begins.sort()?;
+        splits.moves.sort()?;
         Ok(splits)
     }
 }
 
-/// Pays for the moves, as long as credit is left; says whether all are paid for.
-fn pay_all(credit: &mut Credit, moves: &[Move]) -> bool {
-    for one in moves {
-        if !credit.pay(one.point) {
-            return false;
-        }
-    }
-    true
-}
-
-/// Whether the register may be split. Parameters come once: where blocks lead back to the first one, they aren't split.
-fn may_be_split(subject: Subject) -> bool {
-    let facts = subject.facts;
-    !facts.demands.of(subject.register).is_param || facts.text.sources(0).is_empty()
-}
-
-/// Splits the register, if the moves are paid for.
+/// Splits the register, if the moves are paid for. Parameters come once: where blocks lead back to the first one, they aren't split.
 fn split(
     alloc: Global,
     nodes: &mut Nodes,
@@ -83,13 +65,14 @@ fn split(
     rooms: &mut Rooms,
     subject: Subject,
 ) -> Result<(), AllocError> {
-    if !may_be_split(subject) {
+    let facts = subject.facts;
+    if facts.demands.of(subject.register).is_param && !facts.text.sources(0).is_empty() {
         return Ok(());
     }
-    nodes.fill(alloc, subject.facts, subject.accesses, subject.register)?;
+    nodes.fill(alloc, facts, subject.accesses, subject.register)?;
     give_all(alloc, subject, nodes, rooms)?;
     let own = splits_of(alloc, view(subject, &[]), nodes)?;
-    if pay_all(credit, own.moves.as_slice()) {
+    if own.moves.iter().all(|one| credit.pay(one.point)) {
         splits.append(&own)
     } else {
         Ok(())
@@ -122,10 +105,6 @@ fn split_members(
 }
 
 /// Splits the registers that the list has slots for, the most urgent first, as far as the ticks of the function pay for it.
-///
-/// # Errors
-///
-/// Only where memory was refused.
 pub(crate) fn split_all(
     alloc: Global,
     splitter: &mut Splitter,
@@ -150,10 +129,6 @@ pub(crate) fn split_all(
 }
 
 /// Whether registers should stand in one that callees keep, which costs two instructions, the first time that it is used: splitting them would cost more.
-///
-/// # Errors
-///
-/// Only where memory was refused.
 pub(crate) fn should_keep(
     alloc: Global,
     splitter: &mut Splitter,

@@ -2,7 +2,7 @@
 use crate::intervals::accesses::Access;
 use crate::parts::exits::enter_all;
 use crate::parts::nodes::Nodes;
-use crate::parts::regions::{Reach, leaders, members, region_from};
+use crate::parts::regions::{Reach, leaders, members};
 use crate::parts::savings::balance_of;
 use crate::splitting::reaches::{Subject, view};
 use std::alloc::{AllocError, Global};
@@ -18,15 +18,9 @@ fn best_of(
     let members = members(alloc, leaders.as_slice())?;
     let view = view(subject, leaders.as_slice());
     let mut best = 0u64;
-    let mut first = 0usize;
-    for _ in 0..members.len() {
-        let region = region_from(members.as_slice(), first);
-        if region.is_empty() {
-            break;
-        }
+    for region in members.chunk_by(|one, other| one.leader == other.leader) {
         enter_all(view, nodes, region);
         best = best.saturating_add(balance_of(view, nodes, region).best());
-        first = first.saturating_add(region.len());
     }
     Ok(best)
 }

@@ -1,5 +1,5 @@
 //! The moves before each point.
-ghost use Rattle.std.specs.Prelude.{◌≡◌, true, OnOk, IfOk};
+ghost use Rattle.std.specs.Prelude.{◌≡◌, true, IfOk};
 ghost use Rattle.std.specs.List.{list_all};
 ghost use Rattle.vcode.specs.Named.{is_place};
 ghost use Rattle.regalloc.specs.Scanned.{are_between};
@@ -77,19 +77,18 @@ fn moves_of(
     Ok(transfers)
 }
 
-/// Adds the moves before each of so many points.
-pub(crate) fn push_moves(
+/// The moves before each of so many points.
+pub(crate) fn all_moves(
     alloc: Global,
-    lists: &mut Seq<Seq<Transfer>>,
     list: &[Location],
     registers: u32,
     moves: &[Move],
     points: usize,
-) -> Result<(), AllocError>
-    requires list { list_all (is_place registers) list.now ≡ true }
-    requires between { list_all (are_between registers) lists.old ≡ true }
-    ensures { OnOk result (list_all (are_between registers) lists.new ≡ true) }
+) -> Result<Seq<Seq<Transfer>>, AllocError>
+    requires { list_all (is_place registers) list.now ≡ true }
+    ensures { IfOk result (λ lists. list_all (are_between registers) lists ≡ true) }
 {
+    let mut lists = Seq::from_vec(Vec::with_capacity(alloc, points)?);
     let mut first = 0usize;
     for point in 0..points {
         let end = moves_end(moves, first, point);
@@ -97,5 +96,5 @@ pub(crate) fn push_moves(
         lists.push(transfers)?;
         first = end;
     }
-    Ok(())
+    Ok(lists)
 }

@@ -1,14 +1,14 @@
 //! The places of the registers that each point names.
-ghost use Rattle.std.specs.Prelude.{◌≡◌, true, OnOk, IfOk, IfSome};
+ghost use Rattle.std.specs.Prelude.{◌≡◌, true, IfOk, IfSome};
 ghost use Rattle.std.specs.List.{list_all};
 ghost use Rattle.vcode.specs.Named.{is_place};
 ghost use Rattle.regalloc.specs.Scanned.{are_placed};
 
-use crate::intervals::reads::{Reads, jump_reads, line_reads, register_of};
 use crate::linear_scan::machine_register;
 use crate::lists::part;
 use crate::splitting::splits::{Stay, stays_end};
 use certificates::certificate::Equality;
+use cfg_live::reads::{Reads, jump_reads, line_reads, register_of};
 use cfg_live::uses::line_writes;
 use il_ast::list::Seq;
 use std::alloc::{AllocError, Global};
@@ -57,44 +57,13 @@ fn place_at(list: &[Location], registers: u32, stays: &[Stay], register: u32) ->
     requires { list_all (is_place registers) list.now ≡ true }
     ensures { IfSome result (λ q. is_place registers q ≡ true) }
 {
-    for stay in stays {
-        if stay.register == register {
-            return room_place(registers, stay.room);
-        }
+    match stays.iter().find(|stay| stay.register == register) {
+        Some(stay) => room_place(registers, stay.room),
+        None => own_place(list, registers, register),
     }
-    own_place(list, registers, register)
 }
 
-/// Whether the register is among them.
-fn has(equalities: &[Equality], register: u32) -> bool {
-    for equality in equalities {
-        if equality.register == register {
-            return true;
-        }
-    }
-    false
-}
-
-/// Adds the place of the register, unless it is there already.
-fn push_once(
-    equalities: &mut Seq<Equality>,
-    list: &[Location],
-    registers: u32,
-    stays: &[Stay],
-    register: u32,
-) -> Result<(), AllocError>
-    requires list { list_all (is_place registers) list.now ≡ true }
-    requires placed { are_placed registers equalities.old ≡ true }
-    ensures { are_placed registers equalities.new ≡ true }
-{
-    if has(equalities.as_slice(), register) {
-        return Ok(());
-    }
-    let place = place_at(list, registers, stays, register);
-    push_at(equalities, registers, register, place)
-}
-
-/// Adds the place of the register that is read or written, if there is one.
+/// Adds the place of the register that is read or written, if there is one and it isn't there already.
 fn push_some(
     equalities: &mut Seq<Equality>,
     list: &[Location],
@@ -106,10 +75,15 @@ fn push_some(
     requires placed { are_placed registers equalities.old ≡ true }
     ensures { are_placed registers equalities.new ≡ true }
 {
-    match register {
-        Some(register) => push_once(equalities, list, registers, stays, register),
-        None => Ok(()),
+    let Some(register) = register else {
+        return Ok(());
+    };
+    let mut named = equalities.as_slice().iter();
+    if named.any(|equality| equality.register == register) {
+        return Ok(());
     }
+    let place = place_at(list, registers, stays, register);
+    push_at(equalities, registers, register, place)
 }
 
 /// Adds the places of the registers that are passed.
@@ -133,32 +107,9 @@ fn push_args(
 
 /// How many registers a point names at most.
 fn most_named(reads: Reads, written: Option<u32>) -> usize {
-    let mut most = reads.args.len();
-    for one in &[reads.first, reads.second, written] {
-        if one.is_some() {
-            most = most.saturating_add(1);
-        }
-    }
-    most
-}
-
-/// Adds the places of the registers that a point names, each once.
-fn push_named(
-    equalities: &mut Seq<Equality>,
-    list: &[Location],
-    registers: u32,
-    stays: &[Stay],
-    reads: Reads,
-    written: Option<u32>,
-) -> Result<(), AllocError>
-    requires list { list_all (is_place registers) list.now ≡ true }
-    requires placed { are_placed registers equalities.old ≡ true }
-    ensures { are_placed registers equalities.new ≡ true }
-{
-    push_some(equalities, list, registers, stays, reads.first)?;
-    push_some(equalities, list, registers, stays, reads.second)?;
-    push_args(equalities, list, registers, stays, reads.args)?;
-    push_some(equalities, list, registers, stays, written)
+    let named = [reads.first, reads.second, written];
+    let count = named.iter().filter(|one| one.is_some()).count();
+    reads.args.len().saturating_add(count)
 }
 
 /// The places of the registers that a point names, each once.
@@ -175,7 +126,10 @@ fn places_of(
 {
     let most = most_named(reads, written);
     let mut equalities = Seq::from_vec(Vec::with_capacity(alloc, most)?);
-    push_named(&mut equalities, list, registers, stays, reads, written)?;
+    push_some(&mut equalities, list, registers, stays, reads.first)?;
+    push_some(&mut equalities, list, registers, stays, reads.second)?;
+    push_args(&mut equalities, list, registers, stays, reads.args)?;
+    push_some(&mut equalities, list, registers, stays, written)?;
     Ok(equalities)
 }
 
@@ -217,37 +171,43 @@ fn push_lines(
 {
     let mut from = first;
     for line in lines {
-        match line {
-            Line::Tick { .. } => {}
-            _ => {
-                let reads = line_reads(line);
-                let written = line_writes(line);
-                from = push_point(alloc, places, list, registers, stays, from, reads, written)?;
-            }
+        if !matches!(line, Line::Tick { .. }) {
+            let reads = line_reads(line);
+            let written = line_writes(line);
+            from = push_point(alloc, places, list, registers, stays, from, reads, written)?;
         }
     }
     Ok(from)
 }
 
-/// Adds the places of all points.
-pub(crate) fn push_places(
+/// The places of all points, which are so many.
+pub(crate) fn all_places(
     alloc: Global,
-    places: &mut Seq<Seq<Equality>>,
     list: &[Location],
     registers: u32,
     stays: &[Stay],
     blocks: &[Block<u32>],
-) -> Result<(), AllocError>
-    requires list { list_all (is_place registers) list.now ≡ true }
-    requires placed { list_all (are_placed registers) places.old ≡ true }
-    ensures { OnOk result (list_all (are_placed registers) places.new ≡ true) }
+    points: usize,
+) -> Result<Seq<Seq<Equality>>, AllocError>
+    requires { list_all (is_place registers) list.now ≡ true }
+    ensures { IfOk result (λ places. list_all (are_placed registers) places ≡ true) }
 {
+    let mut places = Seq::from_vec(Vec::with_capacity(alloc, points)?);
     let mut first = 0usize;
     for block in blocks {
         let lines = block.lines.as_slice();
-        first = push_lines(alloc, places, list, registers, stays, first, lines)?;
+        first = push_lines(alloc, &mut places, list, registers, stays, first, lines)?;
         let reads = jump_reads(&block.jump);
-        first = push_point(alloc, places, list, registers, stays, first, reads, None)?;
+        first = push_point(
+            alloc,
+            &mut places,
+            list,
+            registers,
+            stays,
+            first,
+            reads,
+            None,
+        )?;
     }
-    Ok(())
+    Ok(places)
 }

@@ -1,5 +1,5 @@
 //! The places of the registers that are live where blocks begin.
-ghost use Rattle.std.specs.Prelude.{◌≡◌, true, OnOk};
+ghost use Rattle.std.specs.Prelude.{◌≡◌, true, IfOk};
 ghost use Rattle.std.specs.List.{list_all};
 ghost use Rattle.vcode.specs.Named.{is_place};
 ghost use Rattle.regalloc.specs.Scanned.{are_placed};
@@ -24,26 +24,15 @@ fn push_live(
     requires placed { are_placed registers equalities.old ≡ true }
     ensures { are_placed registers equalities.new ≡ true }
 {
-    match begin {
-        Some(begin) => {
-            push_at(
-                equalities,
-                registers,
-                register,
-                room_place(registers, begin.room),
-            )?;
-            if !begin.is_saved {
-                return Ok(());
-            }
+    if let Some(begin) = begin {
+        let place = room_place(registers, begin.room);
+        push_at(equalities, registers, register, place)?;
+        if !begin.is_saved {
+            return Ok(());
         }
-        None => {}
     }
-    push_at(
-        equalities,
-        registers,
-        register,
-        own_place(list, registers, register),
-    )
+    let place = own_place(list, registers, register);
+    push_at(equalities, registers, register, place)
 }
 
 /// Adds where the registers are that are live where the block begins; answers the number behind the begins that belong to it.
@@ -69,20 +58,19 @@ fn push_start(
     Ok(from)
 }
 
-/// Adds where the live registers are at the start of each of so many blocks.
-pub(crate) fn push_starts(
+/// Where the live registers are at the start of each of so many blocks.
+pub(crate) fn placed_starts(
     alloc: Global,
-    starts: &mut Seq<Seq<Equality>>,
     list: &[Location],
     registers: u32,
     begins: &[Begin],
     from: &Starts,
     blocks: usize,
-) -> Result<(), AllocError>
-    requires list { list_all (is_place registers) list.now ≡ true }
-    requires placed { list_all (are_placed registers) starts.old ≡ true }
-    ensures { OnOk result (list_all (are_placed registers) starts.new ≡ true) }
+) -> Result<Seq<Seq<Equality>>, AllocError>
+    requires { list_all (is_place registers) list.now ≡ true }
+    ensures { IfOk result (λ starts. list_all (are_placed registers) starts ≡ true) }
 {
+    let mut starts = Seq::from_vec(Vec::with_capacity(alloc, blocks)?);
     let mut first = 0usize;
     for block in 0..blocks {
         let live = from.of(block);
@@ -90,25 +78,25 @@ pub(crate) fn push_starts(
         first = push_start(&mut equalities, list, registers, begins, first, live, block)?;
         starts.push(equalities)?;
     }
-    Ok(())
+    Ok(starts)
 }
 
-/// Adds where the registers are that have values throughout.
-pub(crate) fn push_everywhere(
-    equalities: &mut Seq<Equality>,
+/// Where the registers are that have values throughout.
+pub(crate) fn placed_everywhere(
+    alloc: Global,
     list: &[Location],
     registers: u32,
     starts: &Starts,
-) -> Result<(), AllocError>
-    requires list { list_all (is_place registers) list.now ≡ true }
-    requires placed { are_placed registers equalities.old ≡ true }
-    ensures { are_placed registers equalities.new ≡ true }
+) -> Result<Seq<Equality>, AllocError>
+    requires { list_all (is_place registers) list.now ≡ true }
+    ensures { IfOk result (λ equalities. are_placed registers equalities ≡ true) }
 {
+    let mut equalities = Seq::new(alloc);
     for register in 0..registers {
         if starts.is_throughout(register) {
             let place = own_place(list, registers, register);
-            push_at(equalities, registers, register, place)?;
+            push_at(&mut equalities, registers, register, place)?;
         }
     }
-    Ok(())
+    Ok(equalities)
 }

@@ -5,23 +5,30 @@ use std::alloc::{AllocError, Global};
 #[derive(Drop)]
 pub(crate) struct Forest {
     above: Vec<usize>,
+    sets: usize,
 }
 
 impl Forest {
-    pub(crate) fn new(alloc: Global) -> Forest {
-        Forest {
-            above: Vec::new(alloc),
-        }
+    /// No values yet, with room for so many.
+    pub(crate) fn with_capacity(alloc: Global, values: usize) -> Result<Forest, AllocError> {
+        let above = Vec::with_capacity(alloc, values)?;
+        Ok(Forest { above, sets: 0 })
     }
 
     pub(crate) fn len(&self) -> usize {
         self.above.len()
     }
 
+    /// How many sets there are.
+    pub(crate) fn sets(&self) -> usize {
+        self.sets
+    }
+
     /// One value more, in a set of its own.
     pub(crate) fn add(&mut self) -> Result<usize, AllocError> {
         let value = self.above.len();
         self.above.push(value)?;
+        self.sets = self.sets.saturating_add(1);
         Ok(value)
     }
 
@@ -53,6 +60,10 @@ impl Forest {
     pub(crate) fn join(&mut self, left: usize, right: usize) {
         let left = self.root(left);
         let right = self.root(right);
+        if left == right {
+            return;
+        }
+        self.sets = self.sets.saturating_sub(1);
         if let Some(above) = self.above.get_mut(left.max(right)) {
             *above = left.min(right);
         }

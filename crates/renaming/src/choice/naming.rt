@@ -4,6 +4,7 @@ use crate::plan::{Plan, Renamed};
 use cfg_live::uses::line_writes;
 use il_ast::list::Seq;
 use std::alloc::{AllocError, Global};
+use std::mem;
 use vcode::code::Block;
 use vcode::function::VFunc;
 
@@ -141,7 +142,7 @@ fn all_starts(
 fn new_naming(alloc: Global, webs: &Webs, function: &VFunc) -> Result<Naming, AllocError> {
     let mut naming = Naming {
         names: vec![in alloc; None; webs.forest.len()]?,
-        taken: vec![in alloc; false; webs.plain.len()]?,
+        taken: vec![in alloc; false; webs.uses.len()]?,
         owners: Vec::new(alloc),
     };
     for param in function.code.params.as_slice() {
@@ -156,8 +157,7 @@ pub(crate) fn named(alloc: Global, webs: Webs, function: &VFunc) -> Result<Plan,
     let mut webs = webs;
     let blocks = function.code.blocks.as_slice();
     let mut naming = new_naming(alloc, &webs, function)?;
-    let mut begins = Vec::with_capacity(alloc, webs.begins.len())?;
-    begins.extend_from_slice(webs.begins.as_slice())?;
+    let begins = mem::replace(&mut webs.begins, Vec::new(alloc));
     keep_first(&mut naming, &mut webs, begins.as_slice());
     let written = all_written(alloc, &mut naming, &mut webs, blocks)?;
     let starts = all_starts(
@@ -168,7 +168,7 @@ pub(crate) fn named(alloc: Global, webs: Webs, function: &VFunc) -> Result<Plan,
         blocks.len(),
     )?;
     Ok(Plan {
-        plain: webs.plain,
+        plain: webs.uses.iter().map(|one| one.is_plain()).collect(alloc)?,
         owners: naming.owners,
         starts,
         written,

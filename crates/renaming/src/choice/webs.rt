@@ -1,14 +1,13 @@
 //! The webs of registers that are written more than once.
 use crate::choice::forest::Forest;
 use cfg_live::uses::line_writes;
-use flow::graph::predecessors_of;
+use flow::graph::{predecessors, predecessors_of, successor};
 use il_ast::few::Few;
 use std::alloc::{AllocError, Global};
-use std::collections::BTreeMap;
 use vcode::code::Block;
 use vcode::function::VFunc;
 use vcode::line::{Jump, Line};
-use vcode::place::{Argument, Operand};
+use vcode::place::{Argument, Destination, Operand};
 
 /// What a register holds where a block begins, which somebody reads.
 #[derive(Clone, Copy)]
@@ -18,85 +17,175 @@ pub(crate) struct Begin {
     pub(crate) value: usize,
 }
 
+/// What a register holds at the end of a block that reads or writes it.
+#[derive(Clone, Copy)]
+struct End {
+    block: usize,
+    register: u32,
+    value: usize,
+
+    /// what it holds where the block begins, if the block reads that
+    begun: Option<usize>,
+
+    /// the place of the end before this one of the same register
+    before: usize,
+}
+
+/// What the register that was last asked of a block holds at its end.
+#[derive(Clone, Copy)]
+struct Asked {
+    register: Option<u32>,
+    value: usize,
+}
+
+/// How a register is used.
+#[derive(Clone, Copy)]
+pub(crate) struct Use {
+    /// in how many places it is written, the begin of the function for a parameter
+    writes: usize,
+
+    /// the place of its last end
+    last: usize,
+
+    /// the block that reads what it holds where that begins
+    head: usize,
+}
+
+impl Use {
+    /// Whether it is written in one place at most.
+    pub(crate) fn is_plain(self) -> bool {
+        self.writes < 2
+    }
+}
+
 /// The values of registers that are not written once, each with those that some reader may see in its place.
 #[derive(Drop)]
 pub(crate) struct Webs {
-    pub(crate) plain: Vec<bool>,
+    pub(crate) uses: Vec<Use>,
     pub(crate) forest: Forest,
 
     /// what lines write, in the order of the text
     pub(crate) written: Vec<usize>,
     pub(crate) begins: Vec<Begin>,
+    ends: Vec<End>,
 
-    /// by block and register, what the register holds at the end of a block that writes it, and at the begin of one
-    ends: BTreeMap<u64, usize>,
-    known: BTreeMap<u64, usize>,
+    /// whether some register has several heads, or is written more than once in a block
+    has_several: bool,
 }
+
+/// The place of no end, and the number of no block.
+const NOWHERE: usize = usize::MAX;
 
 /// Where a function has so many times more values at the begins of blocks than lines, it keeps its names.
 const BEGINS_A_LINE: usize = 8;
 
-fn key(block: usize, register: u32) -> u64 {
-    (block as u64) << 32 | register as u64
-}
-
 impl Webs {
-    pub(crate) fn new(alloc: Global, plain: Vec<bool>) -> Webs {
-        Webs {
-            plain,
-            forest: Forest::new(alloc),
+    pub(crate) fn new(alloc: Global, uses: Vec<Use>) -> Result<Webs, AllocError> {
+        let forest = Forest::with_capacity(alloc, uses.len())?;
+        let ends = Vec::with_capacity(alloc, uses.len())?;
+        Ok(Webs {
+            uses,
+            forest,
             written: Vec::new(alloc),
             begins: Vec::new(alloc),
-            ends: BTreeMap::new(alloc),
-            known: BTreeMap::new(alloc),
-        }
+            ends,
+            has_several: false,
+        })
     }
 
     pub(crate) fn is_plain(&self, register: u32) -> bool {
-        match self.plain.get(register as usize) {
-            Some(plain) => *plain,
-            None => true,
-        }
+        self.uses
+            .get(register as usize)
+            .map_or(true, |one| one.is_plain())
     }
 
-    /// What the register holds where the block begins.
-    fn at_begin(&mut self, block: usize, register: u32) -> Result<usize, AllocError> {
-        if let Some(value) = self.known.get(&key(block, register)) {
-            return Ok(*value);
+    fn last_end(&self, register: u32) -> usize {
+        self.uses
+            .get(register as usize)
+            .map_or(NOWHERE, |one| one.last)
+    }
+
+    /// The block reads or writes the register for the first time.
+    fn push_end(
+        &mut self,
+        block: usize,
+        register: u32,
+        value: usize,
+        begun: Option<usize>,
+    ) -> Result<(), AllocError> {
+        let end = self.ends.len();
+        let before = self.last_end(register);
+        if let Some(one) = self.uses.get_mut(register as usize) {
+            one.last = end;
         }
-        let value = self.forest.add()?;
-        let _ = self.known.insert(key(block, register), value)?;
-        self.begins.push(Begin {
+        self.ends.push(End {
             block,
             register,
             value,
+            begun,
+            before,
         })?;
-        Ok(value)
+        Ok(())
     }
 
-    /// What it holds where the block ends.
-    fn at_end(&mut self, block: usize, register: u32) -> Result<usize, AllocError> {
-        match self.ends.get(&key(block, register)) {
-            Some(value) => Ok(*value),
-            None => self.at_begin(block, register),
+    /// Whether the block has read or written the register so far.
+    fn is_in(&self, block: usize, register: u32) -> bool {
+        match self.ends.get(self.last_end(register)) {
+            Some(end) => end.block == block,
+            None => false,
         }
     }
 
     fn write(&mut self, block: usize, register: u32) -> Result<(), AllocError> {
         let value = self.forest.add()?;
         self.written.push(value)?;
-        let _ = self.ends.insert(key(block, register), value)?;
-        Ok(())
+        let last = self.last_end(register);
+        match self.ends.get_mut(last) {
+            Some(end) if end.block == block => {
+                self.has_several |= end.begun != Some(end.value);
+                end.value = value;
+                Ok(())
+            }
+            _ => self.push_end(block, register, value, None),
+        }
     }
 
     fn read(&mut self, block: usize, operand: &Operand<u32>) -> Result<(), AllocError> {
         match operand {
-            Operand::At(register) if !self.is_plain(*register) => {
-                let _ = self.at_end(block, *register)?;
-                Ok(())
+            Operand::At(register) if !self.is_plain(*register) && !self.is_in(block, *register) => {
+                let value = self.forest.add()?;
+                self.note_head(block, *register);
+                self.push_end(block, *register, value, Some(value))
             }
             _ => Ok(()),
         }
+    }
+
+    /// The block reads what the register holds where it begins.
+    fn note_head(&mut self, block: usize, register: u32) {
+        if let Some(one) = self.uses.get_mut(register as usize) {
+            self.has_several |= one.head != NOWHERE;
+            one.head = block;
+        }
+    }
+
+    /// Whether a block that writes a register leads to the register's head.
+    fn leads_to_head(&self, blocks: &[Block<u32>], end: End) -> bool {
+        let (Some(block), Some(one)) = (blocks.get(end.block), self.uses.get(end.register as usize))
+        else {
+            return false;
+        };
+        end.begun == Some(end.value)
+            || successor(&block.jump, 0) == Some(one.head)
+            || successor(&block.jump, 1) == Some(one.head)
+    }
+
+    /// Whether each register is one web, as where copies stand for phis: it is read from outside in one block alone, to which all blocks that write it lead.
+    fn are_whole(&self, function: &VFunc) -> bool {
+        let blocks = function.code.blocks.as_slice();
+        !self.has_several
+            && !self.writes_params(function.code.params.as_slice())
+            && self.ends.iter().all(|end| self.leads_to_head(blocks, *end))
     }
 
     fn read_both(
@@ -151,61 +240,176 @@ impl Webs {
         self.read_jump(number, &block.jump)
     }
 
+    /// Notes what the register holds at the ends of the blocks that read or write it, and where they begin.
+    fn note_ends(&mut self, asked: &mut [Asked], register: u32) -> Result<(), AllocError> {
+        let mut next = self.last_end(register);
+        for _ in 0..self.ends.len() {
+            let Some(end) = self.ends.get(next).copied() else {
+                return Ok(());
+            };
+            note(asked, end.block, register, end.value);
+            if let Some(value) = end.begun {
+                self.begins.push(Begin {
+                    block: end.block,
+                    register,
+                    value,
+                })?;
+            }
+            next = end.before;
+        }
+        Ok(())
+    }
+
+    /// What the register holds where the block ends.
+    fn at_end(
+        &mut self,
+        asked: &mut [Asked],
+        block: usize,
+        register: u32,
+    ) -> Result<usize, AllocError> {
+        match asked.get(block) {
+            Some(end) if end.register == Some(register) => return Ok(end.value),
+            _ => {}
+        }
+        let value = self.forest.add()?;
+        note(asked, block, register, value);
+        self.begins.push(Begin {
+            block,
+            register,
+            value,
+        })?;
+        Ok(value)
+    }
+
     /// What a register holds where a block begins is what it holds at the ends of those that lead there.
-    fn join_sources(&mut self, begin: Begin, sources: &[usize]) -> Result<(), AllocError> {
+    fn join_sources(
+        &mut self,
+        asked: &mut [Asked],
+        begin: Begin,
+        sources: &[usize],
+    ) -> Result<(), AllocError> {
         for source in sources {
-            let end = self.at_end(*source, begin.register)?;
+            let end = self.at_end(asked, *source, begin.register)?;
             self.forest.join(begin.value, end);
         }
         Ok(())
     }
+
+    /// Finds which values of the register belong together; false where there are too many begins.
+    fn join_register(
+        &mut self,
+        asked: &mut [Asked],
+        sources: &[Few<usize>],
+        register: u32,
+        most: usize,
+    ) -> Result<bool, AllocError> {
+        let first = self.begins.len();
+        self.note_ends(asked, register)?;
+        for next in first..most {
+            match self.begins.get(next).copied() {
+                Some(begin) => {
+                    self.join_sources(asked, begin, predecessors_of(sources, begin.block))?
+                }
+                None => return Ok(true),
+            }
+        }
+        Ok(false)
+    }
+
+    /// Whether a parameter is written once more.
+    fn writes_params(&self, params: &[Destination<u32>]) -> bool {
+        params.iter().any(|param| !self.is_plain(param.place))
+    }
+
+    /// Whether some web may need a register that the function doesn't have. The first value of a parameter may be read by no one, and keeps its name.
+    pub(crate) fn may_need_more(&self, params: &[Destination<u32>]) -> bool {
+        self.writes_params(params)
+            || self.forest.sets() != self.uses.iter().filter(|one| !one.is_plain()).count()
+    }
 }
 
-/// Finds the values, and which belong together; false where they are too many.
-pub(crate) fn find_webs(
+fn note(asked: &mut [Asked], block: usize, register: u32, value: usize) {
+    if let Some(end) = asked.get_mut(block) {
+        *end = Asked {
+            register: Some(register),
+            value,
+        };
+    }
+}
+
+/// Finds which values belong together, register by register; false where there are too many begins.
+fn join_all(
     webs: &mut Webs,
-    blocks: &[Block<u32>],
+    asked: &mut [Asked],
     sources: &[Few<usize>],
+    registers: u32,
 ) -> Result<bool, AllocError> {
+    let most = webs.forest.len().saturating_mul(BEGINS_A_LINE);
+    for register in 0..registers {
+        if webs.last_end(register) != NOWHERE
+            && !webs.join_register(asked, sources, register, most)?
+        {
+            return Ok(false);
+        }
+    }
+    Ok(true)
+}
+
+/// Finds the values, and which belong together; false where they are too many, or each register is one web.
+pub(crate) fn find_webs(
+    alloc: Global,
+    webs: &mut Webs,
+    function: &VFunc,
+) -> Result<bool, AllocError> {
+    let blocks = function.code.blocks.as_slice();
     for (number, block) in blocks.iter().enumerate() {
         webs.walk(number, block)?;
     }
-    let most = webs.forest.len().saturating_mul(BEGINS_A_LINE);
-    for next in 0..most {
-        match webs.begins.get(next).copied() {
-            Some(begin) => webs.join_sources(begin, predecessors_of(sources, begin.block))?,
-            None => return Ok(true),
+    if webs.are_whole(function) {
+        return Ok(false);
+    }
+    let sources = predecessors(alloc, blocks)?;
+    let unasked = Asked {
+        register: None,
+        value: 0,
+    };
+    let mut asked = vec![in alloc; unasked; blocks.len()]?;
+    join_all(
+        webs,
+        asked.as_mut_slice(),
+        sources.as_slice(),
+        function.registers,
+    )
+}
+
+/// One more write of a register.
+fn count(uses: &mut [Use], register: u32) {
+    if let Some(one) = uses.get_mut(register as usize) {
+        one.writes = one.writes.saturating_add(1);
+    }
+}
+
+fn count_writes(uses: &mut [Use], lines: &[Line<u32>]) {
+    for line in lines {
+        if let Some(register) = line_writes(line) {
+            count(uses, register);
         }
     }
-    Ok(most == 0)
 }
 
-fn count(writes: &mut [u32], register: u32) {
-    if let Some(count) = writes.get_mut(register as usize) {
-        *count = count.saturating_add(1);
-    }
-}
-
-fn count_writes(writes: &mut [u32], blocks: &[Block<u32>]) {
-    for block in blocks {
-        for line in block.lines.as_slice() {
-            if let Some(register) = line_writes(line) {
-                count(writes, register);
-            }
-        }
-    }
-}
-
-/// For each register whether it is written in one place at most, the begin of the function for a parameter.
-pub(crate) fn written_once(alloc: Global, function: &VFunc) -> Result<Vec<bool>, AllocError> {
-    let mut writes = vec![in alloc; 0u32; function.registers as usize]?;
+/// The registers, with how often each is written.
+pub(crate) fn count_uses(alloc: Global, function: &VFunc) -> Result<Vec<Use>, AllocError> {
+    let unused = Use {
+        writes: 0,
+        last: NOWHERE,
+        head: NOWHERE,
+    };
+    let mut uses = vec![in alloc; unused; function.registers as usize]?;
     for param in function.code.params.as_slice() {
-        count(writes.as_mut_slice(), param.place);
+        count(uses.as_mut_slice(), param.place);
     }
-    count_writes(writes.as_mut_slice(), function.code.blocks.as_slice());
-    let mut once = Vec::with_capacity(alloc, writes.len())?;
-    for count in writes.as_slice() {
-        once.push(*count < 2)?;
+    for block in function.code.blocks.as_slice() {
+        count_writes(uses.as_mut_slice(), block.lines.as_slice());
     }
-    Ok(once)
+    Ok(uses)
 }

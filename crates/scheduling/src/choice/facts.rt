@@ -31,25 +31,18 @@ pub(crate) struct Facts {
     pub height: u32,
 }
 
-fn is_read(place: Option<Location>, line: &Line<Location>) -> bool {
-    match place {
-        Some(place) => line_reads(line, place),
-        None => false,
-    }
-}
-
 /// Those of these lines, the nearest last, that have to stay in front of a line, and those whose result it reads.
 fn masks(lines: &[Line<Location>], before: &[Facts], line: &Line<Location>) -> (u32, u32) {
     let mut behind = 0u32;
     let mut waits = 0u32;
     let mut bit = 1u32;
     for other in before.iter().rev() {
-        if let Some(other) = lines.get(other.line) {
-            if !is_independent(other, line) {
-                behind |= bit;
-                if is_read(written(other), line) {
-                    waits |= bit;
-                }
+        if let Some(other) = lines.get(other.line)
+            && !is_independent(other, line)
+        {
+            behind |= bit;
+            if written(other).is_some_and(|place| line_reads(line, place)) {
+                waits |= bit;
             }
         }
         bit = bit.wrapping_mul(2);
@@ -70,17 +63,13 @@ pub(crate) fn facts_of(alloc: Global, block: &Block<Location>) -> Result<Vec<Fac
         }
         let takes = times_of(line);
         let (behind, waits) = masks(lines, facts.as_slice(), line);
-        let is_jumped_on = match written(line) {
-            Some(place) => jump_reads(&block.jump, place),
-            None => false,
-        };
         facts.push(Facts {
             line: number,
             before: takes.before,
             latency: takes.latency,
             behind,
             waits,
-            is_jumped_on,
+            is_jumped_on: written(line).is_some_and(|place| jump_reads(&block.jump, place)),
             height: 0,
         })?;
     }

@@ -29,17 +29,15 @@ fn is_power(operand: &Operand<Location>) -> bool {
     }
 }
 
-fn of_product(left: &Operand<Location>, right: &Operand<Location>) -> u32 {
-    if is_power(left) || is_power(right) {
-        NEXT
-    } else {
-        PRODUCT
-    }
-}
-
 fn of_operation(operation: &Operation, left: &Operand<Location>, right: &Operand<Location>) -> u32 {
     match operation {
-        Operation::Reg(RegOp::Mul) | Operation::RegW(RegWOp::Mulw) => of_product(left, right),
+        Operation::Reg(RegOp::Mul) | Operation::RegW(RegWOp::Mulw) => {
+            if is_power(left) || is_power(right) {
+                NEXT
+            } else {
+                PRODUCT
+            }
+        }
         Operation::Reg(RegOp::Mulh | RegOp::Mulhsu | RegOp::Mulhu) => PRODUCT,
         _ => NEXT,
     }
@@ -64,10 +62,7 @@ fn of_load(op: LoadOp) -> u32 {
 }
 
 fn in_slot(place: Location) -> bool {
-    match place {
-        Location::Register(_) => false,
-        Location::Slot(_) => true,
-    }
+    matches!(place, Location::Slot(_))
 }
 
 /// The cycles until an operand is in a register.

@@ -11,9 +11,7 @@ fn raise(facts: &mut [Facts], number: usize, later: Facts, is_waited_for: bool) 
             .before
             .saturating_add(gap)
             .saturating_add(later.height);
-        if earlier.height < height {
-            earlier.height = height;
-        }
+        earlier.height = earlier.height.max(height);
     }
 }
 
@@ -33,19 +31,12 @@ fn raise_all(facts: &mut [Facts], number: usize, later: Facts) {
     }
 }
 
-/// The height that a line has by itself, and by the jump.
-fn own_height(line: Facts) -> u32 {
-    let gap = if line.is_jumped_on { line.latency } else { 1 };
-    line.before.saturating_add(gap)
-}
-
+/// Sets the heights of all lines, from the last to the first: one has a height by itself, by the jump, and by the lines behind it.
 fn set_heights(facts: &mut [Facts]) {
     for number in (0..facts.len()).rev() {
         if let Some(line) = facts.get_mut(number) {
-            let own = own_height(*line);
-            if line.height < own {
-                line.height = own;
-            }
+            let gap = if line.is_jumped_on { line.latency } else { 1 };
+            line.height = line.height.max(line.before.saturating_add(gap));
             let line = *line;
             raise_all(facts, number, line);
         }
@@ -60,12 +51,10 @@ fn start_of(done: &[u32], number: usize, line: Facts) -> u32 {
         if waits == 0 {
             break;
         }
-        if waits % 2 == 1 {
-            if let Some(end) = done.get(earlier) {
-                if start < *end {
-                    start = *end;
-                }
-            }
+        if waits % 2 == 1
+            && let Some(end) = done.get(earlier)
+        {
+            start = start.max(*end);
         }
         waits /= 2;
     }
@@ -91,12 +80,8 @@ struct Progress {
 
 impl Progress {
     fn new(alloc: Global, count: usize) -> Result<Progress, AllocError> {
-        let mut done = Vec::with_capacity(alloc, count)?;
-        for _ in 0..count {
-            done.push(0u32)?;
-        }
         Ok(Progress {
-            done,
+            done: vec![in alloc; 0u32; count]?,
             first: 0,
             ahead: 0,
             now: 0,
@@ -123,15 +108,15 @@ impl Progress {
         let mut height = 0u32;
         for distance in 0..WINDOW {
             let number = self.first.saturating_add(distance as usize);
-            if let Some(line) = facts.get(number) {
-                if (self.ahead >> (distance % 32)) % 2 == 0 && self.is_ready(distance, *line) {
-                    let start = start_of(self.done.as_slice(), number, *line);
-                    let start = if start < self.now { self.now } else { start };
-                    if start < least || start == least && height < line.height {
-                        best = distance;
-                        least = start;
-                        height = line.height;
-                    }
+            if let Some(line) = facts.get(number)
+                && (self.ahead >> (distance % 32)) % 2 == 0
+                && self.is_ready(distance, *line)
+            {
+                let start = start_of(self.done.as_slice(), number, *line).max(self.now);
+                if start < least || start == least && height < line.height {
+                    best = distance;
+                    least = start;
+                    height = line.height;
                 }
             }
         }
@@ -141,10 +126,7 @@ impl Progress {
     /// A line is done.
     fn take(&mut self, number: usize, line: Facts) {
         let start = start_of(self.done.as_slice(), number, line);
-        if self.now < start {
-            self.now = start;
-        }
-        self.now = self.now.saturating_add(line.before);
+        self.now = self.now.max(start).saturating_add(line.before);
         let end = self.now.saturating_add(line.latency);
         if let Some(done) = self.done.get_mut(number) {
             *done = end;
@@ -169,11 +151,7 @@ impl Progress {
 
     /// When the jump is done.
     fn end(&self) -> u32 {
-        if self.now < self.jump {
-            self.jump
-        } else {
-            self.now
-        }
+        self.now.max(self.jump)
     }
 }
 
@@ -188,11 +166,9 @@ fn time(alloc: Global, facts: &[Facts]) -> Result<u32, AllocError> {
 
 /// The cycles where nothing waits.
 fn least(facts: &[Facts]) -> u32 {
-    let mut sum = 0u32;
-    for line in facts {
-        sum = sum.saturating_add(line.before).saturating_add(1);
-    }
-    sum
+    facts.iter().fold(0u32, |sum: u32, line| {
+        sum.saturating_add(line.before).saturating_add(1)
+    })
 }
 
 /// The order in which less has to be waited for, if there is one: numbers of lines of the block.

@@ -19,11 +19,7 @@ pub fn is_same(text: &str, other: &str) -> bool {
 fn read_back<P: Place>(alloc: Global, text: &str) -> Option<(u32, Code<P>)> {
     let (count, code) = read(alloc, text.trim())?;
     let back = written(alloc, count, &code).ok()?;
-    if is_same(text, back.as_str()) {
-        Some((count, code))
-    } else {
-        None
-    }
+    is_same(text, back.as_str()).then_some((count, code))
 }
 
 /// The function in virtual code that a text describes. None where the text isn't what is written of a function, or memory is refused.

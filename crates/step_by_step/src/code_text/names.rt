@@ -2,11 +2,11 @@
 use il_ast::operation::{Class, Condition, Size};
 use rv_isa::instruction::{LoadOp, RegOp, RegWOp};
 use rv_isa::text::{load_name, reg_name, regw_name};
-use text_maker::maker::TextMaker;
+use std::fmt;
 use vcode::line::Operation;
 
 fn register_op(word: &str) -> Option<RegOp> {
-    for op in [
+    let ops = [
         RegOp::Add,
         RegOp::Sub,
         RegOp::Sll,
@@ -25,16 +25,12 @@ fn register_op(word: &str) -> Option<RegOp> {
         RegOp::Divu,
         RegOp::Rem,
         RegOp::Remu,
-    ] {
-        if reg_name(op) == word {
-            return Some(op);
-        }
-    }
-    None
+    ];
+    ops.iter().copied().find(|op| reg_name(*op) == word)
 }
 
 fn word_op(word: &str) -> Option<RegWOp> {
-    for op in [
+    let ops = [
         RegWOp::Addw,
         RegWOp::Subw,
         RegWOp::Sllw,
@@ -45,16 +41,12 @@ fn word_op(word: &str) -> Option<RegWOp> {
         RegWOp::Divuw,
         RegWOp::Remw,
         RegWOp::Remuw,
-    ] {
-        if regw_name(op) == word {
-            return Some(op);
-        }
-    }
-    None
+    ];
+    ops.iter().copied().find(|op| regw_name(*op) == word)
 }
 
 pub(crate) fn load_op(word: &str) -> Option<LoadOp> {
-    for op in [
+    let ops = [
         LoadOp::Lb,
         LoadOp::Lh,
         LoadOp::Lw,
@@ -62,12 +54,8 @@ pub(crate) fn load_op(word: &str) -> Option<LoadOp> {
         LoadOp::Lbu,
         LoadOp::Lhu,
         LoadOp::Lwu,
-    ] {
-        if load_name(op) == word {
-            return Some(op);
-        }
-    }
-    None
+    ];
+    ops.iter().copied().find(|op| load_name(*op) == word)
 }
 
 pub(crate) fn store_name(size: Size) -> &'static str {
@@ -80,12 +68,8 @@ pub(crate) fn store_name(size: Size) -> &'static str {
 }
 
 pub(crate) fn store_size(word: &str) -> Option<Size> {
-    for size in [Size::Byte, Size::Half, Size::Word, Size::Long] {
-        if store_name(size) == word {
-            return Some(size);
-        }
-    }
-    None
+    let sizes = [Size::Byte, Size::Half, Size::Word, Size::Long];
+    sizes.iter().copied().find(|size| store_name(*size) == word)
 }
 
 pub(crate) fn class_name(class: Class) -> &'static str {
@@ -97,11 +81,11 @@ pub(crate) fn class_name(class: Class) -> &'static str {
 
 /// The class that a word names.
 pub(crate) fn class_of(word: &str) -> Option<Class> {
-    match word {
-        "w" => Some(Class::W),
-        "l" => Some(Class::L),
-        _ => None,
-    }
+    let classes = [Class::W, Class::L];
+    classes
+        .iter()
+        .copied()
+        .find(|class| class_name(*class) == word)
 }
 
 fn condition_name(condition: Condition) -> &'static str {
@@ -152,15 +136,19 @@ pub(crate) fn operation_of(word: &str) -> Option<Operation> {
     Some(Operation::Compare(condition, class))
 }
 
-pub(crate) fn put_comparison(to: &mut TextMaker, condition: Condition, class: Class) {
-    to.add(condition_name(condition));
-    to.add(class_name(class));
-}
+/// The word that names an operation.
+#[derive(Clone, Copy)]
+pub(crate) struct Named(pub Operation);
 
-pub(crate) fn put_operation(to: &mut TextMaker, operation: Operation) {
-    match operation {
-        Operation::Reg(op) => to.add(reg_name(op)),
-        Operation::RegW(op) => to.add(regw_name(op)),
-        Operation::Compare(condition, class) => put_comparison(to, condition, class),
+impl fmt::Display for Named {
+    fn fmt<W: fmt::Write>(&self, f: &mut fmt::Formatter<W>) -> fmt::Result {
+        let Named(operation) = *self;
+        match operation {
+            Operation::Reg(op) => write!(f, "{}", reg_name(op)),
+            Operation::RegW(op) => write!(f, "{}", regw_name(op)),
+            Operation::Compare(condition, class) => {
+                write!(f, "{}{}", condition_name(condition), class_name(class))
+            }
+        }
     }
 }

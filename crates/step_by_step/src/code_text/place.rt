@@ -1,8 +1,31 @@
-//! Places as words.
+//! Places and operands as words.
 use crate::code_text::rules::place::CodePlace;
 use crate::code_text::words::number_behind;
-use text_maker::maker::TextMaker;
+use std::fmt;
 use vcode::place::Location;
+
+/// A place, or another operand, as a word.
+#[derive(Clone, Copy)]
+pub enum Word {
+    Virtual(u32),
+    Register(u8),
+    Slot(u32),
+    /// an integer modulo 2^64, written as the one from -2^63 up to 2^63
+    Number(u64),
+    Name(usize),
+}
+
+impl fmt::Display for Word {
+    fn fmt<W: fmt::Write>(&self, f: &mut fmt::Formatter<W>) -> fmt::Result {
+        match *self {
+            Word::Virtual(number) => write!(f, "%{number}"),
+            Word::Register(number) => write!(f, "x{number}"),
+            Word::Slot(slot) => write!(f, "[{slot}]"),
+            Word::Number(number) => write!(f, "{}", number.cast_signed()),
+            Word::Name(global) => write!(f, "${global}"),
+        }
+    }
+}
 
 /// The places of a code, as words.
 pub trait Place: CodePlace {
@@ -12,8 +35,7 @@ pub trait Place: CodePlace {
     /// The place that a word names.
     fn read(word: &str) -> Option<Self>;
 
-    /// Writes its word.
-    fn write(self, to: &mut TextMaker);
+    fn word(self) -> Word;
 }
 
 impl Place for u32 {
@@ -23,9 +45,8 @@ impl Place for u32 {
         number_behind("%", word)
     }
 
-    fn write(self, to: &mut TextMaker) {
-        to.add("%");
-        to.add_number(u64::from(self));
+    fn word(self) -> Word {
+        Word::Virtual(self)
     }
 }
 
@@ -42,17 +63,10 @@ impl Place for Location {
         }
     }
 
-    fn write(self, to: &mut TextMaker) {
+    fn word(self) -> Word {
         match self {
-            Location::Register(number) => {
-                to.add("x");
-                to.add_number(u64::from(number));
-            }
-            Location::Slot(slot) => {
-                to.add("[");
-                to.add_number(u64::from(slot));
-                to.add("]");
-            }
+            Location::Register(number) => Word::Register(number),
+            Location::Slot(slot) => Word::Slot(slot),
         }
     }
 }

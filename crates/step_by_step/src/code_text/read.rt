@@ -3,7 +3,6 @@ use crate::code_text::names::{class_of, comparison_of, load_op, operation_of, st
 use crate::code_text::place::Place;
 use crate::code_text::words::{Words, number_behind, signed};
 use il_ast::list::Seq;
-use il_ast::operation::Class;
 use il_ast::symbol::Symbol;
 use std::alloc::Global;
 use std::mem;
@@ -232,40 +231,21 @@ fn parameters<P: Place>(alloc: Global, list: &str) -> Option<Seq<Destination<P>>
     Some(params)
 }
 
-/// What the first line of a function says.
-#[derive(Clone, Copy)]
-struct FirstLine<'a> {
-    result: Option<Class>,
-    params: &'a str,
-    count: u32,
-}
-
-fn header(text: &str) -> Option<FirstLine<'_>> {
-    let (before, behind) = text.split_once('(')?;
+/// The code of a text, and how many registers or slots it has.
+pub(crate) fn read<P: Place>(alloc: Global, text: &str) -> Option<(u32, Code<P>)> {
+    let (first, rest) = text.split_once('\n').unwrap_or((text, ""));
+    let (before, behind) = first.split_once('(')?;
     let (params, counted) = behind.split_once(')')?;
     let mut words = Words::of(before);
     let _function = words.next();
     let result = class_of(words.next());
     let mut words = Words::of(counted);
     let _name = words.next();
-    Some(FirstLine {
+    let count = words.next().parse::<u32>().ok()?;
+    let code = Code {
         result,
-        params,
-        count: words.next().parse::<u32>().ok()?,
-    })
-}
-
-fn code<P: Place>(alloc: Global, header: FirstLine<'_>, text: &str) -> Option<Code<P>> {
-    Some(Code {
-        result: header.result,
-        params: parameters(alloc, header.params)?,
-        blocks: blocks(alloc, text)?,
-    })
-}
-
-/// The code of a text, and how many registers or slots it has.
-pub(crate) fn read<P: Place>(alloc: Global, text: &str) -> Option<(u32, Code<P>)> {
-    let (first, rest) = text.split_once('\n').unwrap_or((text, ""));
-    let header = header(first)?;
-    Some((header.count, code(alloc, header, rest)?))
+        params: parameters(alloc, params)?,
+        blocks: blocks(alloc, rest)?,
+    };
+    Some((count, code))
 }

@@ -1,73 +1,41 @@
 //! Code as text.
-use crate::code_text::names::{class_name, put_comparison, put_operation, store_name};
-use crate::code_text::place::Place;
-use il_ast::operation::Class;
+use crate::code_text::names::{Named, class_name, store_name};
+use crate::code_text::place::{Place, Word};
 use rv_isa::text::load_name;
 use std::alloc::{AllocError, Global};
 use text_maker::maker::TextMaker;
+use text_maker::say;
 use vcode::code::{Block, Code};
-use vcode::line::{Jump, Line};
-use vcode::place::{Address, Argument, Destination, Extension, Operand};
+use vcode::line::{Jump, Line, Operation};
+use vcode::place::{Argument, Extension, Operand};
 
-fn operand<P: Place>(to: &mut TextMaker, value: &Operand<P>) {
+fn operand<P: Place>(value: &Operand<P>) -> Word {
     match value {
-        Operand::At(place) => place.write(to),
-        Operand::Number(number) => to.add_signed(*number),
-        Operand::Name(global) => {
-            to.add("$");
-            to.add_number(global.number() as u64);
-        }
+        Operand::At(place) => place.word(),
+        Operand::Number(number) => Word::Number(*number),
+        Operand::Name(global) => Word::Name(global.number()),
     }
 }
 
-fn operands<P: Place>(to: &mut TextMaker, left: &Operand<P>, right: &Operand<P>) {
-    operand(to, left);
-    to.add(", ");
-    operand(to, right);
-}
-
-fn address<P: Place>(to: &mut TextMaker, at: &Address<P>) {
-    to.add_signed(widened(at.offset.value));
-    to.add("(");
-    operand(to, &at.base);
-    to.add(")");
-}
-
-/// The integer modulo 2^64.
-fn widened(offset: i16) -> u64 {
-    if offset < 0 {
-        0u64.wrapping_sub(u64::from(offset.unsigned_abs()))
-    } else {
-        u64::from(offset.unsigned_abs())
-    }
-}
-
-fn assigned<P: Place>(to: &mut TextMaker, place: P) {
-    place.write(to);
-    to.add(" = ");
-}
-
-fn extension(to: &mut TextMaker, extension: Extension) {
+/// What stands before a value of this extension.
+fn claim(extension: Extension) -> &'static str {
     match extension {
-        Extension::Made => {}
-        Extension::Claimed => to.add("claimed "),
+        Extension::Made => "",
+        Extension::Claimed => "claimed ",
     }
+}
+
+/// What stands before the item with this number of a list.
+fn comma(number: usize) -> &'static str {
+    if number == 0 { "" } else { ", " }
 }
 
 fn call<P: Place>(to: &mut TextMaker, callee: &Operand<P>, args: &[Argument<P>]) {
-    to.add("call ");
-    operand(to, callee);
-    let mut separator = "(";
-    for arg in args {
-        to.add(separator);
-        to.add(class_name(arg.class));
-        to.add(" ");
-        extension(to, arg.extension);
-        operand(to, &arg.value);
-        separator = ", ";
-    }
-    if args.is_empty() {
-        to.add("(");
+    say!(to; "call {}(", operand(callee));
+    for (number, arg) in args.iter().enumerate() {
+        let value = operand(&arg.value);
+        let (comma, class) = (comma(number), class_name(arg.class));
+        say!(to; "{comma}{class} {}{value}", claim(arg.extension));
     }
     to.add(")");
 }
@@ -75,67 +43,43 @@ fn call<P: Place>(to: &mut TextMaker, callee: &Operand<P>, args: &[Argument<P>])
 fn line<P: Place>(to: &mut TextMaker, line: &Line<P>) {
     match line {
         Line::Tick { turn, weight } => {
-            to.add("tick ");
-            to.add_number(u64::from(*weight));
-            if *turn {
-                to.add(" turn");
-            }
+            say!(to; "tick {weight}{}", if *turn { " turn" } else { "" });
         }
-        Line::Set { to: place, value } => {
-            assigned(to, *place);
-            operand(to, value);
-        }
+        Line::Set { to: place, value } => say!(to; "{} = {}", place.word(), operand(value)),
         Line::Operate {
             to: place,
             operation,
             left,
             right,
         } => {
-            assigned(to, *place);
-            put_operation(to, *operation);
-            to.add(" ");
-            operands(to, left, right);
+            let (left, right) = (operand(left), operand(right));
+            say!(to; "{} = {} {left}, {right}", place.word(), Named(*operation));
         }
         Line::Load { to: place, op, at } => {
-            assigned(to, *place);
-            to.add(load_name(*op));
-            to.add(" ");
-            address(to, at);
+            let (offset, base) = (at.offset.value, operand(&at.base));
+            say!(to; "{} = {} {offset}({base})", place.word(), load_name(*op));
         }
         Line::Store { size, value, at } => {
-            to.add(store_name(*size));
-            to.add(" ");
-            operand(to, value);
-            to.add(", ");
-            address(to, at);
+            let (offset, base) = (at.offset.value, operand(&at.base));
+            say!(to; "{} {}, {offset}({base})", store_name(*size), operand(value));
         }
-        Line::Alloc { to: place, size } => {
-            if let Some(place) = place {
-                assigned(to, *place);
-            }
-            to.add("alloc ");
-            to.add_number(*size);
-        }
+        Line::Alloc { to: None, size } => say!(to; "alloc {size}"),
+        Line::Alloc {
+            to: Some(place),
+            size,
+        } => say!(to; "{} = alloc {size}", place.word()),
         Line::Blit {
             from,
             to: target,
             count,
-        } => {
-            to.add("blit ");
-            operands(to, from, target);
-            to.add(", ");
-            to.add_number(*count);
-        }
+        } => say!(to; "blit {}, {}, {count}", operand(from), operand(target)),
         Line::Call {
             to: wanted,
             callee,
             args,
         } => {
             if let Some(wanted) = wanted {
-                wanted.place.write(to);
-                to.add(" =");
-                to.add(class_name(wanted.class));
-                to.add(" ");
+                say!(to; "{} ={} ", wanted.place.word(), class_name(wanted.class));
             }
             call(to, callee, args.as_slice());
         }
@@ -143,74 +87,40 @@ fn line<P: Place>(to: &mut TextMaker, line: &Line<P>) {
     to.add("\n");
 }
 
-fn label(to: &mut TextMaker, block: usize) {
-    to.add("@");
-    to.add_number(block as u64);
-}
-
 fn jump<P: Place>(to: &mut TextMaker, jump: &Jump<P>) {
     match jump {
-        Jump::Goto(block) => {
-            to.add("goto ");
-            label(to, *block);
-        }
+        Jump::Goto(block) => say!(to; "goto @{block}\n"),
         Jump::Branch { on, met, otherwise } => {
-            to.add("branch ");
-            put_comparison(to, on.condition, on.class);
-            to.add(" ");
-            operands(to, &on.left, &on.right);
-            to.add(", ");
-            label(to, *met);
-            to.add(", ");
-            label(to, *otherwise);
+            let comparison = Named(Operation::Compare(on.condition, on.class));
+            let (left, right) = (operand(&on.left), operand(&on.right));
+            say!(to; "branch {comparison} {left}, {right}, @{met}, @{otherwise}\n");
         }
-        Jump::Return(None) => to.add("ret"),
+        Jump::Return(None) => to.add("ret\n"),
         Jump::Return(Some(returned)) => {
-            to.add("ret ");
-            extension(to, returned.extension);
-            operand(to, &returned.value);
+            say!(to; "ret {}{}\n", claim(returned.extension), operand(&returned.value));
         }
-        Jump::Halt => to.add("halt"),
+        Jump::Halt => to.add("halt\n"),
     }
-    to.add("\n");
 }
 
 fn block<P: Place>(to: &mut TextMaker, number: usize, block: &Block<P>) {
-    label(to, number);
-    to.add("\n");
+    say!(to; "@{number}\n");
     for from in block.lines.as_slice() {
         line(to, from);
     }
     jump(to, &block.jump);
 }
 
-fn header<P: Place>(
-    to: &mut TextMaker,
-    count: u32,
-    class: Option<Class>,
-    params: &[Destination<P>],
-) {
+fn header<P: Place>(to: &mut TextMaker, count: u32, code: &Code<P>) {
     to.add("function ");
-    if let Some(class) = class {
-        to.add(class_name(class));
-        to.add(" ");
+    if let Some(class) = code.result {
+        say!(to; "{} ", class_name(class));
     }
-    let mut separator = "(";
-    for param in params {
-        to.add(separator);
-        to.add(class_name(param.class));
-        to.add(" ");
-        param.place.write(to);
-        separator = ", ";
+    to.add("(");
+    for (number, param) in code.params.as_slice().iter().enumerate() {
+        say!(to; "{}{} {}", comma(number), class_name(param.class), param.place.word());
     }
-    if params.is_empty() {
-        to.add("(");
-    }
-    to.add(") ");
-    to.add(P::COUNTED);
-    to.add(" ");
-    to.add_number(u64::from(count));
-    to.add("\n");
+    say!(to; ") {} {count}\n", P::COUNTED);
 }
 
 /// The text of a code with so many registers or slots.
@@ -220,7 +130,7 @@ pub(crate) fn written<P: Place>(
     code: &Code<P>,
 ) -> Result<String, AllocError> {
     let mut to = TextMaker::new(alloc);
-    header(&mut to, count, code.result, code.params.as_slice());
+    header(&mut to, count, code);
     for (number, from) in code.blocks.as_slice().iter().enumerate() {
         block(&mut to, number, from);
     }

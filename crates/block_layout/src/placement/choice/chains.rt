@@ -1,4 +1,5 @@
 //! An order of blocks by a guess at what runs often: chains of blocks of which each leads to the next.
+use crate::tails::choice::is_marked;
 use flow::depths::depths;
 use flow::graph::{reachable, successor};
 use std::alloc::{AllocError, Global};
@@ -16,11 +17,6 @@ struct Link {
 
     /// of the first block of a chain the last one, and of the last the first
     end: usize,
-}
-
-/// Past the end, all have a mark.
-fn is_marked(marks: &[bool], block: usize) -> bool {
-    marks.get(block).copied().unwrap_or(true)
 }
 
 /// A chain for each block.
@@ -46,10 +42,7 @@ fn before(links: &[Link], block: usize) -> Option<usize> {
 }
 
 fn end(links: &[Link], block: usize) -> usize {
-    match links.get(block) {
-        Some(link) => link.end,
-        None => block,
-    }
+    links.get(block).map_or(block, |link| link.end)
 }
 
 fn set_end(links: &mut [Link], block: usize, end: usize) {
@@ -58,22 +51,14 @@ fn set_end(links: &mut [Link], block: usize, end: usize) {
     }
 }
 
-/// Whether the first ends a chain and the second begins another.
-fn may_join(links: &[Link], from: usize, to: usize) -> bool {
-    from < links.len()
-        && to < links.len()
-        && behind(links, from).is_none()
-        && before(links, to).is_none()
-        && end(links, from) != to
-}
-
 /// Makes one chain of the one that ends with the first block and the one that begins with the second, where these are two.
 fn join(links: &mut [Link], from: usize, to: usize) {
-    if !may_join(links, from, to) {
-        return;
-    }
     let first = end(links, from);
     let last = end(links, to);
+    let ends_and_begins = behind(links, from).is_none() && before(links, to).is_none();
+    if from >= links.len() || to >= links.len() || !ends_and_begins || first == to {
+        return;
+    }
     if let Some(link) = links.get_mut(from) {
         link.behind = Some(to);
     }
@@ -94,11 +79,7 @@ fn way_depth(depths: &[u32], from: usize, to: usize) -> u32 {
 
 /// The most loops in which a way lies.
 fn most_depth(depths: &[u32]) -> u32 {
-    let mut most = 0u32;
-    for depth in depths {
-        most = most.max(*depth);
-    }
-    most
+    depths.iter().copied().max().unwrap_or(0)
 }
 
 /// Joins blocks to those to which they go at once, in so many loops: each saves a jump.
@@ -110,13 +91,11 @@ fn join_gotos(
     depth: u32,
 ) {
     for (from, block) in blocks.iter().enumerate() {
-        match &block.jump {
-            Jump::Goto(to) => {
-                if is_marked(reached, from) && way_depth(depths, from, *to) == depth {
-                    join(links, from, *to);
-                }
-            }
-            _ => {}
+        if let Jump::Goto(to) = &block.jump
+            && is_marked(reached, from)
+            && way_depth(depths, from, *to) == depth
+        {
+            join(links, from, *to);
         }
     }
 }
@@ -141,14 +120,11 @@ fn join_branches(
     depth: u32,
 ) {
     for (from, block) in blocks.iter().enumerate() {
-        match &block.jump {
-            Jump::Branch { met, otherwise, .. } => {
-                let saved = way_depth(depths, from, *met).min(way_depth(depths, from, *otherwise));
-                if is_marked(reached, from) && saved == depth {
-                    join_branch(links, depths, from, *met, *otherwise);
-                }
-            }
-            _ => {}
+        if let Jump::Branch { met, otherwise, .. } = &block.jump
+            && is_marked(reached, from)
+            && way_depth(depths, from, *met).min(way_depth(depths, from, *otherwise)) == depth
+        {
+            join_branch(links, depths, from, *met, *otherwise);
         }
     }
 }
@@ -170,19 +146,15 @@ fn chains(alloc: Global, blocks: &[Block<u32>], reached: &[bool]) -> Result<Vec<
 
 /// The first block of the chain that is best put last: its return takes no jump to the end of the frame. A block that returns is the last of its chain.
 fn last_chain(links: &[Link], blocks: &[Block<u32>], reached: &[bool]) -> Option<usize> {
-    let mut found = None;
-    for (number, block) in blocks.iter().enumerate() {
-        match &block.jump {
-            Jump::Return(_) => {
-                let first = end(links, number);
-                if is_marked(reached, number) && first != 0 {
-                    found = Some(first);
-                }
-            }
-            _ => {}
-        }
-    }
-    found
+    blocks
+        .iter()
+        .enumerate()
+        .filter(|(number, block)| {
+            matches!(block.jump, Jump::Return(_)) && is_marked(reached, *number)
+        })
+        .map(|(number, _)| end(links, number))
+        .filter(|first| *first != 0)
+        .last()
 }
 
 /// Blocks that are put in order.
@@ -208,12 +180,6 @@ fn first_of(links: &[Link], block: usize) -> usize {
     first
 }
 
-fn close(is_open: &mut [bool], block: usize) {
-    if let Some(is_open) = is_open.get_mut(block) {
-        *is_open = false;
-    }
-}
-
 fn push_target(placing: &mut Placing, block: Option<usize>) -> Result<(), AllocError> {
     if let Some(block) = block {
         placing.next.push(block)?;
@@ -228,17 +194,17 @@ fn place_block(
     number: usize,
     is_last: bool,
 ) -> Result<(), AllocError> {
-    close(placing.is_open.as_mut_slice(), number);
+    if let Some(is_open) = placing.is_open.get_mut(number) {
+        *is_open = false;
+    }
     if !is_last {
         placing.order.push(number)?;
     }
-    match blocks.get(number) {
-        Some(block) => {
-            push_target(placing, successor(&block.jump, 1))?;
-            push_target(placing, successor(&block.jump, 0))
-        }
-        None => Ok(()),
-    }
+    let Some(block) = blocks.get(number) else {
+        return Ok(());
+    };
+    push_target(placing, successor(&block.jump, 1))?;
+    push_target(placing, successor(&block.jump, 0))
 }
 
 fn place_chain(
@@ -267,14 +233,12 @@ fn place_chains(
     last: Option<usize>,
 ) -> Result<(), AllocError> {
     for _ in 0..blocks.len().saturating_mul(2).saturating_add(1) {
-        match placing.next.pop() {
-            Some(block) => {
-                if placing.is_open.get(block) == Some(&true) {
-                    let first = first_of(links, block);
-                    place_chain(placing, links, blocks, first, last == Some(first))?;
-                }
-            }
-            None => return Ok(()),
+        let Some(block) = placing.next.pop() else {
+            break;
+        };
+        if placing.is_open.get(block) == Some(&true) {
+            let first = first_of(links, block);
+            place_chain(placing, links, blocks, first, last == Some(first))?;
         }
     }
     Ok(())
@@ -288,26 +252,13 @@ fn place_last(
 ) -> Result<(), AllocError> {
     let mut next = last;
     for _ in 0..links.len() {
-        match next {
-            Some(number) => {
-                placing.order.push(number)?;
-                next = behind(links, number);
-            }
-            None => return Ok(()),
-        }
+        let Some(number) = next else {
+            break;
+        };
+        placing.order.push(number)?;
+        next = behind(links, number);
     }
     Ok(())
-}
-
-fn place_all(
-    placing: &mut Placing,
-    links: &[Link],
-    blocks: &[Block<u32>],
-    last: Option<usize>,
-) -> Result<(), AllocError> {
-    push_target(placing, Some(0))?;
-    place_chains(placing, links, blocks, last)?;
-    place_last(placing, links, last)
 }
 
 /// An order of the blocks in which often run jumps lead to the next block, without those to which no way leads. It takes time and memory as there are blocks,
@@ -325,6 +276,8 @@ pub fn chained(alloc: Global, blocks: &[Block<u32>]) -> Result<Vec<usize>, Alloc
         is_open: reached,
         next: Vec::with_capacity(alloc, blocks.len())?,
     };
-    place_all(&mut placing, links.as_slice(), blocks, last)?;
+    push_target(&mut placing, Some(0))?;
+    place_chains(&mut placing, links.as_slice(), blocks, last)?;
+    place_last(&mut placing, links.as_slice(), last)?;
     Ok(placing.order)
 }

@@ -91,17 +91,16 @@ struct Room<'a> {
 impl Room<'_> {
     /// Whether one more constant has a register of the machine in a region, or is worth more than what has it now; so it is held there.
     fn takes(&mut self, one: &Use) -> bool {
-        let has_calls = match self.regions.list.get(one.region) {
-            Some(region) => region.has_calls,
-            None => false,
+        let region = self.regions.list.get(one.region);
+        let has_calls = region.is_some_and(|region| region.has_calls);
+        let Some(held) = self.held.get_mut(one.region) else {
+            return false;
         };
-        match self.held.get_mut(one.region) {
-            Some(held) if !has_calls || self.pressure.displaced(one.region, *held) < one.gain => {
-                *held = held.saturating_add(1);
-                true
-            }
-            _ => false,
+        let takes = !has_calls || self.pressure.displaced(one.region, *held) < one.gain;
+        if takes {
+            *held = held.saturating_add(1);
         }
+        takes
     }
 }
 
@@ -125,10 +124,7 @@ fn held_regions(
 }
 
 fn leads_in(holds: &[bool], to: Option<usize>) -> bool {
-    match to {
-        Some(to) => holds.get(to).copied().unwrap_or(false),
-        None => false,
-    }
+    to.is_some_and(|to| holds.get(to) == Some(&true))
 }
 
 fn holding(
@@ -137,23 +133,19 @@ fn holding(
     regions: &Regions,
     held: &[bool],
 ) -> Result<Vec<bool>, AllocError> {
-    let mut holds = vec![in alloc; false; blocks.len()]?;
-    for (number, mark) in holds.iter_mut().enumerate() {
-        *mark = held.get(regions.number(number)).copied().unwrap_or(false);
-    }
-    Ok(holds)
+    (0..blocks.len())
+        .map(|block| held.get(regions.number(block)) == Some(&true))
+        .collect(alloc)
 }
 
 /// The blocks that lead from elsewhere to one that holds it.
 fn setting(alloc: Global, blocks: &[Block<u32>], holds: &[bool]) -> Result<Vec<bool>, AllocError> {
-    let mut sets = vec![in alloc; false; blocks.len()]?;
-    for (number, (mark, block)) in sets.iter_mut().zip(blocks).enumerate() {
-        let is_outside = !leads_in(holds, Some(number));
-        *mark = is_outside
+    let sets = blocks.iter().enumerate().map(|(number, block)| {
+        !leads_in(holds, Some(number))
             && (leads_in(holds, successor(&block.jump, 0))
-                || leads_in(holds, successor(&block.jump, 1)));
-    }
-    Ok(sets)
+                || leads_in(holds, successor(&block.jump, 1)))
+    });
+    sets.collect(alloc)
 }
 
 fn chosen_for(
@@ -175,20 +167,6 @@ fn chosen_for(
     })
 }
 
-/// The k-th choice from the last.
-fn from_last(choices: &[Choice], k: usize) -> Option<Choice> {
-    choices.iter().rev().nth(k).copied()
-}
-
-fn has_loops(depths: &[u32]) -> bool {
-    for depth in depths {
-        if 0 < *depth {
-            return true;
-        }
-    }
-    false
-}
-
 /// A constant for each register, as long as there are some that are worth it.
 fn chosen_in(
     alloc: Global,
@@ -206,10 +184,8 @@ fn chosen_in(
     let choices = choices(alloc, worthy)?;
     let free = free_registers(alloc, function.registers, named, most)?;
     let mut chosen = Vec::new(alloc);
-    for (k, register) in free.iter().enumerate() {
-        if let Some(choice) = from_last(choices.as_slice(), k) {
-            chosen.push(chosen_for(alloc, blocks, room, worthy, choice.key, *register)?)?;
-        }
+    for (choice, register) in choices.iter().rev().zip(free.iter()) {
+        chosen.push(chosen_for(alloc, blocks, room, worthy, choice.key, *register)?)?;
     }
     Ok(chosen)
 }
@@ -253,7 +229,7 @@ pub fn choose_plans(alloc: Global, function: &VFunc) -> Result<Vec<Plan>, AllocE
     }
     let predecessors = predecessors(alloc, blocks)?;
     let depths = loop_depths(alloc, blocks, predecessors.as_slice())?;
-    if has_loops(depths.as_slice()) {
+    if depths.iter().any(|depth| 0 < *depth) {
         chosen_in_loops(alloc, function, predecessors.as_slice(), depths.as_slice())
     } else {
         Ok(Vec::new(alloc))

@@ -1,11 +1,10 @@
 //! How often a function names its registers.
-use crate::reads::{Reads, jump_reads, line_reads};
+use cfg_live::reads::{Reads, jump_reads, line_reads, register_of};
 use cfg_live::uses::line_writes;
 use flow::depths::frequency;
 use std::alloc::{AllocError, Global};
 use vcode::code::Block;
 use vcode::function::VFunc;
-use vcode::place::Operand;
 
 /// The names of registers that were counted so far.
 #[derive(Drop)]
@@ -24,25 +23,23 @@ impl Names {
         }
     }
 
-    fn count_operand(&mut self, operand: Option<Operand<u32>>) {
-        if let Some(Operand::At(register)) = operand {
+    fn count_some(&mut self, register: Option<u32>) {
+        if let Some(register) = register {
             self.count(register);
         }
     }
 
     fn count_reads(&mut self, reads: Reads<'_>) {
-        self.count_operand(reads.first);
-        self.count_operand(reads.second);
+        self.count_some(reads.first);
+        self.count_some(reads.second);
         for arg in reads.args {
-            self.count_operand(Some(arg.value));
+            self.count_some(register_of(&arg.value));
         }
     }
 
     fn count_block(&mut self, block: &Block<u32>) {
         for line in block.lines.as_slice() {
-            if let Some(register) = line_writes(line) {
-                self.count(register);
-            }
+            self.count_some(line_writes(line));
             self.count_reads(line_reads(line));
         }
         self.count_reads(jump_reads(&block.jump));
@@ -50,10 +47,6 @@ impl Names {
 }
 
 /// Of each register, how often the function names it, where each loop goes round as often as is guessed.
-///
-/// # Errors
-///
-/// Only where memory was refused.
 pub(crate) fn how_often_named(
     alloc: Global,
     function: &VFunc,
@@ -74,22 +67,12 @@ pub(crate) fn how_often_named(
 }
 
 /// The first registers of the function that it names nowhere, at most `most`.
-///
-/// # Errors
-///
-/// Only where memory was refused.
 pub(crate) fn free_registers(
     alloc: Global,
     registers: u32,
     named: &[i64],
     most: usize,
 ) -> Result<Vec<u32>, AllocError> {
-    let mut free = Vec::new(alloc);
-    for register in 0..registers {
-        let is_free = named.get(register as usize).copied() == Some(0);
-        if is_free && free.len() < most {
-            free.push(register)?;
-        }
-    }
-    Ok(free)
+    let free = (0..registers).filter(|register| named.get(*register as usize) == Some(&0));
+    free.take(most).collect(alloc)
 }

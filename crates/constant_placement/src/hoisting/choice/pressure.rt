@@ -54,14 +54,10 @@ fn push_calls(
     for line in block.lines.as_slice() {
         point = behind_line(point, line);
         if let Line::Call { to, .. } = line {
-            let result = match to {
-                Some(to) => to.place,
-                None => u32::MAX,
-            };
             calls.push(Called {
                 region,
                 point,
-                result,
+                result: to.as_ref().map_or(u32::MAX, |to| to.place),
             })?;
         }
     }
@@ -90,21 +86,19 @@ fn calls_in(
 /// Marks those of so many registers that live over a call.
 fn mark_living(marks: &mut [bool], live: &Live, call: &Called, registers: u32) {
     for register in 0..registers {
-        let is_living = register != call.result && live.holds(call.point, register);
-        if let Some(mark) = marks.get_mut(register as usize) {
-            *mark = *mark || is_living;
+        if register != call.result
+            && live.holds(call.point, register)
+            && let Some(mark) = marks.get_mut(register as usize)
+        {
+            *mark = true;
         }
     }
 }
 
 /// How often each of the marked registers is named, the most often named first.
 fn counts_of(alloc: Global, marks: &[bool], named: &[i64]) -> Result<Vec<i64>, AllocError> {
-    let mut counts = Vec::new(alloc);
-    for (mark, count) in marks.iter().zip(named) {
-        if *mark {
-            counts.push(*count)?;
-        }
-    }
+    let marked = named.iter().zip(marks).filter(|(_, mark)| **mark);
+    let mut counts: Vec<i64> = marked.map(|(count, _)| *count).collect(alloc)?;
     counts.sort()?;
     counts.reverse();
     counts.truncate(KEPT);
@@ -130,10 +124,6 @@ fn counts_over(
 }
 
 /// What lives over the calls of each region.
-///
-/// # Errors
-///
-/// Only where memory was refused.
 pub(crate) fn pressure_of(
     alloc: Global,
     function: &VFunc,

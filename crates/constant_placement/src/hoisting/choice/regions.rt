@@ -64,17 +64,13 @@ impl Joining<'_> {
         Ok(())
     }
 
-    fn join_target(&mut self, block: Option<usize>) -> Result<(), AllocError> {
-        match block {
-            Some(block) => self.join(block),
-            None => Ok(()),
-        }
-    }
-
     fn join_neighbours(&mut self, block: usize) -> Result<(), AllocError> {
         if let Some(from) = self.blocks.get(block) {
-            self.join_target(successor(&from.jump, 0))?;
-            self.join_target(successor(&from.jump, 1))?;
+            for to in [successor(&from.jump, 0), successor(&from.jump, 1)] {
+                if let Some(to) = to {
+                    self.join(to)?;
+                }
+            }
         }
         for from in predecessors_of(self.predecessors, block) {
             self.join(*from)?;
@@ -86,10 +82,10 @@ impl Joining<'_> {
     fn spread(&mut self, first: usize) -> Result<(), AllocError> {
         self.join(first)?;
         for _ in 0..self.blocks.len() {
-            match self.way.pop() {
-                Some(block) => self.join_neighbours(block)?,
-                None => return Ok(()),
-            }
+            let Some(block) = self.way.pop() else {
+                break;
+            };
+            self.join_neighbours(block)?;
         }
         Ok(())
     }
@@ -122,33 +118,9 @@ fn count_entry(list: &mut [Region], region: usize) {
     }
 }
 
-/// Counts a block of the region.
-fn count_block(list: &mut [Region], region: usize, has_calls: bool) {
-    if let Some(region) = list.get_mut(region) {
-        region.blocks = region.blocks.saturating_add(1);
-        region.has_calls = region.has_calls || has_calls;
-    }
-}
-
-fn has_calls(lines: &[Line<u32>]) -> bool {
-    for line in lines {
-        if let Line::Call { .. } = line {
-            return true;
-        }
-    }
-    false
-}
-
-fn region_of(regions: &Regions, block: Option<usize>) -> usize {
-    match block {
-        Some(block) => regions.number(block),
-        None => 0,
-    }
-}
-
 fn count_entries(regions: &mut Regions, block: &Block<u32>) {
-    let first = region_of(regions, successor(&block.jump, 0));
-    let second = region_of(regions, successor(&block.jump, 1));
+    let first = successor(&block.jump, 0).map_or(0, |to| regions.number(to));
+    let second = successor(&block.jump, 1).map_or(0, |to| regions.number(to));
     count_entry(regions.list.as_mut_slice(), first);
     if second != first {
         count_entry(regions.list.as_mut_slice(), second);
@@ -156,10 +128,6 @@ fn count_entries(regions: &mut Regions, block: &Block<u32>) {
 }
 
 /// The regions of a function, by the blocks that lead to each of its blocks and by how many loops each lies in.
-///
-/// # Errors
-///
-/// Only where memory was refused.
 pub(crate) fn find_regions(
     alloc: Global,
     blocks: &[Block<u32>],
@@ -179,9 +147,11 @@ pub(crate) fn find_regions(
         let region = regions.number(number);
         if region == 0 {
             count_entries(&mut regions, block);
-        } else {
-            let has_calls = has_calls(block.lines.as_slice());
-            count_block(regions.list.as_mut_slice(), region, has_calls);
+        } else if let Some(region) = regions.list.get_mut(region) {
+            let mut lines = block.lines.as_slice().iter();
+            region.blocks = region.blocks.saturating_add(1);
+            region.has_calls = region.has_calls
+                || lines.any(|line| matches!(line, Line::Call { .. }));
         }
     }
     Ok(regions)

@@ -57,14 +57,6 @@ fn has_form(operation: Operation, number: u64) -> bool {
     number_form(&operation, number).is_some()
 }
 
-/// The same on its left.
-fn has_left_form(operation: Operation, number: u64) -> bool {
-    match swapped(&operation) {
-        Some(exchanged) => has_form(exchanged, number),
-        None => false,
-    }
-}
-
 /// What it saves where an instruction has the number in it: a shift in place of a product, and an extension of the other operand alone, are lost.
 fn in_form(operation: Operation) -> i64 {
     match operation {
@@ -82,17 +74,14 @@ fn where_operated(operation: Operation, operand: &Operand<u32>) -> i64 {
     }
 }
 
-fn is_in_form(operation: Operation, right: &Operand<u32>) -> bool {
-    match right {
-        Operand::Number(number) => has_form(operation, *number),
-        _ => false,
-    }
-}
-
 fn at_left(operation: Operation, left: &Operand<u32>) -> i64 {
-    match left {
-        Operand::Number(number) if has_left_form(operation, *number) => in_form(operation),
-        _ => where_operated(operation, left),
+    if let Operand::Number(number) = left
+        && let Some(exchanged) = swapped(&operation)
+        && has_form(exchanged, *number)
+    {
+        in_form(operation)
+    } else {
+        where_operated(operation, left)
     }
 }
 
@@ -102,9 +91,10 @@ pub(crate) fn where_operating(
     left: &Operand<u32>,
     right: &Operand<u32>,
 ) -> (i64, i64) {
-    if is_in_form(operation, right) {
-        (where_operated(operation, left), in_form(operation))
-    } else {
-        (at_left(operation, left), where_operated(operation, right))
+    match right {
+        Operand::Number(number) if has_form(operation, *number) => {
+            (where_operated(operation, left), in_form(operation))
+        }
+        _ => (at_left(operation, left), where_operated(operation, right)),
     }
 }

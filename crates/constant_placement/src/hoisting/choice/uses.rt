@@ -60,17 +60,16 @@ struct Uses {
 
 impl Uses {
     fn push(&mut self, operand: &Operand<u32>, saved: i64) -> Result<(), AllocError> {
-        match Key::of(operand) {
-            Some(key) if saved != 0 => {
-                self.list.push(Use {
-                    key,
-                    region: self.region,
-                    gain: saved.saturating_mul(self.times),
-                })?;
-                Ok(())
-            }
-            _ => Ok(()),
+        if let Some(key) = Key::of(operand)
+            && saved != 0
+        {
+            self.list.push(Use {
+                key,
+                region: self.region,
+                gain: saved.saturating_mul(self.times),
+            })?;
         }
+        Ok(())
     }
 
     fn push_two(
@@ -145,10 +144,6 @@ fn merged(alloc: Global, uses: &[Use]) -> Result<Vec<Use>, AllocError> {
 }
 
 /// What it would save to hold each constant in each region, in the order of constants.
-///
-/// # Errors
-///
-/// Only where memory was refused.
 pub(crate) fn uses_of(
     alloc: Global,
     blocks: &[Block<u32>],
@@ -171,20 +166,7 @@ pub(crate) fn uses_of(
     merged(alloc, uses.list.as_slice())
 }
 
-fn has_gain(uses: &[Use]) -> bool {
-    for one in uses {
-        if 0 < one.gain {
-            return true;
-        }
-    }
-    false
-}
-
 /// Whether a register that holds a constant would save an instruction anywhere.
-///
-/// # Errors
-///
-/// Only where memory was refused.
 pub(crate) fn may_save(alloc: Global, blocks: &[Block<u32>]) -> Result<bool, AllocError> {
     let mut uses = Uses {
         list: Vec::new(alloc),
@@ -194,5 +176,5 @@ pub(crate) fn may_save(alloc: Global, blocks: &[Block<u32>]) -> Result<bool, All
     for block in blocks {
         uses.push_block(block)?;
     }
-    Ok(has_gain(uses.list.as_slice()))
+    Ok(uses.list.iter().any(|one| 0 < one.gain))
 }

@@ -5,8 +5,8 @@ use Rattle.vcode.specs.Named.{block_keeps, is_below}
 use Rattle.dead_code.proofs.guess.sweep_down.Goals as goal
 use Rattle.il_ast.proofs.Listed.{all_at}
 
-pub walk_block-has_grown-requires : goal.walk_block-has_grown-requires
-walk_block-has_grown-requires c =
+pub go-has_grown-requires : goal.go-has_grown-requires
+go-has_grown-requires c =
     let k = c.loop-k.k in
     let b : Block ℕ = c.index-blocks-k.result in
     let blocks = c.args.blocks.now in

@@ -4,8 +4,8 @@ use Rattle.dead_code.specs.Without.{Wanted, is_dead, wanted_at, as_wanted}
 use Rattle.dead_code.proofs.Walking.{lines_above, wanted_on}
 use Rattle.dead_code.proofs.remove.kept_backward.Goals as goal
 
-pub loop-k-preserved-in-Continue-branch-3 : goal.loop-k-preserved-in-Continue-branch-3
-loop-k-preserved-in-Continue-branch-3 c =
+pub loop-k-preserved-then-not-is_dead : goal.loop-k-preserved-then-not-is_dead
+loop-k-preserved-then-not-is_dead c =
     let out : Wanted = is_member c.args.set.now in
     let lines = c.args.lines.now in
     let k = c.loop-k.k in
@@ -15,8 +15,8 @@ loop-k-preserved-in-Continue-branch-3 c =
     record {
       length = c.pass.ensures.length ∙ c.loop-k.invariant.length;
       lines =
-          lines_above out lines k l c.in_ok-wanted.wanted c.loop-k.kept.items c.push.new.self.items c.loop-k-test.true c.loop-k.auto.k c.index-lines-k.is stays
-          (c.in_ok-wanted.ensures ∙ ap (λ (w : Wanted). as_wanted w l) c.loop-k.invariant.wanted) c.in_ok-push.ensures.items c.loop-k.invariant.lines;
+          lines_above out lines k l c.in_ok-as_wanted.field-0 c.loop-k.kept.items c.push.new.self.items c.loop-k-test.true c.loop-k.auto.k c.index-lines-k.is stays
+          (c.in_ok-as_wanted.ensures ∙ ap (λ (w : Wanted). as_wanted w l) c.loop-k.invariant.wanted) c.in_ok-push.ensures.items c.loop-k.invariant.lines;
       wanted =
           wanted_on out lines k l (is_member c.loop-k.set) (is_member c.pass.new.set) c.loop-k-test.true c.loop-k.auto.k c.index-lines-k.is stays c.loop-k.invariant.wanted c.pass.ensures.wanted;
     }

@@ -12,8 +12,8 @@ returns-in-LoadLong-clause-value c =
     (λ number h. ap (λ x. operate_one c.args.memory.now x c.args.class (Pointer c.args.block c.args.offset)) c.in-LoadLong.is
     ∙ loads_long c.args.memory.now c.args.class c.args.block c.args.offset number 8 refl h)
 
-pub returns-in-Some-clause-value : goal.returns-in-Some-clause-value
-returns-in-Some-clause-value c =
+pub returns-in_ok-number-in-Load-clause-value : goal.returns-in_ok-number-in-Load-clause-value
+returns-in_ok-number-in-Load-clause-value c =
     ap (λ x. operate_one c.args.memory.now x c.args.class (Pointer c.args.block c.args.offset)) c.in-Load.is
-    ∙ loads c.args.memory.now c.in-Load.extension c.args.class c.args.block c.args.offset c.in-Some.number (byte_count c.extension_size.result) c.extended.result
-    c.extension_size.ensures c.in-Some.ensures c.extended.ensures
+    ∙ loads c.args.memory.now c.in-Load.extension c.args.class c.args.block c.args.offset c.in_ok-number-in-Load.number (byte_count c.extension_size.result) c.extended.result
+    c.extension_size.ensures c.in_ok-number-in-Load.ensures c.extended.ensures

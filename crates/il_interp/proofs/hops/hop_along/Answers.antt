@@ -36,8 +36,8 @@ returns-in-None-clause-few c = grind (arith, common_steps)
 pub overflow_sub-result : goal.overflow_sub-result
 overflow_sub-result c = grind (arith, common_steps)
 
-pub returns-in-None-get-clause-few : goal.returns-in-None-get-clause-few
-returns-in-None-get-clause-few c = grind (arith, common_steps)
+pub returns-in-None-block_at-clause-few : goal.returns-in-None-block_at-clause-few
+returns-in-None-block_at-clause-few c = grind (arith, common_steps)
 
 pub overflow_sub-left : goal.overflow_sub-left
 overflow_sub-left c = grind (arith, common_steps)
@@ -54,8 +54,8 @@ returns-clause-few c = grind (arith, common_steps)
 pub returns-clause-means : goal.returns-clause-means
 returns-clause-means c = grind (arith, common_steps)
 
-pub returns-in-None-get-clause-means : goal.returns-in-None-get-clause-means
-returns-in-None-get-clause-means c = grind (arith, common_steps)
+pub returns-in-None-block_at-clause-means : goal.returns-in-None-block_at-clause-means
+returns-in-None-block_at-clause-means c = grind (arith, common_steps)
 
 pub returns-in-None-clause-means : goal.returns-in-None-clause-means
 returns-in-None-clause-means c = grind (arith, common_steps)

@@ -16,4 +16,4 @@ loop-at-preserved c =
     one_further (program c.args.linked.now) c.args.text c.args.insts.now (held c.args.temps.now c.args.memory.now) (held c.loop-at.temps c.loop-at.memory)
     (held c.instruction.new.temps c.instruction.new.memory) c.args.next c.loop-at.at
     (get_or c.args.insts.now c.loop-at.at c.index-insts-at.result) c.loop-at.auto.at
-    (slice_get-get_or c.args.insts.now c.loop-at.at c.index-insts-at.result inside) c.if-not-instruction.ensures c.loop-at.invariant
+    (slice_get-get_or c.args.insts.now c.loop-at.at c.index-insts-at.result inside) c.in-Some.ensures c.loop-at.invariant

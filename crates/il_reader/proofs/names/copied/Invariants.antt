@@ -1,6 +1,7 @@
 use Rattle.std.proofs.Common.{◌≡◌, take}
 use Rattle.std.specs.Prelude.{map}
+use Rattle.il_reader.specs.Keys.{key_bytes}
 use Rattle.il_reader.proofs.names.copied.Given as goal
 
 abbrev pub invariant-loop-name : goal.invariant-loop-name
-invariant-loop-name l = l.copies ≡ map (λ name. name.now) (take l.name-index l.names)
+invariant-loop-name l = l.copies ≡ map key_bytes (take l.name-index l.names)

@@ -1,7 +1,8 @@
 use Rattle.std.proofs.Common.{◌≡◌, ◌+◌, drop}
 use Rattle.std.specs.Prelude.{map}
+use Rattle.il_reader.specs.Keys.{key_bytes}
 use Rattle.il_reader.specs.State.{place}
 use Rattle.il_reader.proofs.names.place_among.Given as goal
 
 abbrev pub invariant-loop-k : goal.invariant-loop-k
-invariant-loop-k l = l.k + place l.name (map (λ n. n.now) (drop l.k l.names)) ≡ place l.name (map (λ n. n.now) l.names)
+invariant-loop-k l = l.k + place l.name (map key_bytes (drop l.k l.names)) ≡ place l.name (map key_bytes l.names)

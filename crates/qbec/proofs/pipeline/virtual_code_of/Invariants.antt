@@ -2,5 +2,5 @@ use Rattle.vcode.specs.Coded.{virtual_code}
 use Rattle.qbec.specs.Pipeline.{IsCodeWith}
 use Rattle.qbec.proofs.pipeline.virtual_code_of.Given as goal
 
-abbrev pub invariant-loop-pass : goal.invariant-loop-pass
-invariant-loop-pass l = IsCodeWith l.fn.candidates l.fn.func (virtual_code l.function)
+abbrev pub invariant-loop-line : goal.invariant-loop-line
+invariant-loop-line l = IsCodeWith l.fn.candidates l.fn.func (virtual_code l.function)

@@ -1,11 +1,11 @@
 //! The test of a code that may be a function's.
 ghost use Rattle.std.specs.Prelude.{◌≡◌, ◌+◌, ◌≤◌, true, not, nat_le, length, IfSome};
 ghost use Rattle.std.specs.List.{list_all, list_any, sum_by};
-ghost use Rattle.il_ast.specs.declared.limits.TheConstants.{ALLOC_BYTES, FUNCTION_WEIGHT};
+ghost use Rattle.il_ast.specs.declared.limits.TheConstants.{FUNCTION_WEIGHT};
 ghost use Rattle.vcode.specs.Cost.{is_paid};
 ghost use Rattle.vcode.specs.Named.{operand_keeps, wanted_keeps, made_keeps, line_keeps, jump_keeps, block_keeps, keeps_places, are_distinct};
 ghost use Rattle.vcode.specs.Regular.{IsRegular, is_target, leads_inside, is_alloc, allocs_first, alloc_bytes, passes_few, weight_of};
-ghost use Rattle.step_by_step.specs.Function.{IsFunction};
+ghost use Rattle.step_by_step.specs.Function.{IsFunction, measured};
 
 use crate::code_text::rules::place::CodePlace;
 use il_ast::limits::{ALLOC_BYTES, ARGUMENTS, FUNCTION_WEIGHT};
@@ -173,10 +173,7 @@ fn are_inside<P: CodePlace>(blocks: &[Block<P>]) -> bool
 fn is_alloc<P: CodePlace>(line: &Line<P>) -> bool
     ensures { result ≡ is_alloc line.now }
 {
-    match line {
-        Line::Alloc { .. } => true,
-        _ => false,
-    }
+    matches!(line, Line::Alloc { .. })
 }
 
 fn allocates<P: CodePlace>(lines: &[Line<P>]) -> bool
@@ -222,33 +219,6 @@ fn alloc_bytes<P: CodePlace>(line: &Line<P>) -> Option<u64>
     }
 }
 
-fn room_behind<P: CodePlace>(room: u64, lines: &[Line<P>]) -> Option<u64>
-    ensures { IfSome result (λ left. sum_by alloc_bytes lines.now + left ≡ room) }
-{
-    let mut left = room;
-    for line in lines {
-        let bytes = alloc_bytes(line)?;
-        if left < bytes {
-            return None;
-        }
-        left -= bytes;
-    }
-    Some(left)
-}
-
-fn is_small<P: CodePlace>(blocks: &[Block<P>]) -> bool
-    ensures { result ≡ true → sum_by (λ b. sum_by alloc_bytes b.lines) blocks.now ≤ ALLOC_BYTES }
-{
-    let mut left = ALLOC_BYTES;
-    for block in blocks {
-        match room_behind(left, block.lines.as_slice()) {
-            Some(room) => left = room,
-            None => return false,
-        }
-    }
-    true
-}
-
 // ---- its ticks and its calls
 
 fn weight_of<P: CodePlace>(line: &Line<P>) -> u64
@@ -260,27 +230,46 @@ fn weight_of<P: CodePlace>(line: &Line<P>) -> u64
     }
 }
 
-fn weight_behind<P: CodePlace>(whole: u64, lines: &[Line<P>]) -> Option<u64>
-    ensures { IfSome result (λ left. sum_by weight_of lines.now + left ≡ whole) }
+/// What the lines of a function may have so much of in all.
+#[derive(Clone, Copy)]
+enum Measure {
+    /// bytes of stack
+    Stack,
+    Weight,
+}
+
+/// What a line has, if a function may have so much.
+fn measured<P: CodePlace>(measure: Measure, line: &Line<P>) -> Option<u64>
+    ensures { IfSome result (λ has. has ≡ measured measure line.now) }
+{
+    match measure {
+        Measure::Stack => alloc_bytes(line),
+        Measure::Weight => Some(weight_of(line)),
+    }
+}
+
+/// What is left of the whole behind these lines, if they have no more than that.
+fn left_behind<P: CodePlace>(measure: Measure, whole: u64, lines: &[Line<P>]) -> Option<u64>
+    ensures { IfSome result (λ left. sum_by (measured measure) lines.now + left ≡ whole) }
 {
     let mut left = whole;
     for line in lines {
-        let weight = weight_of(line);
-        if left < weight {
+        let has = measured(measure, line)?;
+        if left < has {
             return None;
         }
-        left -= weight;
+        left -= has;
     }
     Some(left)
 }
 
-fn is_light<P: CodePlace>(blocks: &[Block<P>]) -> bool
-    ensures { result ≡ true → sum_by (λ b. sum_by weight_of b.lines) blocks.now ≤ FUNCTION_WEIGHT }
+fn is_within<P: CodePlace>(measure: Measure, most: u64, blocks: &[Block<P>]) -> bool
+    ensures { result ≡ true → sum_by (λ b. sum_by (measured measure) b.lines) blocks.now ≤ most }
 {
-    let mut left = FUNCTION_WEIGHT;
+    let mut left = most;
     for block in blocks {
-        match weight_behind(left, block.lines.as_slice()) {
-            Some(weight) => left = weight,
+        match left_behind(measure, left, block.lines.as_slice()) {
+            Some(rest) => left = rest,
             None => return false,
         }
     }
@@ -336,7 +325,7 @@ fn is_regular<P: CodePlace>(code: &Code<P>) -> bool
     if !allocs_first(blocks) {
         return false;
     }
-    if !is_small(blocks) {
+    if !is_within(Measure::Stack, ALLOC_BYTES, blocks) {
         return false;
     }
     if !are_paid(blocks) {
@@ -358,7 +347,7 @@ pub fn is_function<P: CodePlace>(count: u32, code: &Code<P>) -> bool
     if !is_regular(code) {
         return false;
     }
-    if !is_light(code.blocks.as_slice()) {
+    if !is_within(Measure::Weight, FUNCTION_WEIGHT, code.blocks.as_slice()) {
         return false;
     }
     if !names_places(count, code) {

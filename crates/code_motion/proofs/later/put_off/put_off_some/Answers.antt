@@ -7,7 +7,7 @@ use Rattle.code_motion.proofs.later.put_off.put_off_some.Goals as goal
 
 pub with_blocks-requires-clause-becomes : goal.with_blocks-requires-clause-becomes
 with_blocks-requires-clause-becomes c =
-    let v = c.args.function in
+    let v = c.args.function.now in
     let items = c.in_ok-made.made.items in
     let all : AllLater v.code.blocks items =
     subst (λ (bs : List (Block ℕ)). AllLater bs items) c.as_slice.ensures c.in_ok-made.ensures in

@@ -3,4 +3,4 @@ use Rattle.vcode.specs.Coded.{virtual_code}
 use Rattle.code_motion.proofs.later.put_off.put_off_sums.Given as goal
 
 abbrev pub invariant-loop-round : goal.invariant-loop-round
-invariant-loop-round l = Keeps (virtual_code l.fn.function) (virtual_code l.function)
+invariant-loop-round l = Keeps (virtual_code l.fn.function) (virtual_code l.made)

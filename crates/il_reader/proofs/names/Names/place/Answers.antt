@@ -1,6 +1,7 @@
 use Rattle.std.proofs.Common.{ap, ◌∙◌}
 use Rattle.std.specs.Prelude.{map}
 use Rattle.il_reader.specs.State.{place, with_name}
+use Rattle.il_reader.specs.Keys.{key_bytes}
 use Rattle.il_reader.proofs.Interning.{place_is, with_name_is, found_stays}
 use Rattle.il_reader.proofs.names.Names.place.Goals as goal
 
@@ -10,7 +11,7 @@ returns-clause-value c =
 
 pub returns-clause-names : goal.returns-clause-names
 returns-clause-names c =
-    ap (map (λ n. n.now)) c.in_ok-place.ensures.keys ∙ with_name_is c.args.name c.self.inside.names.keys ∙ ap (with_name c.args.name.now) c.self.view_is
+    ap (map key_bytes) c.in_ok-place.ensures.keys ∙ with_name_is (record { bytes = c.args.name }) c.self.inside.names.keys ∙ ap (with_name c.args.name.now) c.self.view_is
 
 pub returns-in-Some-clause-names : goal.returns-in-Some-clause-names
 returns-in-Some-clause-names c =

@@ -1,13 +1,15 @@
-use Rattle.std.proofs.Common.{◌≡◌, ℕ, List, length, None, sym, ap, ◌∙◌, subst}
+use Rattle.std.proofs.Common.{◌≡◌, ℕ, List, [], length, None, sym, ap, ◌∙◌, subst}
 use Rattle.std.proofs.Math.Path.{fun_ext}
 use Rattle.vcode.specs.declared.line.Line.{Line}
 use Rattle.vcode.specs.declared.line.Jump.{Jump}
+use Rattle.vcode.specs.declared.code.Block.{Block}
 use Rattle.propagation.specs.declared.constants.claim.Claim.{Claim}
 use Rattle.propagation.specs.declared.constants.claim.Entry.{Entry}
 use Rattle.propagation.specs.Facts.{Facts}
 use Rattle.propagation.specs.FactTable.{facts_of}
 use Rattle.propagation.specs.Claimed.{claimed, known_at}
-use Rattle.propagation.specs.Forwarded.{IsPutJump, AreForwarded}
+use Rattle.propagation.specs.Forwarded.{IsPutJump, AreForwarded, IsForwarded}
+use Rattle.propagation.proofs.MakingFacts.{as_it_was}
 use Rattle.propagation.proofs.constants.propagate.forwarded_block.Goals as goal
 
 pub returns-clause-block : goal.returns-clause-block
@@ -34,3 +36,10 @@ returns-clause-block c =
     subst (λ (xs : List (Line ℕ)). AreForwarded n es xs (known_at n es c.args.number) c.args.block.now.lines xs old new) (sym c.from_vec.ensures)
     (subst (λ (fs : Facts). AreForwarded n es items fs c.args.block.now.lines items old new) known
     (subst (λ (xs : List (Line ℕ)). AreForwarded n es items start xs items old new) c.as_slice-lines.ensures all))
+
+pub returns-then-stays-clause-block : goal.returns-then-stays-clause-block
+returns-then-stays-clause-block c =
+    let n = length c.args.table.now.written.items in
+    let b : Block ℕ = c.args.block.now in
+    subst (λ (es : List Entry). IsForwarded n es c.args.number b c.in_ok-same.same) (sym (c.stays.ensures c.if-stays.true))
+    (subst (λ (d : Block ℕ). IsForwarded n [] c.args.number b d) (sym c.in_ok-same.ensures) (as_it_was n c.args.number b))

@@ -17,7 +17,7 @@ returns g c =
       inside = ap (λ (bs : Blocks). list_all (λ b. leads_inside (length bs) b.jump) bs) same ∙ sym c.are_inside.ensures ∙ c.if-not-are_inside.false;
       first = ap (λ (bs : Blocks). allocs_first bs) same ∙ sym c.allocs_first.ensures ∙ c.if-not-allocs_first.false;
       small = le-leb (sum_by (λ (b : Block g.row.P.Denot). sum_by alloc_bytes b.lines) c.args.code.now.blocks) 1048576
-          (subst (λ (bs : Blocks). sum_by (λ (b : Block g.row.P.Denot). sum_by alloc_bytes b.lines) bs ≤ 1048576) c.as_slice-blocks.ensures (c.is_small.ensures c.if-not-is_small.false));
+          (subst (λ (bs : Blocks). sum_by (λ (b : Block g.row.P.Denot). sum_by alloc_bytes b.lines) bs ≤ 1048576) c.as_slice-blocks.ensures (c.is_within.ensures c.if-not-is_within.false));
       paid = ap (λ (bs : Blocks). list_all is_paid bs) same ∙ sym c.are_paid.ensures ∙ c.if-not-are_paid.false;
       paced = are_paced c.args.code.now.blocks (ap (λ (bs : Blocks). list_all (λ b. nat_le (length b.lines) FUNCTION_WEIGHT) bs) same ∙ sym c.are_short.ensures ∙ c.if-not-are_short.false);
       few_args = ap (λ (bs : Blocks). list_all (λ b. list_all passes_few b.lines) bs) same ∙ sym c.blocks_pass_few.ensures ∙ few;

@@ -1,7 +1,0 @@
-use Rattle.std.proofs.Common.{◌≡◌, true, length}
-use Rattle.std.specs.List.{list_all}
-use Rattle.vcode.specs.Named.{is_place}
-use Rattle.regalloc.proofs.linear_scan.give_slots.Given as goal
-
-abbrev pub invariant-loop-k : goal.invariant-loop-k
-invariant-loop-k l = (list_all (is_place l.registers) l.list ≡ true) × (length l.list ≡ length l.fn.list)
