@@ -8,13 +8,12 @@ use crate::layout::Layout;
 use crate::line::push_set;
 use crate::moves::push_moves_up;
 use crate::operand::{push_fetch, push_operand, push_word, source_of};
-use il_ast::operation::Class;
+use il_ast::Class;
 use operation_code::fields::{add_immediate, register, store};
-use rv_isa::abi;
-use rv_isa::instruction::Instr;
-use rv_isa::labelled::Item;
+use rv_isa::{Instr, Item, abi};
 use std::alloc::AllocError;
-use vcode::place::{Argument, Destination, Extension, Location, Operand, low_part};
+use vcode::place::low_part;
+use vcode::{Argument, Destination, Extension, Location, Operand};
 
 /// The class that a value is passed as: a word that stands extended is passed as it is.
 pub(crate) fn passed_class(extension: Extension, class: Class) -> Class

@@ -6,11 +6,9 @@ ghost use Rattle.abi_frames.specs.Emission.{blit_items, copy_at, copy_bytes, cop
 use crate::layout::Layout;
 use crate::operand::{push_fetch, push_operand, source_of};
 use operation_code::fields::{add_immediate, load_at, store_at};
-use rv_isa::abi;
-use rv_isa::instruction::{LoadOp, StoreOp};
-use rv_isa::labelled::Item;
+use rv_isa::{Item, LoadOp, StoreOp, abi};
 use std::alloc::AllocError;
-use vcode::place::{Location, Operand};
+use vcode::{Location, Operand};
 
 /// As many bytes as fit the offsets of instructions, in whole times eight.
 const PART: u64 = 2_040;

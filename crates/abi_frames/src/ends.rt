@@ -8,9 +8,7 @@ ghost use Rattle.abi_frames.specs.Emission.{move_pointer, lower_pointer, raise_p
 use crate::layout::Layout;
 use operation_code::constant::{has_12_bits, push_constant};
 use operation_code::fields::{add, add_immediate, load, register, store};
-use rv_isa::abi;
-use rv_isa::instruction::Instr;
-use rv_isa::labelled::Item;
+use rv_isa::{Instr, Item, abi};
 use std::alloc::AllocError;
 use vcode::place::low_part;
 

@@ -9,13 +9,12 @@ use crate::call::push_passed;
 use crate::layout::Layout;
 use crate::operand::push_into_slot;
 use frame_ways::bare::is_register;
-use il_ast::operation::Class;
+use il_ast::Class;
 use operation_code::constant::push_constant;
 use operation_code::fields::{add, add_immediate, load};
-use rv_isa::abi;
-use rv_isa::labelled::Item;
+use rv_isa::{Item, abi};
 use std::alloc::{AllocError, Global};
-use vcode::place::{Argument, Destination, Extension, Location, Operand};
+use vcode::{Argument, Destination, Extension, Location, Operand};
 
 /// The caller's stack pointer into x30.
 fn push_caller_pointer(items: &mut Vec<Item>, layout: &Layout) -> Result<(), AllocError>

@@ -28,10 +28,9 @@ use crate::turns::falls_through;
 use flat_code::function::FlatFunc;
 use frame_ways::mark::Marked;
 use frame_ways::ways::ways;
-use rv_isa::labelled::{Item, LabelledCode};
+use rv_isa::{Item, LabelledCode};
 use std::alloc::{AllocError, Global};
-use vcode::code::{Block, Code};
-use vcode::place::{Destination, Location};
+use vcode::{Block, Code, Destination, Location};
 
 pub(crate) fn push_body(
     items: &mut Vec<Item>,

@@ -9,15 +9,12 @@ use crate::ends::push_epilogue;
 use crate::layout::Layout;
 use crate::line::{operand_source, push_operand_for};
 use crate::price::{COPIED_RESTORES, left_behind};
-use il_ast::operation::Condition;
+use il_ast::Condition;
 use operation_code::constant::has_12_bits;
 use operation_code::fields::register;
-use rv_isa::abi;
-use rv_isa::instruction::{BranchOp, Instr};
-use rv_isa::labelled::Item;
+use rv_isa::{BranchOp, Instr, Item, abi};
 use std::alloc::AllocError;
-use vcode::line::{Comparison, Jump, Line, Operation};
-use vcode::place::{Location, ReturnValue};
+use vcode::{Comparison, Jump, Line, Location, Operation, ReturnValue};
 
 /// Does the label stand next, so that code may fall through to it?
 fn is_next(layout: &Layout, next: usize, label: usize) -> bool

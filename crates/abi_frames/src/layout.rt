@@ -1,5 +1,5 @@
 //! The numbers of a frame.
-use il_ast::operation::Class;
+use il_ast::Class;
 
 /// What the code of a function needs to know of its frame: offsets in bytes from the stack pointer, and sizes in bytes.
 #[derive(Clone, Copy)]

@@ -14,18 +14,14 @@ use crate::operand::{
     source_of, target_of, word_source_of,
 };
 use crate::room::alloc_bytes;
-use il_ast::operation::{Class, Size};
+use il_ast::{Class, Size};
 use operation_code::fields::{load_to, register, store_from};
 use operation_code::immediate::{Form, left_form, push_form, right_form};
 use operation_code::name::with_name;
 use operation_code::operation::push_operation;
-use rv_isa::abi;
-use rv_isa::instruction::{LoadOp, StoreOp};
-use rv_isa::labelled::Item;
-use rv_isa::relocation::Partial;
+use rv_isa::{Item, LoadOp, Partial, StoreOp, abi};
 use std::alloc::AllocError;
-use vcode::line::{Line, Operation};
-use vcode::place::{Address, Location, Operand};
+use vcode::{Address, Line, Location, Operand, Operation};
 
 fn push_set_slot(
     items: &mut Vec<Item>,

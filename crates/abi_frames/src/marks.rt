@@ -13,10 +13,9 @@ use crate::entry::push_entry;
 use crate::frame::push_body;
 use crate::layout::Layout;
 use frame_ways::mark::Mark;
-use rv_isa::labelled::Item;
+use rv_isa::Item;
 use std::alloc::AllocError;
-use vcode::code::Block;
-use vcode::place::{Destination, Location};
+use vcode::{Block, Destination, Location};
 
 /// Where there is no frame, and each return goes back.
 pub(crate) fn bare_layout(layout: &Layout) -> Layout

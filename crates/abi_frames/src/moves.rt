@@ -4,10 +4,9 @@ ghost use Rattle.rv_isa.specs.declared.abi.TheConstants.{ARGUMENT_REGISTERS};
 ghost use Rattle.abi_frames.specs.Moves.{exchanged, operand_exchanged, exchange, is_in, is_read, earlier, earlier_at, settled, arrived, move_up, all_move_up, all_moved_up};
 
 use operation_code::fields::add_immediate;
-use rv_isa::abi;
-use rv_isa::labelled::Item;
+use rv_isa::{Item, abi};
 use std::alloc::AllocError;
-use vcode::place::{Argument, Location, Operand};
+use vcode::{Argument, Location, Operand};
 
 /// Where something is after two registers have changed places.
 fn exchanged(a: u8, b: u8, place: Location) -> Location

@@ -8,10 +8,9 @@ use crate::layout::Layout;
 use operation_code::constant::{push_constant, upper_part, word};
 use operation_code::fields::{add, add_immediate, extend_word, load, load_upper, register, store};
 use operation_code::name::push_address;
-use rv_isa::abi;
-use rv_isa::labelled::Item;
+use rv_isa::{Item, abi};
 use std::alloc::AllocError;
-use vcode::place::{Location, Operand};
+use vcode::{Location, Operand};
 
 /// Loads the eight bytes at an offset from the stack pointer.
 pub(crate) fn push_load(items: &mut Vec<Item>, to: u8, offset: u64) -> Result<(), AllocError>

@@ -7,11 +7,9 @@ ghost use Rattle.vcode.specs.Regular.{weight_of, code_weight};
 ghost use Rattle.abi_frames.specs.Emission.{left_by, left_behind};
 ghost use Rattle.abi_frames.specs.Functions.{price};
 
-use rv_isa::labelled::Item;
-use vcode::code::{Block, Code};
+use rv_isa::Item;
 use vcode::cost::line_cost;
-use vcode::line::Line;
-use vcode::place::Location;
+use vcode::{Block, Code, Line, Location};
 
 /// Returns have copies of a frame's end that restores no more registers than so many.
 pub const COPIED_RESTORES: usize = 4;

@@ -6,9 +6,7 @@ ghost use Rattle.vcode.specs.Regular.{alloc_bytes, area};
 ghost use Rattle.abi_frames.specs.Layout.{args_on_stack, most_in_lines, most_in_blocks, outgoing};
 
 use rv_isa::abi;
-use vcode::code::{Block, Code};
-use vcode::line::Line;
-use vcode::place::Location;
+use vcode::{Block, Code, Line, Location};
 
 /// The bytes of the area for blocks of memory that a line takes.
 pub(crate) fn alloc_bytes(line: &Line<Location>) -> u64

@@ -6,9 +6,7 @@ ghost use Rattle.abi_frames.specs.Marked.{is_marked};
 
 use rv_isa::abi;
 use std::alloc::{AllocError, Global};
-use vcode::code::{Block, Code};
-use vcode::line::Line;
-use vcode::place::{Destination, Location};
+use vcode::{Block, Code, Destination, Line, Location};
 
 fn is_call(line: &Line<Location>) -> bool
     ensures { result ≡ is_call line.now }

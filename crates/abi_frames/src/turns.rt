@@ -6,9 +6,7 @@ ghost use Rattle.abi_frames.specs.declared.pace.TheConstants.{TURN_BOUND};
 ghost use Rattle.abi_frames.specs.Layout.{falls_through};
 
 use crate::pace::TURN_BOUND;
-use vcode::code::{Block, Code};
-use vcode::line::Line;
-use vcode::place::Location;
+use vcode::{Block, Code, Line, Location};
 
 fn turns_of(line: &Line<Location>) -> u64
     ensures { result ≡ turns_of line.now }

@@ -13,9 +13,9 @@ use crate::check::is_sound;
 use crate::fits::is_placed;
 use crate::frame_slots::fewest_slots;
 use crate::whole::is_whole;
-use certificates::certificate::Certificate;
+use certificates::Certificate;
 use std::alloc::{AllocError, Global};
-use vcode::function::{LFunc, VFunc};
+use vcode::{LFunc, VFunc};
 
 /// Why a certificate was not taken.
 #[derive(Clone, Copy)]

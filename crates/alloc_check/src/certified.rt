@@ -6,13 +6,11 @@ ghost use Rattle.alloc_check.specs.Walk.{moves_before, certified_line};
 
 use crate::placing::{jump, line};
 use crate::says::{By, moves_at, moves_before, places_at};
-use certificates::certificate::{Certificate, Transfer};
+use certificates::{Certificate, Transfer};
 use cfg_live::numbering::{jump_point, next_point};
-use il_ast::list::Seq;
+use il_ast::Seq;
 use std::alloc::{AllocError, Global};
-use vcode::code::{Block, Code};
-use vcode::line::Line;
-use vcode::place::{Destination, Location, Operand};
+use vcode::{Block, Code, Destination, Line, Location, Operand};
 
 fn push_moves(placed: &mut Seq<Line<Location>>, moves: &[Transfer]) -> Result<(), AllocError>
     ensures { OnOk result (placed.new ≡ placed.old ++ transfers moves.now) }

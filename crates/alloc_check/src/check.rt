@@ -11,13 +11,10 @@ use crate::entry::is_entered_right;
 use crate::says::{begins_at, moves_at, place_by, places_at};
 use crate::stays::{are_apart, block_stays, owns};
 use crate::table::{Ground, OwnerTable};
-use certificates::certificate::{Certificate, Equality, Transfer};
+use certificates::{Certificate, Equality, Transfer};
 use cfg_live::numbering::{jump_point, next_point};
 use std::alloc::{AllocError, Global};
-use vcode::code::Block;
-use vcode::function::VFunc;
-use vcode::line::{Jump, Line};
-use vcode::place::{Argument, Destination, Operand};
+use vcode::{Argument, Block, Destination, Jump, Line, Operand, VFunc};
 
 fn held(table: &OwnerTable, places: &[Equality], value: &Operand<u32>) -> bool
     ensures { result ≡ operand_held (own_of table.now) (place_by places.now) value.now }

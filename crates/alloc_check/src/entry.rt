@@ -5,9 +5,8 @@ ghost use Rattle.alloc_check.specs.Certified.{starts_at, own_params, is_param, p
 ghost use Rattle.alloc_check.specs.Walk.{entry_holds, entry_in, owner_put};
 
 use crate::says::{begins_at, is_same};
-use certificates::certificate::{Certificate, Equality};
-use vcode::code::Code;
-use vcode::place::{Destination, Location};
+use certificates::{Certificate, Equality};
+use vcode::{Code, Destination, Location};
 
 /// Whose value a place holds after a register is put, there or elsewhere.
 fn owner_put(owner: Option<u32>, is_there: bool, register: u32) -> Option<u32>

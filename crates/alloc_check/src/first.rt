@@ -8,10 +8,10 @@ ghost use Rattle.alloc_check.specs.Accepted.{exists_in};
 ghost use Rattle.alloc_check.specs.Owners.{nobody, own_also, known, nowhere, stand_also, standing};
 ghost use Rattle.alloc_check.specs.OwnerTable.{item, in_table, first_at, stands_at, HasRoom, IsFirst};
 
-use certificates::certificate::Equality;
+use certificates::Equality;
 use rv_isa::abi;
 use std::alloc::{AllocError, Global};
-use vcode::place::Location;
+use vcode::Location;
 
 /// How many registers have a cell: those that code may name are below.
 pub(crate) const MACHINE: usize = abi::LAST_SAVED as usize + 1;

@@ -7,14 +7,11 @@ ghost use Rattle.vcode.specs.Places.{located, same_location};
 ghost use Rattle.alloc_check.specs.Accepted.{is_placed, exists_in, equalities_exist};
 
 use crate::says::is_same;
-use certificates::certificate::Equality;
-use il_ast::list::Seq;
-use il_ast::operation::Class;
+use certificates::Equality;
+use il_ast::{Class, Seq};
 use rv_isa::abi;
-use vcode::code::{Block, Code};
 use vcode::cost::is_paid;
-use vcode::line::{Jump, Line, Operation};
-use vcode::place::{Argument, Destination, Location, Operand};
+use vcode::{Argument, Block, Code, Destination, Jump, Line, Location, Operand, Operation};
 
 fn is_place(slots: u32, place: Location) -> bool
     ensures { result ≡ is_place slots place }

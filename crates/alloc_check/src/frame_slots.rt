@@ -3,8 +3,7 @@ ghost use Rattle.std.specs.Prelude.{◌≡◌, ◌≤◌, ◌<◌, ◌-◌, true
 ghost use Rattle.vcode.specs.Named.{keeps_places, is_place};
 
 use crate::fits::names_places;
-use vcode::code::Code;
-use vcode::place::Location;
+use vcode::{Code, Location};
 
 /// The fewest slots of a frame that has a slot for each that the code names, if so many are enough.
 pub(crate) fn fewest_slots(enough: u32, code: &Code<Location>) -> u32

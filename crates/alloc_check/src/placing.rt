@@ -3,10 +3,11 @@ ghost use Rattle.std.specs.Prelude.{◌≡◌, ◌++◌, map, drop, OnOk, IfOk};
 ghost use Rattle.std.specs.Option.{option_map};
 ghost use Rattle.alloc_check.specs.Placed.{placed_operand, placed_address, placed_argument, placed_returned, placed_destination, placed_line, placed_comparison, placed_jump};
 
-use il_ast::list::Seq;
+use il_ast::Seq;
 use std::alloc::{AllocError, Global};
-use vcode::line::{Comparison, Jump, Line};
-use vcode::place::{Address, Argument, Destination, Location, Operand, ReturnValue};
+use vcode::{
+    Address, Argument, Comparison, Destination, Jump, Line, Location, Operand, ReturnValue,
+};
 
 /// Says where each virtual register is.
 pub trait Placing {

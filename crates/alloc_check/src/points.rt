@@ -4,8 +4,7 @@ ghost use Rattle.alloc_check.specs.Certified.{next_point, jump_point};
 ghost use Rattle.alloc_check.specs.Accepted.{end_point};
 ghost use Rattle.alloc_check.specs.Walk.{bounded};
 
-use vcode::code::Block;
-use vcode::line::Line;
+use vcode::{Block, Line};
 
 fn next_within(point: usize, line: &Line<u32>, limit: usize) -> Option<usize>
     requires { point ≤ limit }

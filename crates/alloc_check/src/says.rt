@@ -5,9 +5,8 @@ ghost use Rattle.alloc_check.specs.Certified.{moves_at, begins_at, places_at, pl
 ghost use Rattle.alloc_check.specs.Walk.{moves_before};
 
 use crate::placing::Placing;
-use certificates::certificate::{Certificate, Equality, Transfer};
-use vcode::line::Line;
-use vcode::place::Location;
+use certificates::{Certificate, Equality, Transfer};
+use vcode::{Line, Location};
 
 /// The moves right before a point.
 pub(crate) fn moves_at(certificate: &Certificate, point: usize) -> &[Transfer]

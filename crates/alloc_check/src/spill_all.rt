@@ -8,12 +8,9 @@ ghost use Rattle.vcode.specs.Outgoing.{frame_bound};
 ghost use Rattle.vcode.specs.Regular.{code_weight};
 
 use crate::placing::{SlotForEach, destination, jump, line};
-use il_ast::list::Seq;
+use il_ast::Seq;
 use std::alloc::{AllocError, Global};
-use vcode::code::{Block, Code};
-use vcode::function::{LFunc, VFunc};
-use vcode::line::Line;
-use vcode::place::{Destination, Location};
+use vcode::{Block, Code, Destination, LFunc, Line, Location, VFunc};
 
 fn push_params(
     placed: &mut Seq<Destination<Location>>,

@@ -8,11 +8,10 @@ ghost use Rattle.alloc_check.specs.Walk.{place_stays, register_stays, moves_stay
 use crate::first::MACHINE;
 use crate::says::{begins_at, is_same, moves_at, moves_before, place_by, places_at};
 use crate::table::{Ground, OwnerTable};
-use certificates::certificate::{Certificate, Equality, Transfer};
+use certificates::{Certificate, Equality, Transfer};
 use cfg_live::numbering::next_point;
 use cfg_live::uses::line_writes;
-use vcode::line::Line;
-use vcode::place::Location;
+use vcode::{Line, Location};
 
 /// Whether a place holds the register's value.
 pub(crate) fn owns(table: &OwnerTable, place: Location, register: u32) -> bool

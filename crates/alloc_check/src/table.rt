@@ -10,10 +10,10 @@ ghost use Rattle.alloc_check.specs.OwnerTable.{item, cell_at, first_at, latest, 
 ghost use Rattle.alloc_check.specs.Walk.{put_in, move_in, also_in};
 
 use crate::first::{First, MACHINE, empty, has_cell, item};
-use certificates::certificate::{Equality, Transfer};
+use certificates::{Equality, Transfer};
 use rv_isa::abi;
 use std::alloc::{AllocError, Global};
-use vcode::place::Location;
+use vcode::Location;
 
 /// The virtual register whose value a place has held since a time, if it holds one.
 #[derive(Clone, Copy)]

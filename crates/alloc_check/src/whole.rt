@@ -6,10 +6,9 @@ ghost use Rattle.alloc_check.specs.Accepted.{end_point, names_once, has_lengths,
 
 use crate::fits::{all_exist, equalities_exist};
 use crate::points::are_points;
-use certificates::certificate::{Certificate, Equality};
-use il_ast::list::Seq;
-use vcode::code::Code;
-use vcode::function::VFunc;
+use certificates::{Certificate, Equality};
+use il_ast::Seq;
+use vcode::{Code, VFunc};
 
 fn has(equalities: &[Equality], register: u32) -> bool
     ensures { result ≡ has equalities.now register }

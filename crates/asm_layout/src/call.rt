@@ -4,10 +4,7 @@ ghost use Rattle.std.specs.Prelude.{◌≡◌, ◌++◌, [], drop, IfOk, OnOk};
 ghost use Rattle.rv_isa.specs.Labels.{IsLabelled};
 ghost use Rattle.asm_layout.specs.Forms.{link, far_call, with_far_call, with_far_calls, formed};
 
-use rv_isa::abi;
-use rv_isa::labelled::{Item, LabelledCode};
-use rv_isa::ranges::Register;
-use rv_isa::relocation::{Partial, Relocation};
+use rv_isa::{Item, LabelledCode, Partial, Register, Relocation, abi};
 use std::alloc::{AllocError, Global};
 
 /// How calls of globals are made.

@@ -8,10 +8,8 @@ use crate::jump::{push_branch, push_jump};
 use crate::places::place_of;
 use crate::reach::reach_of;
 use crate::sizes::{longest, size};
-use rv_isa::code::Hole;
 use rv_isa::encode::encode;
-use rv_isa::labelled::Item;
-use rv_isa::relocation::Filling;
+use rv_isa::{Filling, Hole, Item};
 use std::alloc::AllocError;
 
 /// `here` is the item's place in the longest form.

@@ -9,10 +9,8 @@ ghost use Rattle.asm_layout.specs.Forms.{inverse, distance, distance_word, jump_
 
 use crate::reach::Reach;
 use bits::split;
-use rv_isa::abi;
 use rv_isa::encode::encode;
-use rv_isa::instruction::{BranchOp, Instr};
-use rv_isa::ranges::{BranchOffset, Immediate, JumpOffset, Register, UpperField};
+use rv_isa::{BranchOffset, BranchOp, Immediate, Instr, JumpOffset, Register, UpperField, abi};
 use std::alloc::AllocError;
 
 const ZERO: Register = Register { number: abi::ZERO };

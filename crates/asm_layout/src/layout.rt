@@ -8,8 +8,7 @@ ghost use Rattle.asm_layout.specs.Forms.{formed, holes_of, words_of, HaveForm};
 use crate::call::{CallForm, formed};
 use crate::emit::{push_holes, push_words};
 use crate::places::{chosen_places, longest_places};
-use rv_isa::code::MachineCode;
-use rv_isa::labelled::LabelledCode;
+use rv_isa::{LabelledCode, MachineCode};
 use std::alloc::{AllocError, Global};
 
 /// The words of labelled code, with holes for the addresses of globals.

@@ -5,7 +5,7 @@ ghost use Rattle.rv_isa.specs.Labels.{longest_size};
 ghost use Rattle.asm_layout.specs.Forms.{marked, longest_places, chosen_places};
 
 use crate::sizes::{longest, size};
-use rv_isa::labelled::Item;
+use rv_isa::Item;
 use std::alloc::{AllocError, Global};
 
 /// The place of a label.

@@ -6,7 +6,7 @@ ghost use Rattle.asm_layout.specs.Forms.{jump_size, branch_size, size};
 
 use crate::places::place_of;
 use crate::reach::{Reach, reach_of};
-use rv_isa::labelled::Item;
+use rv_isa::Item;
 
 /// The most words that an item takes.
 pub fn longest(item: &Item) -> usize

@@ -1,15 +1,11 @@
 //! How many certificates of linear scan the checker accepts, and how often the code that they make names slots.
 use alloc_check::accept::{Refused, accept};
-use certificates::certificate::Certificate;
-use certificates::strategy::Strategy;
-use cfg_live::sets::Live;
+use certificates::{Certificate, Strategy};
+use cfg_live::Live;
 use qbec::compile::compile;
 use regalloc::linear_scan::LinearScan;
 use std::alloc::{AllocError, Global};
-use vcode::code::Block;
-use vcode::function::VFunc;
-use vcode::line::Line;
-use vcode::place::{Location, Operand};
+use vcode::{Block, Line, Location, Operand, VFunc};
 
 /// Linear scan, with counts of what becomes of its answers.
 #[derive(Drop)]

@@ -1,14 +1,12 @@
 //! How many instructions the executables of the examples take, and how many turns their programs.
 use elf_file::read_image;
-use il_ast::value::End;
+use il_ast::End;
 use il_interp::interpret::interpret;
 use obj_link::linking::resolve::resolve;
 use qbec::compile::compile;
 use qbec::texts::checked_texts;
 use regalloc::linear_scan::LinearScan;
-use rv_machine::flat_ram::FlatRam;
-use rv_machine::machine::Machine;
-use rv_machine::stop::Stop;
+use rv_machine::{FlatRam, Machine, Stop};
 use std::alloc::{AllocError, Global};
 use std::rt::Files;
 use std::{fs, io};

@@ -1,8 +1,8 @@
 //! How fast texts are read, checked, linked and compiled.
-use il_ast::text::Text;
+use il_ast::Text;
 use il_reader::read::read;
+use il_types::Checked;
 use il_types::check::check;
-use il_types::checked::Checked;
 use obj_link::linking::resolve::resolve;
 use qbec::compile::compile;
 use regalloc::linear_scan::LinearScan;

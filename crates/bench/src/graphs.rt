@@ -1,8 +1,6 @@
 //! Graphs of many blocks of points, whose shapes are hard on a search for live registers.
-use cfg_live::graph::Graph;
-use cfg_live::uses::Uses;
-use il_ast::few::Few;
-use il_ast::list::Seq;
+use cfg_live::{Graph, Uses};
+use il_ast::{Few, Seq};
 use std::alloc::{AllocError, Global};
 
 /// How many points a block has.

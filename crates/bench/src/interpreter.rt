@@ -1,6 +1,6 @@
 //! How fast programs are interpreted.
 use crate::texts::text_of;
-use il_ast::value::End;
+use il_ast::End;
 use il_interp::interpret::interpret;
 use il_reader::read::read;
 use il_types::check::check;

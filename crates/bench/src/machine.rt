@@ -1,11 +1,7 @@
 //! How fast the machine runs.
 use elf_file::{read_image, write_image};
 use obj_link::Image;
-use rv_machine::flat_ram::FlatRam;
-use rv_machine::machine::Machine;
-use rv_machine::page_ram::PageRam;
-use rv_machine::ram::Ram;
-use rv_machine::stop::Stop;
+use rv_machine::{FlatRam, Machine, PageRam, Ram, Stop};
 use std::alloc::{AllocError, Global};
 
 /// addi a0, a0, 1; xor a1, a1, a0; slli a2, a0, 3; add a3, a3, a2; addi t0, t0, -1; bne t0, x0, back to the first

@@ -1,6 +1,5 @@
 //! A text with a block of many phis and many predecessors.
-use text_maker::maker::TextMaker;
-use text_maker::say;
+use text_maker::{TextMaker, say};
 
 /// The blocks that lead to the phis: one after another from the start, and a last one from the phis.
 fn push_blocks(text: &mut TextMaker, count: u64) {

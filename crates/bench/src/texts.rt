@@ -1,8 +1,7 @@
 //! Texts of any size.
 use crate::phis::push_phis;
 use std::alloc::{AllocError, Global};
-use text_maker::maker::TextMaker;
-use text_maker::say;
+use text_maker::{TextMaker, say};
 
 /// How many numbers live through all blocks of a wide function.
 const KEPT: u64 = 3_990;

@@ -1,6 +1,6 @@
 //! Certificates: where values are.
-use il_ast::list::Seq;
-use vcode::place::Location;
+use il_ast::Seq;
+use vcode::Location;
 
 /// Where the virtual register has a value, the place holds it.
 #[derive(Clone, Copy)]

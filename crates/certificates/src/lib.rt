@@ -15,3 +15,7 @@ pub mod certificate;
 pub mod list;
 pub mod spill_all;
 pub mod strategy;
+
+pub use certificate::{Certificate, Equality, Transfer};
+pub use spill_all::SpillAll;
+pub use strategy::Strategy;

@@ -8,14 +8,10 @@ ghost use Rattle.certificates.specs.Listed.{place_in, with_place, with_places, w
 use crate::certificate::{Certificate, Equality, Transfer};
 use cfg_live::numbering::jump_point;
 use cfg_live::points::graph;
-use cfg_live::sets::Live;
-use cfg_live::uses::Uses;
-use il_ast::list::Seq;
+use cfg_live::{Live, Uses};
+use il_ast::Seq;
 use std::alloc::{AllocError, Global};
-use vcode::code::Block;
-use vcode::function::VFunc;
-use vcode::line::Line;
-use vcode::place::{Destination, Location};
+use vcode::{Block, Destination, Line, Location, VFunc};
 
 /// Adds the equality of a register and its place, if the list has one.
 fn push_place(

@@ -5,10 +5,9 @@ ghost use Rattle.certificates.specs.Listed.{slots, slotted};
 use crate::certificate::Certificate;
 use crate::list::certificate_of;
 use crate::strategy::Strategy;
-use cfg_live::sets::Live;
+use cfg_live::Live;
 use std::alloc::{AllocError, Global};
-use vcode::function::VFunc;
-use vcode::place::Location;
+use vcode::{Location, VFunc};
 
 /// Answers slot i for register i, everywhere; none where memory is refused.
 #[derive(Drop)]

@@ -1,7 +1,7 @@
 //! What an allocator is to do.
 use crate::certificate::Certificate;
-use cfg_live::sets::Live;
-use vcode::function::VFunc;
+use cfg_live::Live;
+use vcode::VFunc;
 
 /// A way to allocate registers. It promises nothing.
 pub trait Strategy: Drop {

@@ -1,7 +1,6 @@
 //! The graph of a function's points.
 use crate::uses::Uses;
-use il_ast::few::Few;
-use il_ast::list::Seq;
+use il_ast::{Few, Seq};
 
 /// The points of a function, numbered from 0 in the order of its text: its lines but for ticks, and its jumps.
 #[derive(Drop)]

@@ -31,3 +31,9 @@ mod spread;
 mod sweep;
 pub mod uses;
 mod worklist;
+
+pub use graph::Graph;
+pub use low_registers::LowRegisters;
+pub use reads::Reads;
+pub use sets::Live;
+pub use uses::Uses;

@@ -9,7 +9,7 @@ use crate::sets::Live;
 use crate::spread::spread;
 use bitset::BitSet;
 use std::alloc::{AllocError, Global};
-use vcode::function::VFunc;
+use vcode::VFunc;
 
 fn push_blank(alloc: Global, rows: &mut Vec<BitSet>, registers: usize) -> Result<(), AllocError>
     requires { AreBlank registers rows.old.items }

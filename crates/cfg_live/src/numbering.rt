@@ -2,7 +2,7 @@
 ghost use Rattle.std.specs.Prelude.{◌≡◌, ◌<◌, ◌^◌};
 ghost use Rattle.cfg_live.specs.Numbering.{next_point, jump_point};
 
-use vcode::line::Line;
+use vcode::Line;
 
 /// The point behind a line.
 pub fn next_point(point: usize, line: &Line<u32>) -> usize

@@ -1,6 +1,6 @@
 //! An order of the points in which most of the growth of live sets comes at once.
 use crate::graph::Graph;
-use il_ast::few::Few;
+use il_ast::Few;
 use std::alloc::{AllocError, Global};
 
 /// How far a walk has come with a point.

@@ -4,12 +4,9 @@ ghost use Rattle.cfg_live.specs.Points.{with_line, with_lines, with_block, with_
 
 use crate::graph::Graph;
 use crate::uses::{Uses, jump_reads, line_reads, line_writes};
-use il_ast::few::Few;
-use il_ast::list::Seq;
+use il_ast::{Few, Seq};
 use std::alloc::{AllocError, Global};
-use vcode::code::Block;
-use vcode::function::VFunc;
-use vcode::line::{Jump, Line};
+use vcode::{Block, Jump, Line, VFunc};
 
 fn push_line(alloc: Global, uses: &mut Vec<Uses>, line: &Line<u32>) -> Result<(), AllocError>
     ensures { OnOk result (uses.new.items ≡ with_line uses.old.items line.now) }

@@ -1,6 +1,5 @@
 //! The registers that lines and jumps read, for guesses: found without taking memory, and named in no contract.
-use vcode::line::{Jump, Line};
-use vcode::place::{Argument, Operand};
+use vcode::{Argument, Jump, Line, Operand};
 
 /// What a point reads: up to two operands, and what a call passes besides.
 #[derive(Clone, Copy)]

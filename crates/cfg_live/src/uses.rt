@@ -2,10 +2,9 @@
 ghost use Rattle.std.specs.Prelude.{◌≡◌, ◌++◌, [], ◌∷◌, drop, OnOk, IfOk};
 ghost use Rattle.cfg_live.specs.Registers.{with_operand, with_args, line_reads, line_writes, jump_reads};
 
-use il_ast::few::Few;
+use il_ast::Few;
 use std::alloc::{AllocError, Global};
-use vcode::line::{Jump, Line};
-use vcode::place::{Argument, Operand};
+use vcode::{Argument, Jump, Line, Operand};
 
 /// The registers that a point reads, and the one that it writes.
 #[derive(Drop)]

@@ -1,6 +1,6 @@
 //! The points whose sets may have to grow.
 use bitset::BitSet;
-use il_ast::few::Few;
+use il_ast::Few;
 use std::alloc::{AllocError, Global};
 
 /// The points that wait to be visited, on a stack: those behind which a set grew.

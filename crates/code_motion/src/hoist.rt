@@ -7,9 +7,9 @@ ghost use Rattle.vcode.specs.Coded.{virtual_code};
 use crate::choice::choose::choose_plan;
 use crate::longer::{Registers, all_longer};
 use crate::plan::Plan;
-use il_ast::list::Seq;
+use il_ast::Seq;
 use std::alloc::{AllocError, Global};
-use vcode::function::VFunc;
+use vcode::VFunc;
 use vcode::limits::PLACES;
 
 /// How many registers there are with those that are chosen, as far as a function may have them.

@@ -6,12 +6,11 @@ ghost use Rattle.vcode.specs.Named.{operand_keeps, is_below};
 ghost use Rattle.code_motion.specs.Longer.{is_extra, AreLonger, with_front, IsLonger, AllLonger};
 
 use crate::plan::{BlockPlan, Computation};
-use il_ast::list::Seq;
+use il_ast::Seq;
 use std::alloc::{AllocError, Global};
-use vcode::code::Block;
 use vcode::cost::is_paid;
-use vcode::line::{Line, push_lines};
-use vcode::place::Operand;
+use vcode::line::push_lines;
+use vcode::{Block, Line, Operand};
 
 /// How many registers there are before and after.
 #[derive(Clone, Copy)]

@@ -1,6 +1,5 @@
 //! What is computed in blocks besides what they compute: any such plan keeps the code, as far as its lines fit.
-use vcode::line::{Line, Operation};
-use vcode::place::Operand;
+use vcode::{Line, Operand, Operation};
 
 /// A computation at the end of a block, into a register that the function doesn't have.
 #[derive(Clone, Copy)]

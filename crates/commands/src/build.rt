@@ -7,10 +7,10 @@ ghost use Rattle.commands.specs.Refusals.{compile_refusal};
 use crate::explanation::Explanation;
 use crate::failure::Failure;
 use crate::files::{read_all, slices, write};
+use qbec::CompileError;
 use qbec::compile::compile;
-use qbec::error::CompileError;
 use regalloc::strategy::Strategy;
-use shell::disk::Disk;
+use shell::Disk;
 use std::alloc::Global;
 
 /// Writes what was compiled to the file `out`. Where nothing was compiled, nothing is written.

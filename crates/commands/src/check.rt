@@ -9,8 +9,7 @@ use crate::failure::Failure;
 use crate::files::{put_lines, read_all, slices};
 use crate::verdict::judge;
 use crate::verdict_lines::verdict_lines;
-use shell::disk::Disk;
-use shell::sink::Sink;
+use shell::{Disk, Sink};
 use std::alloc::{AllocError, Global};
 
 /// Writes these lines, as far as standard error takes them.

@@ -20,8 +20,7 @@ use crate::trace::trace;
 use command_line::refusal::Text;
 use command_line::{Command, Refusal, command_of};
 use regalloc::strategy::Strategy;
-use shell::disk::Disk;
-use shell::sink::Sink;
+use shell::{Disk, Sink};
 use std::alloc::Global;
 
 /// Writes the line of a failure, and answers its status. That standard error fails changes nothing.

@@ -10,8 +10,7 @@ use crate::failure::Failure;
 use crate::files::{put_lines, read};
 use elf_file::{Loaded, read_image};
 use shell::dis_lines::dis_lines;
-use shell::disk::Disk;
-use shell::sink::Sink;
+use shell::{Disk, Sink};
 use std::alloc::Global;
 
 /// Puts out the lines of a loaded file.

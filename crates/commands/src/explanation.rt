@@ -4,7 +4,7 @@ use crate::file_words::file_words;
 use crate::verdict::{Verdict, judge};
 use crate::verdict_lines::verdict_lines;
 use elf_file::read_image;
-use shell::disk::Disk;
+use shell::Disk;
 use std::alloc::{AllocError, Global};
 
 /// Lines that say in words why a command fails, each with its line end, where that is asked for. They are gathered before it fails, and told only then; where memory for

@@ -4,12 +4,11 @@ ghost use Rattle.commands.specs.Statuses.{fault_number, status_of, stop_status, 
 
 use crate::refusal::Refusal;
 use elf_file::LoadError;
-use il_ast::value::End;
+use il_ast::End;
 use il_interp::error::RunError;
-use qbec::error::CompileError;
-use rv_isa::fault::Fault;
-use rv_machine::start::StartError;
-use rv_machine::stop::Stop;
+use qbec::CompileError;
+use rv_isa::Fault;
+use rv_machine::{StartError, Stop};
 use std::alloc::{AllocError, AllocFailed};
 
 /// Why a command did not end well. [`crate::tell::tell`] writes its line.

@@ -8,9 +8,8 @@ ghost use Rattle.commands.specs.declared.failure.Failure.TheVariants.{Memory, Ou
 ghost use Rattle.commands.specs.Parts.{AllHold, IsUnread, IsUnwritten, MissesFile};
 
 use crate::failure::Failure;
-use shell::disk::{Disk, FileFault};
-use shell::sink::Sink;
 use shell::write_exe::write_exe;
+use shell::{Disk, FileFault, Sink};
 use std::alloc::{AllocError, Global};
 
 /// All bytes of a file.

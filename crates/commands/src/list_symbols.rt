@@ -7,8 +7,7 @@ use crate::failure::Failure;
 use crate::files::{put_out, read_all, slices, write};
 use qbec::symbols::listing::listed_file;
 use regalloc::strategy::Strategy;
-use shell::disk::Disk;
-use shell::sink::Sink;
+use shell::{Disk, Sink};
 use std::alloc::Global;
 
 /// Writes the file `target` of these bytes, where there is such a file.

@@ -2,8 +2,8 @@
 use diagnostics::reading_on::behind_stop;
 use diagnostics::remark::Remark;
 use diagnostics::text::other_rules;
-use il_types::rule::Rule;
-use qbec::error::CompileError;
+use il_types::Rule;
+use qbec::CompileError;
 use std::alloc::{AllocError, Global};
 
 /// Lines of what is wrong with a text beside what it is refused for, each with its line end: those of lines before that one, and those of it and of lines behind it. No

@@ -10,13 +10,10 @@ ghost use Rattle.commands.specs.Pieces.{RunBreaks, RunSends, SendingFails, Sent}
 use crate::failure::Failure;
 use crate::files::put_out;
 use crate::refusal::Refusal;
-use il_ast::value::End;
+use il_ast::End;
 use il_interp::pieces::Running;
-use rv_machine::machine::Machine;
-use rv_machine::ram::Ram;
-use rv_machine::stop::Stop;
-use rv_machine::table::DecodedCode;
-use shell::sink::Sink;
+use rv_machine::{DecodedCode, Machine, Ram, Stop};
+use shell::Sink;
 use std::alloc::Global;
 
 /// After so many instructions or turns at most, what they put out goes out. It is held until then, so that a program that puts out a byte at a time asks the system

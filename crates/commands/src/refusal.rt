@@ -4,8 +4,8 @@ ghost use Rattle.il_types.specs.RuleNumber.{rule_number};
 ghost use Rattle.commands.specs.declared.refusal.Refusal.TheVariants.{Rule};
 
 use elf_file::LoadError;
-use il_types::rule::BrokenRule;
-use qbec::error::CompileError;
+use il_types::BrokenRule;
+use qbec::CompileError;
 
 /// Why texts, a file or argument words are refused.
 #[derive(Drop)]

@@ -6,8 +6,7 @@ use crate::explanation::Explanation;
 use crate::failure::{Failure, end_status, stop_status};
 use crate::files::read;
 use crate::runs::{interpret_texts, run_file};
-use shell::disk::Disk;
-use shell::sink::Sink;
+use shell::{Disk, Sink};
 use std::alloc::{AllocError, Global};
 
 pub(crate) fn as_bytes<'a>(alloc: Global, words: &[&'a str]) -> Result<Vec<&'a [u8]>, AllocError>

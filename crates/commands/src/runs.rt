@@ -12,19 +12,15 @@ ghost use Rattle.commands.specs.Pieces.{FileFails, FileSends, LinkedFails, Sent,
 use crate::failure::Failure;
 use crate::pieces::{run_machine, run_turns};
 use elf_file::{Loaded, read_image};
-use il_ast::value::End;
+use il_ast::End;
 use il_interp::pieces::begin_to_run;
-use il_types::checked::Checked;
-use obj_link::linking::linked::Linked;
+use il_types::Checked;
+use obj_link::Linked;
 use obj_link::linking::resolve::resolve;
 use qbec::error::link_refusal;
 use qbec::texts::checked_texts;
-use rv_machine::machine::Machine;
-use rv_machine::page_ram::PageRam;
-use rv_machine::ram::Ram;
-use rv_machine::start::StartError;
-use rv_machine::stop::Stop;
-use shell::sink::Sink;
+use rv_machine::{Machine, PageRam, Ram, StartError, Stop};
+use shell::Sink;
 use std::alloc::Global;
 
 /// A machine at the start of a loaded file with these argument words.

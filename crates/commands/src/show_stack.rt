@@ -7,8 +7,7 @@ use crate::explanation::Explanation;
 use crate::failure::Failure;
 use crate::files::{put_out, read_all, slices};
 use crate::stack_lines::stack_listing;
-use shell::disk::Disk;
-use shell::sink::Sink;
+use shell::{Disk, Sink};
 use std::alloc::Global;
 
 /// Puts out how much stack the program takes that the files are, as texts.

@@ -1,9 +1,8 @@
 //! Why nothing bounds the stack that a program takes, in words.
-use il_ast::function::Func;
-use il_ast::program::InText;
-use il_types::checked::Checked;
+use il_ast::{Func, InText};
+use il_types::Checked;
 use itoa::Buffer;
-use obj_link::linking::linked::Linked;
+use obj_link::Linked;
 use qbec::symbols::symbol::name_in;
 use stack_bound::bounds::Bounds;
 use stack_bound::cycle::{Step, way_to_cycle};

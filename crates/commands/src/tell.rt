@@ -10,8 +10,8 @@ use crate::failure::Failure;
 use crate::refusal::Refusal;
 use elf_file::LoadError;
 use itoa::Buffer;
+use shell::Sink;
 use shell::digits::sixteen_digits;
-use shell::sink::Sink;
 use shell::write_exe::{write_exe, write_parts};
 
 /// The number of a file's refusal.

@@ -9,9 +9,8 @@ use crate::files::{read_all, slices};
 use crate::run::as_bytes;
 use crate::tell::{tell, tell_bytes};
 use crate::traced::trace_texts;
-use il_ast::value::End;
-use shell::disk::Disk;
-use shell::sink::Sink;
+use il_ast::End;
+use shell::{Disk, Sink};
 use std::alloc::Global;
 
 /// Tells where and how a program ended that didn't exit, and answers the status.

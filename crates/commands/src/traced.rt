@@ -11,14 +11,14 @@ use crate::failure::Failure;
 use crate::pieces::run_turns;
 use diagnostics::trace::source::Source;
 use diagnostics::trace::story::{story, story_of_start};
-use il_ast::value::End;
+use il_ast::End;
 use il_interp::pieces::{Running, begin_to_run};
-use il_types::checked::Checked;
-use obj_link::linking::linked::Linked;
+use il_types::Checked;
+use obj_link::Linked;
 use obj_link::linking::resolve::resolve;
 use qbec::error::link_refusal;
 use qbec::texts::checked_texts;
-use shell::sink::Sink;
+use shell::Sink;
 use std::alloc::Global;
 
 /// Where and why a run ended.

@@ -13,10 +13,11 @@ use diagnostics::linking::link;
 use diagnostics::note::Note;
 use diagnostics::text::{limit, rule, syntax};
 use diagnostics::warning::warnings;
-use il_types::checked::Checked;
-use obj_link::linking::error::LinkError;
+use il_types::Checked;
+use obj_link::LinkError;
 use obj_link::linking::resolve::resolve;
-use qbec::error::{CompileError, link_refusal};
+use qbec::CompileError;
+use qbec::error::link_refusal;
 use qbec::texts::checked_text;
 use std::alloc::{AllocError, Global};
 

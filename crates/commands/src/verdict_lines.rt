@@ -5,7 +5,7 @@ ghost use Rattle.commands.specs.Verdicts.{code_of, error_line, path_of, verdict_
 
 use crate::verdict::{Finding, Verdict};
 use diagnostics::note::Note;
-use qbec::error::CompileError;
+use qbec::CompileError;
 use std::alloc::{AllocError, Global};
 
 /// The code of a refusal.

@@ -1,6 +1,5 @@
 //! The points of virtual code, as guesses count them.
-use vcode::code::Block;
-use vcode::line::Line;
+use vcode::{Block, Line};
 
 /// The point behind a line.
 pub(crate) fn behind_line(point: usize, line: &Line<u32>) -> usize {

@@ -7,9 +7,7 @@ use crate::wanted::{begin, has, is_dead, pass_line};
 use bitset::BitSet;
 use flow::graph::successor;
 use std::alloc::{AllocError, Global};
-use vcode::code::Block;
-use vcode::function::VFunc;
-use vcode::line::Line;
+use vcode::{Block, Line, VFunc};
 
 /// How many sweeps there are at least, if more is wanted. Blocks that stand as they run take as many as loops are nested, and one more or two.
 const SWEEPS: usize = 20;

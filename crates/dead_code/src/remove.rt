@@ -10,11 +10,9 @@ ghost use Rattle.dead_code.specs.Without.{kept_lines, kept_block, wanted_at, wan
 use crate::guess::guessed;
 use crate::wanted::{as_wanted, begin, is_dead, pass};
 use bitset::BitSet;
-use il_ast::list::Seq;
+use il_ast::Seq;
 use std::alloc::{AllocError, Global};
-use vcode::code::Block;
-use vcode::function::VFunc;
-use vcode::line::Line;
+use vcode::{Block, Line, VFunc};
 
 /// The lines that stay, last first, of a block behind whose lines this is wanted, which becomes what is wanted before them.
 fn kept_backward(

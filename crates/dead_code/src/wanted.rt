@@ -8,8 +8,7 @@ ghost use Rattle.dead_code.specs.Without.{is_dead, as_wanted, names_it, reads_it
 
 use bitset::BitSet;
 use std::alloc::{AllocError, Global};
-use vcode::line::{Jump, Line};
-use vcode::place::{Argument, Operand};
+use vcode::{Argument, Jump, Line, Operand};
 
 /// Whether the register is wanted.
 pub(crate) fn has(set: &BitSet, register: u32) -> bool

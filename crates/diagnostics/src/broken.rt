@@ -6,13 +6,8 @@ use crate::note::Gathered;
 use crate::phi::is_wrong;
 use crate::place::{Does, Step, steps};
 use crate::size::{is_long_blit, is_wrong_alloc};
-use il_ast::block::Block;
-use il_ast::function::Func;
-use il_ast::instruction::{Inst, Jump};
-use il_ast::operand::Val;
-use il_ast::operation::{Class, Extension, UnaryOp};
-use il_ast::text::{Definition, Text};
-use il_types::rule::{BrokenRule, Rule};
+use il_ast::{Block, Class, Definition, Extension, Func, Inst, Jump, Text, UnaryOp, Val};
+use il_types::{BrokenRule, Rule};
 use std::alloc::{AllocError, Global};
 
 pub fn is_same(one: BrokenRule, other: BrokenRule) -> bool {

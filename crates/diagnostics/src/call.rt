@@ -1,16 +1,9 @@
 //! Calls by name of functions that have other classes.
 use crate::name::{class_word, name_in};
 use crate::note::{Gathered, Note, make_note};
-use il_ast::function::Func;
-use il_ast::instruction::Inst;
-use il_ast::operand::{Arg, Dest, Val};
-use il_ast::operation::Class;
-use il_ast::program::{InText, Target};
-use il_ast::symbol::Symbol;
-use il_ast::value::Callee;
-use obj_link::linking::linked::Linked;
-use text_maker::maker::TextMaker;
-use text_maker::say;
+use il_ast::{Arg, Callee, Class, Dest, Func, InText, Inst, Symbol, Target, Val};
+use obj_link::Linked;
+use text_maker::{TextMaker, say};
 
 /// What a call passes, and where its result goes.
 #[derive(Clone, Copy)]

@@ -3,17 +3,10 @@ use crate::call::target;
 use crate::name::add_operand;
 use crate::note::{Gathered, Note, make_note};
 use crate::place::destination;
-use il_ast::block::Block;
-use il_ast::function::Func;
-use il_ast::instruction::Inst;
-use il_ast::operand::Val;
-use il_ast::operation::{BinaryOp, Class, UnaryOp};
-use il_ast::program::{InText, Target};
-use il_ast::symbol::Symbol;
-use il_ast::temp::Temp;
-use obj_link::linking::linked::Linked;
+use il_ast::{BinaryOp, Block, Class, Func, InText, Inst, Symbol, Target, Temp, UnaryOp, Val};
+use obj_link::Linked;
 use std::alloc::{AllocError, Global};
-use text_maker::maker::TextMaker;
+use text_maker::TextMaker;
 
 /// What is known of what a temporary holds.
 #[derive(Clone, Copy, PartialEq, Eq)]

@@ -1,11 +1,8 @@
 //! What is wrong with global names and with data.
 use crate::definition::{definition_at, line_of, symbol_of};
 use crate::name::{Count, global};
-use il_ast::datum::{DataDef, Field, Item};
-use il_ast::operation::Size;
-use il_ast::text::{Definition, Text};
-use text_maker::maker::TextMaker;
-use text_maker::say;
+use il_ast::{DataDef, Definition, Field, Item, Size, Text};
+use text_maker::{TextMaker, say};
 
 /// A name that is defined twice in a text.
 pub fn add_repeated_global(words: &mut TextMaker, text: &Text, line: usize) {

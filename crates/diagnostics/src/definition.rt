@@ -1,7 +1,5 @@
 //! Definitions by their lines.
-use il_ast::function::Func;
-use il_ast::symbol::Symbol;
-use il_ast::text::{Definition, Text};
+use il_ast::{Definition, Func, Symbol, Text};
 
 pub fn line_of(definition: &Definition) -> usize {
     match definition {

@@ -1,11 +1,7 @@
 //! What is wrong with the labels of a function, and with its parameters.
 use crate::name::{label, temp};
-use il_ast::block::{Block, Phi};
-use il_ast::function::{Func, Param};
-use il_ast::instruction::Jump;
-use il_ast::label::Label;
-use text_maker::maker::TextMaker;
-use text_maker::say;
+use il_ast::{Block, Func, Jump, Label, Param, Phi};
+use text_maker::{TextMaker, say};
 
 /// A label or a parameter that stands twice.
 pub fn add_repeated_local(words: &mut TextMaker, function: &Func, line: usize) {

@@ -3,20 +3,16 @@ ghost use Rattle.std.specs.Prelude.{◌≡◌, IfOk};
 
 use crate::name::{Count, global};
 use crate::note::{Note, make_note};
-use il_ast::block::Block;
-use il_ast::function::Func;
-use il_ast::instruction::Inst;
 use il_ast::limits::{
     ALLOC_BYTES, ARGUMENTS, DATA_BYTES, FUNCTION_WEIGHT, FUNCTIONS, PROGRAM_WEIGHT, TEMPORARIES,
     TEXT_BYTES, TEXTS,
 };
-use il_ast::text::{Definition, Text};
-use il_types::checked::Checked;
+use il_ast::{Block, Definition, Func, Inst, Text};
+use il_types::Checked;
 use il_types::cost::{alloc_area, weight};
 use obj_link::linking::limits::object_size;
 use std::alloc::{AllocError, Global};
-use text_maker::maker::TextMaker;
-use text_maker::say;
+use text_maker::{TextMaker, say};
 
 /// Which limit of one text the text with this number passes, and where.
 pub(crate) fn text_limit(alloc: Global, number: usize, text: &Text) -> Result<Note, AllocError>

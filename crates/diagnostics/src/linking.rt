@@ -4,13 +4,11 @@ use crate::limit::program_limit;
 use crate::mention::{line_in, symbol_in};
 use crate::name::{Named, class_word, shown};
 use crate::note::{Note, make_note};
-use il_ast::function::Func;
-use il_ast::text::{Definition, Text};
-use il_types::checked::Checked;
-use obj_link::linking::error::LinkError;
+use il_ast::{Definition, Func, Text};
+use il_types::Checked;
+use obj_link::LinkError;
 use std::alloc::{AllocError, Global};
-use text_maker::maker::TextMaker;
-use text_maker::say;
+use text_maker::{TextMaker, say};
 
 /// Why the texts are no program, and where. The paths are those of the texts, in order.
 pub fn link(

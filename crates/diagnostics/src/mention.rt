@@ -1,9 +1,6 @@
 //! Where a text first mentions a global name.
 use crate::place::{Does, Step, steps};
-use il_ast::datum::{DataDef, Field, Item};
-use il_ast::operand::Val;
-use il_ast::symbol::Symbol;
-use il_ast::text::{Definition, Text};
+use il_ast::{DataDef, Definition, Field, Item, Symbol, Text, Val};
 use std::alloc::{AllocError, Global};
 
 /// The number of a name in a text, where the text mentions it.

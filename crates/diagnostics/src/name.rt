@@ -1,17 +1,8 @@
 //! Names and numbers as texts show them.
-use il_ast::function::Func;
-use il_ast::label::Label;
-use il_ast::name::Name;
-use il_ast::operand::Val;
-use il_ast::operation::Class;
-use il_ast::program::InText;
-use il_ast::symbol::Symbol;
-use il_ast::temp::Temp;
-use il_ast::text::Text;
-use obj_link::linking::linked::Linked;
+use il_ast::{Class, Func, InText, Label, Name, Symbol, Temp, Text, Val};
+use obj_link::Linked;
 use std::{fmt, str};
-use text_maker::maker::TextMaker;
-use text_maker::say;
+use text_maker::{TextMaker, say};
 
 /// A name of a text, behind its sign.
 #[derive(Clone, Copy)]

@@ -2,7 +2,7 @@
 ghost use Rattle.std.specs.Prelude.{◌≡◌, IfOk};
 
 use std::alloc::{AllocError, Global};
-use text_maker::maker::TextMaker;
+use text_maker::TextMaker;
 
 /// What is said of a line of one of several texts, which are numbered from 0.
 #[derive(Drop)]

@@ -2,11 +2,7 @@
 use crate::label::targets;
 use crate::place::{Does, Step};
 use bitset::BitSet;
-use il_ast::block::Block;
-use il_ast::function::Func;
-use il_ast::label::Label;
-use il_ast::operand::Val;
-use il_ast::temp::Temp;
+use il_ast::{Block, Func, Label, Temp, Val};
 use il_types::label_blocks::block_places;
 use std::alloc::{AllocError, Global};
 

@@ -1,11 +1,8 @@
 //! What is wrong with a phi.
 use crate::label::targets;
 use crate::name::{label, temp};
-use il_ast::block::{Block, Phi};
-use il_ast::function::Func;
-use il_ast::label::Label;
-use text_maker::maker::TextMaker;
-use text_maker::say;
+use il_ast::{Block, Func, Label, Phi};
+use text_maker::{TextMaker, say};
 
 /// A phi whose labels aren't the predecessors of its block, each once, or whose temporary another phi of the block assigns too.
 pub fn add_uncovered(words: &mut TextMaker, function: &Func, line: usize) {

@@ -1,12 +1,6 @@
 //! What the lines of a function do: which values they read, and which temporaries they assign.
 use crate::note::Gathered;
-use il_ast::block::{Block, Phi};
-use il_ast::function::Func;
-use il_ast::instruction::{Inst, Jump, Lined};
-use il_ast::label::Label;
-use il_ast::operand::{Dest, Val};
-use il_ast::operation::Class;
-use il_ast::temp::Temp;
+use il_ast::{Block, Class, Dest, Func, Inst, Jump, Label, Lined, Phi, Temp, Val};
 use il_types::classes::{left_class, operand_class, right_class, stored_class};
 use std::alloc::{AllocError, Global};
 

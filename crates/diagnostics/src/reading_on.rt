@@ -5,7 +5,7 @@ use crate::syntax::add_unexpected;
 use il_reader::error::ReadError;
 use il_reader::read::{read, stop};
 use std::alloc::{AllocError, Global};
-use text_maker::maker::TextMaker;
+use text_maker::TextMaker;
 
 /// The first mistakes against the grammar in the functions and data of a text behind the place where the reading of it ended.
 pub fn behind_stop(alloc: Global, number: usize, bytes: &[u8]) -> Result<Vec<Remark>, AllocError> {

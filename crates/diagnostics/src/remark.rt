@@ -1,8 +1,8 @@
 //! Mistakes of a text beside the one that it is refused for.
 use crate::note::{Note, make_note};
-use il_types::rule::Rule;
+use il_types::Rule;
 use std::alloc::AllocError;
-use text_maker::maker::TextMaker;
+use text_maker::TextMaker;
 
 /// A mistake at a line of a text: against the rule, or else against the grammar.
 #[derive(Drop)]

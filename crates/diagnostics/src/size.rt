@@ -1,11 +1,8 @@
 //! What is wrong with the sizes that instructions name.
 use crate::name::Count;
-use il_ast::block::Block;
-use il_ast::function::Func;
-use il_ast::instruction::Inst;
 use il_ast::limits::{ALLOC_BYTES, BLIT_BYTES};
-use text_maker::maker::TextMaker;
-use text_maker::say;
+use il_ast::{Block, Func, Inst};
+use text_maker::{TextMaker, say};
 
 /// The instruction at a line of a block.
 fn instruction_at(block: &Block, line: usize) -> Option<&Inst> {

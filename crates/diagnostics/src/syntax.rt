@@ -2,8 +2,7 @@
 use il_lex::kind::Kind;
 use il_lex::scan::{Ahead, scan};
 use std::str;
-use text_maker::maker::TextMaker;
-use text_maker::say;
+use text_maker::{TextMaker, say};
 
 /// Says what stands at the front of these bytes, which isn't what the grammar has there.
 pub fn add_unexpected(words: &mut TextMaker, rest: &[u8]) {

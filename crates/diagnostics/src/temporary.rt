@@ -1,13 +1,8 @@
 //! What is wrong with the temporaries of a function.
 use crate::name::{class_word, global, temp};
 use crate::place::{Does, Step, class_of};
-use il_ast::function::Func;
-use il_ast::operand::Val;
-use il_ast::operation::Class;
-use il_ast::temp::Temp;
-use il_ast::text::Text;
-use text_maker::maker::TextMaker;
-use text_maker::say;
+use il_ast::{Class, Func, Temp, Text, Val};
+use text_maker::{TextMaker, say};
 
 /// A temporary of two classes.
 pub fn add_two_classes(words: &mut TextMaker, function: &Func, steps: &[Step], line: usize) {

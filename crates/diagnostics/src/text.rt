@@ -13,12 +13,11 @@ use crate::remark::{Remark, make_remark};
 use crate::size::{add_long_blit, add_wrong_alloc};
 use crate::syntax::add_unexpected;
 use crate::temporary::{add_misfit, add_two_classes, add_undefined, add_wrong_return};
-use il_ast::function::Func;
-use il_ast::text::Text;
+use il_ast::{Func, Text};
 use il_reader::read::{read, stop};
-use il_types::rule::{BrokenRule, Rule};
+use il_types::{BrokenRule, Rule};
 use std::alloc::{AllocError, Global};
-use text_maker::maker::TextMaker;
+use text_maker::TextMaker;
 
 /// What stands at the line where the reading of a text ended.
 pub fn syntax(alloc: Global, bytes: &[u8]) -> Result<String, AllocError> {

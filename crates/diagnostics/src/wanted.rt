@@ -1,9 +1,7 @@
 //! Functions whose results are wanted.
 use crate::call::{call_by_name, target};
-use il_ast::instruction::Inst;
-use il_ast::program::Target;
-use il_ast::value::Callee;
-use obj_link::linking::linked::Linked;
+use il_ast::{Callee, Inst, Target};
+use obj_link::Linked;
 use std::alloc::{AllocError, Global};
 
 /// For each function of a program whether its result is wanted: by the start, or by a call by name.

@@ -6,13 +6,10 @@ use crate::note::{Gathered, Note, make_note};
 use crate::paths::Paths;
 use crate::place::{Step, steps};
 use crate::wanted::wanted;
-use il_ast::function::Func;
-use il_ast::instruction::Jump;
-use il_ast::program::InText;
-use obj_link::linking::linked::Linked;
+use il_ast::{Func, InText, Jump};
+use obj_link::Linked;
 use std::alloc::{AllocError, Global};
-use text_maker::maker::TextMaker;
-use text_maker::say;
+use text_maker::{TextMaker, say};
 
 /// What is likely a mistake in a program, function by function: blocks that do something and that nothing leads to, temporaries that may be read before they are
 /// assigned, returns without a value that is wanted, comparisons of functions with numbers, and calls by name of functions of other classes.

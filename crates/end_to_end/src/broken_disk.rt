@@ -1,6 +1,5 @@
 //! Files in memory, of which one is broken.
-use shell::disk::{Access, Disk, Faults, FileFault};
-use shell::memory_disk::MemoryDisk;
+use shell::{Access, Disk, Faults, FileFault, MemoryDisk};
 use std::alloc::{AllocError, Global};
 
 /// Files in memory. The path `broken` meets `fault`.

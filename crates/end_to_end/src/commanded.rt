@@ -2,7 +2,7 @@
 use crate::broken_disk::BrokenDisk;
 use commands::command::command;
 use regalloc::linear_scan::LinearScan;
-use shell::memory::MemorySink;
+use shell::MemorySink;
 use std::alloc::{AllocError, Global};
 use std::str;
 

@@ -3,10 +3,10 @@ use crate::case::{Case, Program, slices, words_as_bytes};
 use crate::compiled::{file_by, ran};
 use crate::strategies::{Answer, Cut, Fixed, List};
 use crate::told::begin;
-use rv_machine::page_ram::PageRam;
+use rv_machine::PageRam;
 use std::alloc::AllocError;
 use test_report::report::Report;
-use vcode::place::Location;
+use vcode::Location;
 
 /// What the strategies answer.
 const ANSWERS: [Answer; 40] = [

@@ -2,10 +2,11 @@
 use crate::measures::measures_of;
 use crate::told::end_told;
 use il_interp::interpret::interpret;
-use il_types::checked::Checked;
-use obj_link::linking::linked::Linked;
+use il_types::Checked;
+use obj_link::Linked;
 use obj_link::linking::resolve::resolve;
-use qbec::error::{CompileError, link_refusal};
+use qbec::CompileError;
+use qbec::error::link_refusal;
 use qbec::texts::checked_texts;
 use std::alloc::{AllocError, Global};
 use std::str;

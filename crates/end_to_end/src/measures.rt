@@ -1,10 +1,9 @@
 //! What functions need and weigh.
-use il_ast::text::Definition;
-use il_types::checked::Checked;
+use il_ast::Definition;
+use il_types::Checked;
 use il_types::cost::{capped_need, weight};
 use std::alloc::{AllocError, Global};
-use text_maker::maker::TextMaker;
-use text_maker::say;
+use text_maker::{TextMaker, say};
 
 fn without_end(alloc: Global, text: TextMaker) -> Result<String, AllocError> {
     String::from_str(alloc, text.finish()?.as_str().trim_end())

@@ -7,15 +7,12 @@ use crate::interpreted::{interpreted, measured};
 use crate::told::is_stop;
 use crate::watched::Watched;
 use regalloc::spill_all::SpillAll;
-use rv_machine::flat_ram::FlatRam;
-use rv_machine::page_ram::PageRam;
-use rv_machine::ram::Ram;
+use rv_machine::{FlatRam, PageRam, Ram};
 use std::alloc::{AllocError, Global};
 use std::str;
 use test_report::report::Report;
 use test_report::told::Told;
-use text_maker::maker::TextMaker;
-use text_maker::say;
+use text_maker::{TextMaker, say};
 
 /// Checks a case in every way that it can be.
 pub fn check(case: &Case, report: &mut Report) -> Result<(), AllocError> {

@@ -2,11 +2,10 @@
 use crate::compiled::{file_by, ran};
 use crate::told::begin;
 use regalloc::linear_scan::LinearScan;
-use rv_machine::page_ram::PageRam;
+use rv_machine::PageRam;
 use std::alloc::{AllocError, Global};
 use test_report::report::Report;
-use text_maker::maker::TextMaker;
-use text_maker::say;
+use text_maker::{TextMaker, say};
 
 /// Of everything there are at most so many.
 const MOST: usize = 130;

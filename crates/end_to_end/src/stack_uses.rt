@@ -2,7 +2,7 @@
 use il_interp::pieces::{Running, begin_to_run};
 use il_interp::trace::Place;
 use il_types::cost::capped_need;
-use obj_link::linking::linked::Linked;
+use obj_link::Linked;
 use obj_link::linking::resolve::resolve;
 use qbec::texts::checked_texts;
 use std::alloc::{AllocError, Global};

@@ -1,12 +1,11 @@
 //! Strategies that answer what they shouldn't.
-use cfg_live::sets::Live;
-use il_ast::list::Seq;
+use cfg_live::Live;
+use il_ast::Seq;
 use regalloc::certificate::{Certificate, Transfer};
 use regalloc::list::certificate_of;
 use regalloc::strategy::Strategy;
 use std::alloc::{AllocError, Global};
-use vcode::function::VFunc;
-use vcode::place::Location;
+use vcode::{Location, VFunc};
 
 /// One of the lists of a certificate.
 #[derive(Clone, Copy, Debug)]

@@ -1,6 +1,6 @@
 //! How runs end, in words.
-use il_ast::value::End;
-use rv_machine::stop::Stop;
+use il_ast::End;
+use rv_machine::Stop;
 use std::alloc::{AllocError, Global};
 use std::fmt::Display;
 use test_report::report::Report;

@@ -1,12 +1,11 @@
 //! Linear scan, watched.
 use alloc_check::accept::accept;
-use cfg_live::sets::Live;
+use cfg_live::Live;
 use regalloc::certificate::Certificate;
 use regalloc::linear_scan::LinearScan;
 use regalloc::strategy::Strategy;
 use std::alloc::Global;
-use vcode::function::VFunc;
-use vcode::place::Location;
+use vcode::{Location, VFunc};
 
 /// Linear scan, which counts how often it is asked, how many of its answers are accepted, their moves, and how often their points name a register of the machine.
 #[derive(Drop)]

@@ -2,7 +2,7 @@
 ghost use Rattle.std.specs.Prelude.{◌≡◌};
 ghost use Rattle.flat_code.specs.Laws.{FlatKept};
 
-use vcode::function::LFunc;
+use vcode::LFunc;
 
 /// A function in location code, read on bytes: its blocks of memory stand in an area of the stack, and its pointers are addresses. The lines are the same.
 #[derive(Drop)]

@@ -2,9 +2,9 @@
 ghost use Rattle.std.specs.Prelude.{◌<◌, ◌≤◌};
 
 use crate::graph::{predecessors, predecessors_of, successor};
-use il_ast::few::Few;
+use il_ast::Few;
 use std::alloc::{AllocError, Global};
-use vcode::code::Block;
+use vcode::Block;
 
 /// From a block to another.
 #[derive(Clone, Copy, PartialEq, Eq, PartialOrd, Ord)]

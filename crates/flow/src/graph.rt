@@ -2,10 +2,9 @@
 ghost use Rattle.std.specs.Prelude.{◌≡◌, slice_get};
 ghost use Rattle.flow.specs.Successors.{successors};
 
-use il_ast::few::Few;
+use il_ast::Few;
 use std::alloc::{AllocError, Global};
-use vcode::code::Block;
-use vcode::line::Jump;
+use vcode::{Block, Jump};
 
 /// The k-th block that the jump may lead to, from 0: a jump has at most two, and a branch both of its own, also where they are the same.
 pub fn successor(jump: &Jump<u32>, k: usize) -> Option<usize>

@@ -1,8 +1,8 @@
 //! Loops that one block alone leads into, by jumps back in the text.
 use crate::graph::{predecessors, predecessors_of, successor};
-use il_ast::few::Few;
+use il_ast::Few;
 use std::alloc::{AllocError, Global};
-use vcode::code::Block;
+use vcode::Block;
 
 /// A loop, and the only block in front of it.
 #[derive(Drop)]

@@ -6,9 +6,7 @@ ghost use Rattle.frame_ways.specs.Written.{is_register, receives, makes_in, writ
 ghost use Rattle.frame_ways.specs.Bare.{is_bare_place, touches_no_slot, is_bare_line, is_bare_block};
 
 use rv_isa::abi;
-use vcode::code::Block;
-use vcode::line::{Jump, Line};
-use vcode::place::{Destination, Location, Operand};
+use vcode::{Block, Destination, Jump, Line, Location, Operand};
 
 /// Is the place the register of this number?
 pub fn is_register(place: &Location, number: u8) -> bool

@@ -2,11 +2,9 @@
 use crate::bare::is_bare_block;
 use crate::mark::Mark;
 use crate::plan::{Part, Plan};
-use il_ast::list::Seq;
+use il_ast::Seq;
 use std::alloc::{AllocError, Global};
-use vcode::code::Block;
-use vcode::line::{Jump, Line};
-use vcode::place::Location;
+use vcode::{Block, Jump, Line, Location};
 
 /// At most so many lines and jumps are copied.
 pub const COPIED_LINES: usize = 80;

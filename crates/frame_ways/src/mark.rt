@@ -1,6 +1,5 @@
 //! Code with marks.
-use vcode::code::Code;
-use vcode::place::Location;
+use vcode::{Code, Location};
 
 /// Where a block runs.
 #[derive(Clone, Copy, PartialEq, Eq)]

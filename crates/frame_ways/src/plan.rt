@@ -1,6 +1,6 @@
 //! Which parts a function's code is made of.
 use crate::mark::Mark;
-use il_ast::list::Seq;
+use il_ast::Seq;
 
 /// A part of the code: a copy of a block, or where the frame begins for it.
 #[derive(Clone, Copy)]

@@ -10,11 +10,10 @@ use crate::choice::choose;
 use crate::mark::{Mark, Marked};
 use crate::plan::{Part, Plan};
 use flat_code::function::FlatFunc;
-use il_ast::list::Seq;
+use il_ast::Seq;
 use std::alloc::{AllocError, Global};
-use vcode::code::{Block, Code};
-use vcode::line::{Jump, push_lines};
-use vcode::place::Location;
+use vcode::line::push_lines;
+use vcode::{Block, Code, Jump, Location};
 
 fn part_for(numbers: &[usize], block: usize) -> usize
     ensures { result ≡ part_for numbers.now block }

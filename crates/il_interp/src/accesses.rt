@@ -12,8 +12,7 @@ ghost use Rattle.il_interp.specs.Rows.{held, Does};
 use crate::numbers::{in_class, number_at};
 use crate::operate::{extended, extension_size};
 use crate::slots::Slots;
-use il_ast::operand::{Dest, Val};
-use il_ast::operation::{BinaryOp, Class, Size, UnaryOp};
+use il_ast::{BinaryOp, Class, Dest, Size, UnaryOp, Val};
 use il_mem::memory::BlockMemory;
 use il_types::classes::stored_class;
 

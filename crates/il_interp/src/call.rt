@@ -20,11 +20,7 @@ use crate::prepare::need_at;
 use crate::prepared::Prepared;
 use crate::slots::Slots;
 use crate::state::{Frame, State};
-use il_ast::function::{Func, Param};
-use il_ast::list::Seq;
-use il_ast::operand::{Arg, Dest, Val};
-use il_ast::operation::Class;
-use il_ast::value::{Callee, End, Value};
+use il_ast::{Arg, Callee, Class, Dest, End, Func, Param, Seq, Val, Value};
 use std::alloc::{AllocError, Global};
 use std::mem;
 

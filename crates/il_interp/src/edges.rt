@@ -1,8 +1,5 @@
 //! Where the arguments of phis stand.
-use il_ast::block::{Block, Phi};
-use il_ast::instruction::Jump;
-use il_ast::label::Label;
-use il_ast::list::Seq;
+use il_ast::{Block, Jump, Label, Phi, Seq};
 use std::alloc::{AllocError, Global};
 
 /// The edges from a block, to the first label of its jump and to the second. For each phi of the block

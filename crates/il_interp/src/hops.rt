@@ -14,12 +14,7 @@ use crate::prepared::Prepared;
 use crate::rows::operate_in_row;
 use crate::slots::Slots;
 use crate::state::Frame;
-use il_ast::block::Block;
-use il_ast::function::Func;
-use il_ast::instruction::Jump;
-use il_ast::label::Label;
-use il_ast::operation::Class;
-use il_ast::program::InText;
+use il_ast::{Block, Class, Func, InText, Jump, Label};
 use il_mem::memory::BlockMemory;
 use std::alloc::AllocError;
 

@@ -10,11 +10,8 @@ ghost use Rattle.il_interp.specs.Rows.{IsInRow};
 use crate::operand::operand;
 use crate::rows::instruction;
 use crate::state::State;
-use il_ast::instruction::Inst;
-use il_ast::operand::{Dest, Val};
-use il_ast::operation::{Alignment, Class};
-use il_ast::value::{End, Value};
-use obj_link::linking::linked::Linked;
+use il_ast::{Alignment, Class, Dest, End, Inst, Val, Value};
+use obj_link::Linked;
 use std::alloc::AllocError;
 
 /// An instruction that is done in a row, where another one is due: it goes on, or is undefined.

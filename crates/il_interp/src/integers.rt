@@ -5,7 +5,7 @@ ghost use Rattle.il_ast.specs.declared.operation.BinaryOp.TheVariants.{Div, Rem,
 ghost use Rattle.il_ast.specs.Operations.{can_divide, on_integers, extended};
 ghost use Rattle.il_interp.specs.Comparison.{is_comparison};
 
-use il_ast::operation::{BinaryOp, Extension};
+use il_ast::{BinaryOp, Extension};
 
 /// The operation on two words, where it is no comparison.
 pub fn on_words(op: BinaryOp, a: u32, b: u32) -> Option<u32>

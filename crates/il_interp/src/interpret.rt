@@ -18,12 +18,9 @@ use crate::prepared::Prepared;
 use crate::run::run;
 use crate::start::start_memory;
 use crate::state::{Output, Pile, State};
-use il_ast::function::Func;
-use il_ast::limits;
-use il_ast::operation::Class;
-use il_ast::value::{End, Value};
+use il_ast::{Class, End, Func, Value, limits};
+use obj_link::Linked;
 use obj_link::arguments::are_arguments;
-use obj_link::linking::linked::Linked;
 use std::alloc::{AllocError, Global};
 
 /// Runs a program with these argument words for at most so many turns. Answers the output and the

@@ -21,17 +21,10 @@ use crate::prepare::{edges_at, place_at};
 use crate::prepared::Prepared;
 use crate::slots::Slots;
 use crate::state::{Frame, State};
-use il_ast::block::{Block, Phi, PhiArg};
-use il_ast::function::Func;
-use il_ast::instruction::Jump;
-use il_ast::label::Label;
-use il_ast::operand::{Dest, Val};
-use il_ast::operation::Class;
-use il_ast::program::InText;
-use il_ast::value::{End, Value};
+use il_ast::{Block, Class, Dest, End, Func, InText, Jump, Label, Phi, PhiArg, Val, Value};
 use il_mem::memory::BlockMemory;
 use il_types::arguments::{argument_at, search};
-use obj_link::linking::linked::Linked;
+use obj_link::Linked;
 use std::alloc::AllocError;
 
 /// The argument of a phi for the block come from. It is the one at `place`, where that has the label.

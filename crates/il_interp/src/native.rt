@@ -5,8 +5,7 @@ ghost use Rattle.il_interp.specs.Machine.{native_step, stepped};
 
 use crate::jump::receive;
 use crate::state::State;
-use il_ast::operand::Dest;
-use il_ast::value::{End, Value};
+use il_ast::{Dest, End, Value};
 use std::alloc::AllocError;
 
 /// The answer -9 of a `write` to another descriptor than 1.

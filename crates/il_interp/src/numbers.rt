@@ -11,8 +11,7 @@ ghost use Rattle.il_interp.specs.Rows.{in_class, held, Does};
 use crate::integers::{on_longs, on_words};
 use crate::slots::Slots;
 use il_ast::condition::numbers_hold;
-use il_ast::operand::{Dest, Val};
-use il_ast::operation::{BinaryOp, Class};
+use il_ast::{BinaryOp, Class, Dest, Val};
 
 /// The number that an operand is, where that is an integer: none for a pointer, a function or a
 /// global name, and for a temporary that isn't assigned yet.

@@ -9,12 +9,9 @@ ghost use Rattle.obj_link.specs.Shown.{shown};
 ghost use Rattle.obj_link.specs.ProgramOf.{program};
 
 use crate::operand::global_value;
-use il_ast::datum::{DataDef, Field, Item};
-use il_ast::operation::Size;
-use il_ast::program::InText;
-use il_ast::value::{Cell, Value};
+use il_ast::{Cell, DataDef, Field, InText, Item, Size, Value};
 use il_mem::block::Block;
-use obj_link::linking::linked::Linked;
+use obj_link::Linked;
 use std::alloc::{AllocError, Global};
 
 /// Puts bytes at the end of a block.

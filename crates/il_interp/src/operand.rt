@@ -8,13 +8,8 @@ ghost use Rattle.obj_link.specs.ProgramOf.{program};
 ghost use Rattle.il_interp.specs.Operands.{FitsPlace};
 
 use crate::slots::Slots;
-use il_ast::block::Block;
-use il_ast::function::Func;
-use il_ast::operand::{Arg, Val};
-use il_ast::operation::Class;
-use il_ast::program::{InText, Target};
-use il_ast::value::Value;
-use obj_link::linking::linked::Linked;
+use il_ast::{Arg, Block, Class, Func, InText, Target, Val, Value};
+use obj_link::Linked;
 use smallvec::SmallVec;
 use std::alloc::{AllocError, Global};
 

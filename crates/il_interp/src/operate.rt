@@ -9,8 +9,7 @@ ghost use Rattle.il_interp.specs.Operands.{FitsPlace};
 use crate::integers::{on_longs, on_words, to_long, to_word};
 use crate::places::on_places;
 use il_ast::condition::{longs_hold, words_hold};
-use il_ast::operation::{BinaryOp, Class, Extension, Size, UnaryOp};
-use il_ast::value::Value;
+use il_ast::{BinaryOp, Class, Extension, Size, UnaryOp, Value};
 use il_mem::memory::BlockMemory;
 
 /// The operation on two values, each of the class of its place; none where it is undefined.

@@ -8,8 +8,7 @@ ghost use Rattle.il_types.specs.Arguments.{are_distinct, are_all_distinct};
 
 use crate::numbers::{in_class, number_at};
 use crate::slots::Slots;
-use il_ast::block::Phi;
-use il_ast::label::Label;
+use il_ast::{Label, Phi};
 use il_types::arguments::argument_at;
 use std::alloc::AllocError;
 

@@ -16,10 +16,9 @@ use crate::prepared::Prepared;
 use crate::run::go_on;
 use crate::state::{Frame, State};
 use crate::trace::{Place, Turn, Watch, go_on_watched};
-use il_ast::operation::Size;
-use il_ast::value::{End, Value};
+use il_ast::{End, Size, Value};
+use obj_link::Linked;
 use obj_link::arguments::are_arguments;
-use obj_link::linking::linked::Linked;
 use std::alloc::{AllocError, Global};
 
 /// A run of a program that was begun. It does turns where [`Running::go_on`] is called, and holds what they put out until [`Running::clear_output`] is.

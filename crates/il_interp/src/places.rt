@@ -6,8 +6,7 @@ ghost use Rattle.il_ast.specs.Values.{same_callee};
 ghost use Rattle.il_ast.specs.Operations.{where_different, on_offsets, on_functions, reaches, lies_in, compare_pointers, compare_with_zero, compare_places, on_places};
 
 use il_ast::condition::longs_hold;
-use il_ast::operation::{BinaryOp, Condition};
-use il_ast::value::{Callee, Value};
+use il_ast::{BinaryOp, Callee, Condition, Value};
 use il_mem::memory::BlockMemory;
 
 /// The operation where an operand is a pointer or a function; none on two integers.

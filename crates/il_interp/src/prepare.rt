@@ -11,12 +11,10 @@ ghost use Rattle.il_ast.specs.declared.program.InText.{InText as InTextOf};
 
 use crate::edges::{Edges, edges_of};
 use crate::prepared::Prepared;
-use il_ast::function::Func;
-use il_ast::list::Seq;
-use il_ast::program::InText;
+use il_ast::{Func, InText, Seq};
 use il_types::cost::capped_need;
 use il_types::label_blocks::block_places;
-use obj_link::linking::linked::Linked;
+use obj_link::Linked;
 use std::alloc::{AllocError, Global};
 
 /// Prepares a program to be run.

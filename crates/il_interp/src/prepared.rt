@@ -5,8 +5,8 @@ ghost use Rattle.obj_link.specs.Shown.{shown};
 ghost use Rattle.il_interp.specs.Places.{needs_of, placed, places_of};
 
 use crate::edges::Edges;
-use il_ast::list::Seq;
-use obj_link::linking::linked::Linked;
+use il_ast::Seq;
+use obj_link::Linked;
 
 /// A program, with what is worked out once before it is run: for each function how much room its
 /// activations take, where the block of each label stands, and where the arguments of phis stand. Those

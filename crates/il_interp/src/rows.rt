@@ -9,12 +9,10 @@ use crate::operand::operand;
 use crate::operate::{operate_one, operate_two};
 use crate::slots::Slots;
 use crate::{accesses, numbers};
-use il_ast::instruction::{Inst, Lined};
-use il_ast::operand::{Dest, Val};
-use il_ast::operation::{BinaryOp, Class, Size, UnaryOp};
+use il_ast::{BinaryOp, Class, Dest, Inst, Lined, Size, UnaryOp, Val};
 use il_mem::memory::BlockMemory;
 use il_types::classes::{left_class, operand_class, right_class, stored_class};
-use obj_link::linking::linked::Linked;
+use obj_link::Linked;
 
 /// `to = op value`, of any value. None, and nothing changes, where it is undefined.
 #[inline(never)]

@@ -8,7 +8,7 @@ use crate::hops::hop_along;
 use crate::prepared::Prepared;
 use crate::state::State;
 use crate::turn::turn;
-use il_ast::value::{End, Value};
+use il_ast::{End, Value};
 use std::alloc::{AllocError, Global};
 
 /// Does so many turns, or as many as there are to the end. Answers the output and the end.

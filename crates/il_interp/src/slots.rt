@@ -4,7 +4,7 @@ ghost use Rattle.std.specs.Option.{option_flatten};
 ghost use Rattle.il_ast.specs.declared.value.Value.TheVariants.{Integer as IntegerValue, Pointer as PointerValue};
 ghost use Rattle.il_interp.specs.Slots.{value_in, Moves};
 
-use il_ast::value::{Callee, Value};
+use il_ast::{Callee, Value};
 use std::alloc::{AllocError, Global};
 use std::marker::Model;
 

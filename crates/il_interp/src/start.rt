@@ -7,10 +7,10 @@ ghost use Rattle.obj_link.specs.ProgramOf.{program};
 
 use crate::instruction::MOST_BLOCKS;
 use crate::object::{object_block, push_bytes, push_parts, push_zeros};
-use il_ast::value::{Cell, Value};
+use il_ast::{Cell, Value};
 use il_mem::block::Block;
 use il_mem::memory::BlockMemory;
-use obj_link::linking::linked::Linked;
+use obj_link::Linked;
 use std::alloc::{AllocError, Global};
 
 /// The memory that a program starts in: a block for each datum, then one for each word, then one for

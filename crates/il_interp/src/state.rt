@@ -3,8 +3,7 @@ ghost use Rattle.std.specs.Prelude.{◌≡◌, [], ◌∷◌, ◌++◌, List, On
 ghost use Rattle.il_interp.specs.Popped.{IsPopped};
 
 use crate::slots::Slots;
-use il_ast::list::Seq;
-use il_ast::operand::Dest;
+use il_ast::{Dest, Seq};
 use il_mem::memory::BlockMemory;
 use std::alloc::{AllocError, Global};
 use std::marker::Model;

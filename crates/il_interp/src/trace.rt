@@ -7,11 +7,8 @@ ghost use Rattle.il_interp.specs.Machine.{machine};
 use crate::prepared::Prepared;
 use crate::state::{Frame, State};
 use crate::turn::turn;
-use il_ast::block::Block;
-use il_ast::instruction::Inst;
-use il_ast::operand::Dest;
-use il_ast::value::{End, Value};
-use obj_link::linking::linked::Linked;
+use il_ast::{Block, Dest, End, Inst, Value};
+use obj_link::Linked;
 use std::alloc::{AllocError, Global};
 
 /// Of so many blocks of memory, the ones that were made last, it is remembered where they were made.

@@ -12,11 +12,7 @@ use crate::jump::jump;
 use crate::operand::{block_at, function_at};
 use crate::prepared::Prepared;
 use crate::state::State;
-use il_ast::block::Block;
-use il_ast::function::Func;
-use il_ast::instruction::Inst;
-use il_ast::program::InText;
-use il_ast::value::{End, Value};
+use il_ast::{Block, End, Func, InText, Inst, Value};
 use std::alloc::{AllocError, Global};
 
 /// Does an instruction of a text. Answers the end, where the run is over.

@@ -11,8 +11,7 @@ ghost use Rattle.il_mem.specs.Shown.{ShowsSame};
 ghost use Rattle.il_mem.specs.Written.{written};
 
 use crate::words::{bytes_in, little, overwrite};
-use il_ast::operation::Size;
-use il_ast::value::{Cell, Value};
+use il_ast::{Cell, Size, Value};
 use std::alloc::{AllocError, Global};
 use std::marker::Model;
 

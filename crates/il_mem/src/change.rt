@@ -9,8 +9,7 @@ use crate::block::Block;
 use crate::ranges::has_span;
 use crate::words::bytes_in;
 use crate::write::{copy_across, copy_within, write_number, write_parts};
-use il_ast::operation::Size;
-use il_ast::value::Value;
+use il_ast::{Size, Value};
 
 /// Stores a value of a size, if its cells lie wholly inside.
 pub fn store_block(block: &mut Block, at: u64, size: Size, value: Value) -> bool

@@ -12,8 +12,7 @@ use crate::numbers::place_of;
 use crate::ranges::{block_bytes, load_block, number_in};
 use crate::transfer::transfer;
 use crate::words::bytes_in;
-use il_ast::operation::Size;
-use il_ast::value::Value;
+use il_ast::{Size, Value};
 use std::alloc::{AllocError, Global};
 use std::marker::Model;
 

@@ -8,8 +8,7 @@ ghost use Rattle.il_ast.specs.Memory.{span, value_of, plain_bytes};
 use crate::block::Block;
 use crate::read::{read, read_bytes, read_number};
 use crate::words::bytes_in;
-use il_ast::operation::Size;
-use il_ast::value::Value;
+use il_ast::{Size, Value};
 use std::alloc::{AllocError, Global};
 
 /// Whether `count` cells from a place on lie wholly inside.

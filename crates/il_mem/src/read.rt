@@ -6,7 +6,7 @@ ghost use Rattle.il_ast.specs.Memory.{plain_bytes, are_parts_from, value_of};
 ghost use Rattle.il_mem.specs.Cells.{part_value, is_part_of};
 
 use crate::block::Block;
-use il_ast::value::{Callee, Cell, Value};
+use il_ast::{Callee, Cell, Value};
 use std::alloc::{AllocError, Global};
 
 /// The value of `count` cells from a place on, 1 to 8: of bytes their number, lowest first, of eight parts in

@@ -4,7 +4,7 @@ ghost use Rattle.il_ast.specs.Values.{byte_count};
 ghost use Rattle.byteorder.specs.Endian.{little_bytes, little_number};
 
 use byteorder::{ByteOrder, LittleEndian};
-use il_ast::operation::Size;
+use il_ast::Size;
 
 /// How many bytes a size is.
 pub fn bytes_in(size: Size) -> usize

@@ -6,7 +6,7 @@ ghost use Rattle.il_ast.specs.Memory.{parts};
 ghost use Rattle.il_mem.specs.Written.{written};
 
 use crate::block::Block;
-use il_ast::value::{Cell, Value};
+use il_ast::{Cell, Value};
 
 /// Writes the low `count` bytes of a number, lowest first.
 pub fn write_number(block: &mut Block, to: usize, count: usize, number: u64)

@@ -10,9 +10,7 @@ use crate::fault::Unread;
 use crate::kinds::{is_comma, is_label, is_word};
 use crate::operand::{push_argument, push_phi_argument};
 use crate::reader::Reader;
-use il_ast::block::PhiArg;
-use il_ast::few::Few;
-use il_ast::operand::Arg;
+use il_ast::{Arg, Few, PhiArg};
 use il_lex::kind::Symbol;
 
 /// Reads the arguments of a call behind the first.

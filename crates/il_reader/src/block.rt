@@ -14,10 +14,7 @@ use crate::lines::{sees_statement, statement};
 use crate::reader::Reader;
 use crate::spacing::line_ends;
 use crate::statement::Statement;
-use il_ast::block::{Block, Phi};
-use il_ast::instruction::{Inst, Jump, Lined};
-use il_ast::label::Label;
-use il_ast::list::Seq;
+use il_ast::{Block, Inst, Jump, Label, Lined, Phi, Seq};
 
 /// Reads a label on its line.
 fn label_line(reader: &mut Reader<'_>) -> Result<Label, Unread>

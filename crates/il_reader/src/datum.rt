@@ -12,10 +12,8 @@ use crate::kinds::{is_comma, is_item, is_number, is_plus, is_quoted, is_word};
 use crate::reader::Reader;
 use crate::spacing::newlines;
 use crate::words::size_of;
-use il_ast::datum::{DataDef, Field, Item};
-use il_ast::list::Seq;
-use il_ast::operation::Size;
 use il_ast::symbol::Symbol as Global;
+use il_ast::{DataDef, Field, Item, Seq, Size};
 use il_lex::kind::Symbol;
 
 fn spaced_piece(reader: &mut Reader<'_>, mark: Symbol) -> Result<(), Unread>

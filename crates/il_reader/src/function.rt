@@ -15,12 +15,8 @@ use crate::kinds::{is_comma, is_label, is_word};
 use crate::operand::class;
 use crate::reader::Reader;
 use crate::spacing::{line_ends, newlines};
-use il_ast::block::Block;
-use il_ast::function::{Func, Param};
-use il_ast::instruction::{Jump, Lined};
-use il_ast::list::Seq;
-use il_ast::operation::Class;
 use il_ast::symbol::Symbol as Global;
+use il_ast::{Block, Class, Func, Jump, Lined, Param, Seq};
 use il_lex::kind::Symbol;
 
 /// Reads a class and a temporary behind others.

@@ -7,7 +7,7 @@ use crate::fault::Unread;
 use crate::kinds::is_value;
 use crate::operand::value;
 use crate::reader::Reader;
-use il_ast::instruction::{Jump, Lined};
+use il_ast::{Jump, Lined};
 use il_lex::kind::Symbol;
 
 fn goto(reader: &mut Reader<'_>) -> Result<Jump, Unread>

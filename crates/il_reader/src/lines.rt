@@ -12,10 +12,7 @@ use crate::operand::{destination, value};
 use crate::reader::Reader;
 use crate::statement::{Operation, Statement};
 use crate::words::{is_jump, operation_of, store_of};
-use il_ast::block::Phi;
-use il_ast::instruction::{Inst, Lined};
-use il_ast::operand::Dest;
-use il_ast::operation::{Alignment, BinaryOp, Size, UnaryOp};
+use il_ast::{Alignment, BinaryOp, Dest, Inst, Lined, Phi, Size, UnaryOp};
 use il_lex::kind::Symbol;
 
 /// Reads the word behind a destination.

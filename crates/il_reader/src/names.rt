@@ -8,8 +8,7 @@ ghost use Rattle.il_reader.specs.State.{place, with_name};
 ghost use Rattle.il_reader.specs.Keys.{key_bytes};
 
 use crate::words::is_text;
-use il_ast::list::Seq;
-use il_ast::name::Name;
+use il_ast::{Name, Seq};
 use indexmap::IndexSet;
 use std::alloc::{AllocError, Global};
 use std::hash::{Hash, Hasher};

@@ -9,10 +9,7 @@ use crate::fault::Unread;
 use crate::kinds::{is_number, is_temp};
 use crate::reader::Reader;
 use crate::words::class_of;
-use il_ast::block::PhiArg;
-use il_ast::few::Few;
-use il_ast::operand::{Arg, Dest, Val};
-use il_ast::operation::Class;
+use il_ast::{Arg, Class, Dest, Few, PhiArg, Val};
 use il_lex::kind::Symbol;
 
 /// Reads a class.

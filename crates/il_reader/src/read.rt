@@ -11,7 +11,7 @@ use crate::error::ReadError;
 use crate::fault::Unread;
 use crate::reader::Reader;
 use crate::text::whole_text;
-use il_ast::text::Text;
+use il_ast::Text;
 use std::alloc::Global;
 
 /// Reads a text of the language to its tree.

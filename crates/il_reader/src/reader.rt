@@ -11,11 +11,8 @@ use crate::kinds::{
 };
 use crate::names::Names;
 use crate::words::is_text;
-use il_ast::label::Label;
-use il_ast::list::Seq;
-use il_ast::name::Name;
 use il_ast::symbol::Symbol as Global;
-use il_ast::temp::Temp;
+use il_ast::{Label, Name, Seq, Temp};
 use il_lex::kind::{Kind, Symbol};
 use il_lex::quoted::string_bytes;
 use il_lex::scan::{Ahead, scan};

@@ -1,7 +1,5 @@
 //! What a line of a block before its jump is.
-use il_ast::block::Phi;
-use il_ast::instruction::{Inst, Lined};
-use il_ast::operation::{Alignment, BinaryOp, UnaryOp};
+use il_ast::{Alignment, BinaryOp, Inst, Lined, Phi, UnaryOp};
 
 /// What the word behind a destination and `=` and a class asks for.
 #[derive(Clone, Copy)]

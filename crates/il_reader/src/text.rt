@@ -13,8 +13,7 @@ use crate::function::function;
 use crate::kinds::{is_newline, is_word};
 use crate::reader::Reader;
 use crate::spacing::{line_ends, newlines};
-use il_ast::list::Seq;
-use il_ast::text::Definition;
+use il_ast::{Definition, Seq};
 
 /// Reads the word that exports a definition, if it comes: whether it does.
 fn exporting(reader: &mut Reader<'_>) -> Result<bool, Unread>

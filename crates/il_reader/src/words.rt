@@ -4,7 +4,7 @@ ghost use Rattle.il_reader.specs.Reading.{class_of, size_of, unary_of, binary_of
 ghost use Rattle.il_reader.specs.Blocks.{operation_of, is_jump};
 
 use crate::statement::Operation;
-use il_ast::operation::{Alignment, BinaryOp, Class, Condition, Extension, Size, UnaryOp};
+use il_ast::{Alignment, BinaryOp, Class, Condition, Extension, Size, UnaryOp};
 
 /// Whether a text is a word.
 pub(crate) fn is_text(word: &[u8], text: &[u8]) -> bool

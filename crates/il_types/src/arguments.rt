@@ -4,8 +4,7 @@ ghost use Rattle.std.specs.List.{find};
 ghost use Rattle.il_ast.specs.declared.block.PhiArg.{PhiArg as PhiArgOf};
 ghost use Rattle.il_types.specs.Arguments.{are_distinct};
 
-use il_ast::block::PhiArg;
-use il_ast::label::Label;
+use il_ast::{Label, PhiArg};
 
 /// The first argument for the block of a label.
 pub fn search(args: &[PhiArg], from: Label) -> Option<PhiArg>

@@ -11,7 +11,7 @@ use crate::faults::{at, definition_fault, or};
 use crate::globals::repeated_global;
 use crate::limits::within_limits;
 use crate::rule::{BrokenRule, Rule};
-use il_ast::text::{Definition, Text};
+use il_ast::{Definition, Text};
 use std::alloc::{AllocError, Global};
 
 /// Takes a text that breaks no rule and passes no limit of one text.

@@ -2,7 +2,7 @@
 ghost use Rattle.il_types.specs.Rules.{IsGood};
 ghost use Rattle.std.proofs.Props.{props};
 
-use il_ast::text::Text;
+use il_ast::Text;
 
 /// A text that breaks no rule and passes no limit of one text.
 #[derive(Drop)]

@@ -3,7 +3,7 @@ ghost use Rattle.std.specs.Prelude.{◌≡◌};
 ghost use Rattle.il_ast.specs.Operations.{operand_class, left_class, right_class};
 ghost use Rattle.il_ast.specs.Effect.{stored_class};
 
-use il_ast::operation::{BinaryOp, Class, Size, UnaryOp};
+use il_ast::{BinaryOp, Class, Size, UnaryOp};
 
 /// The class of the operand's place, where the result has this class.
 pub fn operand_class(op: UnaryOp, class: Class) -> Class

@@ -9,9 +9,7 @@ ghost use Rattle.il_ast.specs.Effect.{call_weight, blit_weight};
 ghost use Rattle.il_types.specs.Capped.{capped};
 ghost use Rattle.il_types.specs.Parts.{phis_weight, insts_weight, insts_alloc};
 
-use il_ast::block::{Block, Phi};
-use il_ast::function::Func;
-use il_ast::instruction::{Inst, Lined};
+use il_ast::{Block, Func, Inst, Lined, Phi};
 
 /// The weight of a function: 1 for each block, instruction, jump, parameter, argument of a call and
 /// argument of a phi, and 1 for each eight bytes of a `blit` begun.

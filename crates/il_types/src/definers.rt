@@ -6,10 +6,7 @@ ghost use Rattle.il_ast.specs.Effect.{stored_class};
 ghost use Rattle.il_types.specs.Sites.{param_definers, definer, phi_definers, inst_definers, block_definers, definers_of};
 
 use crate::site::Definer;
-use il_ast::block::{Block, Phi};
-use il_ast::function::{Func, Param};
-use il_ast::instruction::{Inst, Lined};
-use il_ast::operand::Dest;
+use il_ast::{Block, Dest, Func, Inst, Lined, Param, Phi};
 use std::alloc::{AllocError, Global};
 
 /// Where a function's temporaries are assigned.

@@ -12,10 +12,7 @@ use crate::phis::uncovered_phi;
 use crate::rule::{BrokenRule, Rule};
 use crate::sites::targets;
 use crate::temps::{misplaced, two_types, undefined_temp, wrong_return};
-use il_ast::datum::DataDef;
-use il_ast::function::Func;
-use il_ast::operation::Class;
-use il_ast::text::Definition;
+use il_ast::{Class, DataDef, Definition, Func};
 use std::alloc::{AllocError, Global};
 
 /// The fault of the rule at the line, if there is one.

@@ -4,7 +4,7 @@ ghost use Rattle.il_types.specs.Rules.{definition_site, global_sites, repeated_g
 
 use crate::repeats::repeated;
 use crate::site::Site;
-use il_ast::text::{Definition, Text};
+use il_ast::{Definition, Text};
 use std::alloc::{AllocError, Global};
 
 /// The line of a definition whose name another one has too.

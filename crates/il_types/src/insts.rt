@@ -6,11 +6,8 @@ ghost use Rattle.il_types.specs.First.{when, first};
 ghost use Rattle.il_types.specs.Locals.{is_long_only, has_wrong_result, in_insts, has_wrong_size, is_alloc, is_long_blit, wrong_alloc, wrong_alloc_in, long_blit};
 
 use crate::labels::or_else;
-use il_ast::block::Block;
-use il_ast::function::Func;
-use il_ast::instruction::{Inst, Lined};
 use il_ast::limits::{ALLOC_BYTES, BLIT_BYTES};
-use il_ast::operation::{Class, Extension, UnaryOp};
+use il_ast::{Block, Class, Extension, Func, Inst, Lined, UnaryOp};
 
 /// The line of a result of a class that its operation hasn't.
 pub fn wrong_result(blocks: &[Block]) -> Option<usize>

@@ -4,7 +4,7 @@ ghost use Rattle.std.specs.Option.{option_or};
 ghost use Rattle.il_ast.specs.Effect.{place_of};
 ghost use Rattle.il_types.specs.LabelBlocks.{place_in};
 
-use il_ast::block::Block;
+use il_ast::Block;
 use std::alloc::{AllocError, Global};
 
 /// For each label the place of its block among these, the first if there are several.

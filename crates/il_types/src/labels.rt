@@ -11,8 +11,7 @@ use crate::marks::mark;
 use crate::repeats::{first_unmarked, repeated};
 use crate::site::Site;
 use crate::sites::{label_sites, param_sites, sources};
-use il_ast::block::Block;
-use il_ast::function::Func;
+use il_ast::{Block, Func};
 use std::alloc::{AllocError, Global};
 
 /// The first line, or else the other.

@@ -41,3 +41,7 @@ mod site;
 mod sites;
 mod tally;
 mod temps;
+
+pub use checked::Checked;
+pub use error::CheckError;
+pub use rule::{BrokenRule, Rule};

@@ -7,11 +7,8 @@ ghost use Rattle.il_ast.specs.declared.instruction.Lined.{Lined as LinedOf};
 ghost use Rattle.il_types.specs.Rules.{has_few_args, is_within, definition_within, within_limits};
 
 use crate::cost::{alloc_area, weight};
-use il_ast::block::Block;
-use il_ast::function::Func;
-use il_ast::instruction::{Inst, Lined};
 use il_ast::limits::{ALLOC_BYTES, ARGUMENTS, FUNCTION_WEIGHT, TEMPORARIES, TEXT_BYTES};
-use il_ast::text::{Definition, Text};
+use il_ast::{Block, Definition, Func, Inst, Lined, Text};
 
 /// Whether a text passes no limit.
 pub fn within_limits(text: &Text) -> bool

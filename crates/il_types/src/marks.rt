@@ -3,7 +3,7 @@ ghost use Rattle.std.specs.Prelude.{◌≡◌, ℕ, ◌||◌, nat_eq, IfOk, OnOk
 ghost use Rattle.il_types.specs.Marks.{marked, is_given};
 
 use crate::site::Definer;
-use il_ast::operation::Class;
+use il_ast::Class;
 use std::alloc::{AllocError, Global};
 
 /// Whether a number is marked.

@@ -3,8 +3,7 @@ ghost use Rattle.std.specs.Prelude.{◌≡◌};
 ghost use Rattle.std.specs.List.{list_any};
 ghost use Rattle.il_types.specs.Rules.{is_misfit, has_misfit, takes_bytes, has_bytes, wrong_fields, is_alignment, wrong_alignment};
 
-use il_ast::datum::{DataDef, Field, Item};
-use il_ast::operation::Size;
+use il_ast::{DataDef, Field, Item, Size};
 
 /// The line of a datum with an item that doesn't fit its field, or without a byte.
 pub fn wrong_fields(object: &DataDef) -> Option<usize>

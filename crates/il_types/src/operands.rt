@@ -5,11 +5,7 @@ ghost use Rattle.il_types.specs.Sites.{operand_at, phi_operands, arg_operands, i
 
 use crate::classes::{left_class, operand_class, right_class, stored_class};
 use crate::site::Operand;
-use il_ast::block::{Block, Phi};
-use il_ast::function::Func;
-use il_ast::instruction::{Inst, Jump, Lined};
-use il_ast::operand::{Arg, Val};
-use il_ast::operation::Class;
+use il_ast::{Arg, Block, Class, Func, Inst, Jump, Lined, Phi, Val};
 use std::alloc::{AllocError, Global};
 
 /// A function's operands but for the values that it returns.

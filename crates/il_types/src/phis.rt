@@ -13,9 +13,7 @@ use crate::predecessors::{predecessors, row};
 use crate::site::Site;
 use crate::sites::phi_sites;
 use crate::tally::{Often, forget_all, is_again, is_never, is_once, name_all, named};
-use il_ast::block::{Block, Phi, PhiArg};
-use il_ast::function::Func;
-use il_ast::list::Seq;
+use il_ast::{Block, Func, Phi, PhiArg, Seq};
 use std::alloc::{AllocError, Global};
 
 /// The line of a phi whose labels aren't the predecessors of its block, each once, or whose

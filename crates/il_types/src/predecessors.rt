@@ -3,9 +3,7 @@ ghost use Rattle.std.specs.Prelude.{◌≡◌, ℕ, ◌++◌, ◌∷◌, [], ◌
 ghost use Rattle.il_types.specs.Locals.{jumps_to};
 ghost use Rattle.il_types.specs.Covering.{row, predecessors_of};
 
-use il_ast::block::Block;
-use il_ast::instruction::{Jump, Lined};
-use il_ast::list::Seq;
+use il_ast::{Block, Jump, Lined, Seq};
 use std::alloc::{AllocError, Global};
 
 /// For each label the labels of the blocks whose jump names it.

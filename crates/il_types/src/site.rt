@@ -1,7 +1,5 @@
 //! The places of a function that rules speak of, each with its line.
-use il_ast::operand::Val;
-use il_ast::operation::Class;
-use il_ast::temp::Temp;
+use il_ast::{Class, Temp, Val};
 
 /// Where a temporary is assigned: a parameter, a phi or an instruction.
 #[derive(Clone, Copy)]

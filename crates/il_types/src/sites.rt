@@ -5,9 +5,7 @@ ghost use Rattle.il_types.specs.Sites.{end_sites, block_targets, targets_of, phi
 ghost use Rattle.il_types.specs.Locals.{param_sites, label_sites, phi_sites};
 
 use crate::site::Site;
-use il_ast::block::{Block, Phi};
-use il_ast::function::{Func, Param};
-use il_ast::instruction::{Jump, Lined};
+use il_ast::{Block, Func, Jump, Lined, Param, Phi};
 use std::alloc::{AllocError, Global};
 
 /// The labels that a function's jumps name.

@@ -13,11 +13,7 @@ use crate::insts::wrong_result;
 use crate::labels::or_else;
 use crate::marks::is_marked;
 use crate::site::{Definer, Operand};
-use il_ast::block::Block;
-use il_ast::function::Func;
-use il_ast::instruction::{Jump, Lined};
-use il_ast::operand::Val;
-use il_ast::operation::Class;
+use il_ast::{Block, Class, Func, Jump, Lined, Val};
 
 /// The line of a place that assigns a temporary which is assigned with both classes. The marks here
 /// and below are the temporaries that are assigned with each.

@@ -13,13 +13,10 @@ ghost use Rattle.inlining.specs.Placed.{site_of};
 
 use crate::brought::{push_arguments, push_result};
 use crate::moved::{moved_jump, moved_line};
-use il_ast::list::Seq;
-use il_ast::operation::Class;
-use il_ast::symbol::Symbol;
+use il_ast::{Class, Seq, Symbol};
 use std::alloc::{AllocError, Global};
-use vcode::code::Block;
-use vcode::line::{Jump, Line, push_lines};
-use vcode::place::{Argument, Destination};
+use vcode::line::push_lines;
+use vcode::{Argument, Block, Destination, Jump, Line};
 
 /// A call of a global name, in a block.
 #[derive(Clone, Copy)]

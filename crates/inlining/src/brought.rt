@@ -7,11 +7,10 @@ ghost use Rattle.vcode.specs.Named.{operand_keeps, jump_keeps, is_below};
 ghost use Rattle.inlining.specs.InPlace.{brought, arguments_brought, result_brought};
 
 use crate::moved::moved;
-use il_ast::operation::Class;
-use rv_isa::instruction::RegWOp;
+use il_ast::Class;
+use rv_isa::RegWOp;
 use std::alloc::AllocError;
-use vcode::line::{Jump, Line, Operation};
-use vcode::place::{Argument, Destination, Extension, Operand};
+use vcode::{Argument, Destination, Extension, Jump, Line, Operand, Operation};
 
 /// The register takes what is passed of a value: of a word that is still to be extended its low half, sign-extended.
 fn brought(to: u32, class: Class, extension: Extension, value: Operand<u32>) -> Line<u32>

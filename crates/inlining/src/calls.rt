@@ -11,11 +11,10 @@ use crate::cut::cut_in;
 use crate::growth::{Cut, Growth, Room, put, weight_behind};
 use crate::limits::{BLOCKS, COPIES, LINES};
 use crate::site::is_call_of;
+use il_ast::Seq;
 use il_ast::limits::FUNCTION_WEIGHT;
-use il_ast::list::Seq;
 use std::alloc::{AllocError, Global};
-use vcode::code::{Block, Code};
-use vcode::function::VFunc;
+use vcode::{Block, Code, VFunc};
 
 /// The block at a place cut at a call that may be done in place, if it has one.
 fn cut_of(

@@ -2,9 +2,7 @@
 ghost use Rattle.std.specs.Prelude.{◌≡◌, false};
 ghost use Rattle.inlining.specs.Candidates.{begins_turn, is_calm, calm_behind, is_candidate};
 
-use vcode::code::Block;
-use vcode::function::VFunc;
-use vcode::line::Line;
+use vcode::{Block, Line, VFunc};
 
 /// Whether the line begins a turn.
 pub(crate) fn begins_turn(line: &Line<u32>) -> bool

@@ -1,12 +1,7 @@
 //! Functions whose calls are worth doing in place, by how many instructions they have, and in how many places they are called by name: a guess that nothing proved rests on.
 
-use il_ast::block::Block;
-use il_ast::function::Func;
-use il_ast::instruction::Inst;
-use il_ast::operand::Val;
-use il_ast::program::Target;
-use il_ast::value::Callee;
-use obj_link::linking::linked::Linked;
+use il_ast::{Block, Callee, Func, Inst, Target, Val};
+use obj_link::Linked;
 use std::alloc::{AllocError, Global};
 
 /// A function that is called in several places, and is done in place in them, has at most so many instructions.

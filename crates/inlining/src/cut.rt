@@ -15,11 +15,8 @@ use crate::growth::{Cut, Growth, Room, room_behind};
 use crate::limits::TRIES;
 use crate::site::{answers, are_paid, is_call_of, up_to_allocs};
 use std::alloc::{AllocError, Global};
-use vcode::code::Block;
 use vcode::cost::is_paid;
-use vcode::function::VFunc;
-use vcode::line::Line;
-use vcode::place::Operand;
+use vcode::{Block, Line, Operand, VFunc};
 
 /// The rest of the block behind the call, which this line is, and the candidate's blocks.
 fn blocks_behind(

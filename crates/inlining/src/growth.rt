@@ -7,10 +7,8 @@ ghost use Rattle.inlining.specs.Growth.{Takes, line_count};
 
 use crate::limits::BLOCKS;
 use std::alloc::{AllocError, Global};
-use vcode::code::Block;
-use vcode::function::VFunc;
 use vcode::limits::PLACES;
-use vcode::line::Line;
+use vcode::{Block, Line, VFunc};
 
 /// How many registers a function has, and how far it may still grow.
 #[derive(Clone, Copy)]

@@ -10,10 +10,9 @@ ghost use Rattle.vcode.specs.Replaced.{with_base, with_argument, with_comparison
 ghost use Rattle.inlining.specs.declared.limits.TheConstants.{BLOCKS};
 ghost use Rattle.inlining.specs.Moved.{moved, moved_destination, moved_line, moved_jump};
 
-use il_ast::list::Seq;
+use il_ast::Seq;
 use std::alloc::{AllocError, Global};
-use vcode::line::{Comparison, Jump, Line};
-use vcode::place::{Address, Argument, Destination, Operand};
+use vcode::{Address, Argument, Comparison, Destination, Jump, Line, Operand};
 
 /// The operand with its register so many further.
 pub(crate) fn moved(base: u32, from: &Operand<u32>) -> Operand<u32>

@@ -13,12 +13,9 @@ ghost use Rattle.inlining.specs.Growth.{Answers};
 
 use crate::blocks::CallSite;
 use crate::candidate::is_candidate;
-use il_ast::operation::Class;
-use vcode::code::Block;
+use il_ast::Class;
 use vcode::cost::is_paid;
-use vcode::function::VFunc;
-use vcode::line::Line;
-use vcode::place::{Argument, Destination, Operand};
+use vcode::{Argument, Block, Destination, Line, Operand, VFunc};
 
 /// Whether arguments have the classes of parameters.
 fn args_fit(args: &[Argument<u32>], params: &[Destination<u32>]) -> bool

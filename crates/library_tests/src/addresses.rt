@@ -1,9 +1,7 @@
 //! What the contracts cannot say: that the parts of addresses are the assembler's.
 
 use rv_isa::encode::encode;
-use rv_isa::instruction::LoadOp;
-use rv_isa::ranges::{Immediate, Register};
-use rv_isa::relocation::{Partial, Relocation};
+use rv_isa::{Immediate, LoadOp, Partial, Register, Relocation};
 
 const X31: Register = Register { number: 31 };
 

@@ -1,6 +1,6 @@
 //! What was pushed stands in a short list.
 
-use il_ast::few::Few;
+use il_ast::Few;
 use std::test::Fail;
 
 #[test]

@@ -6,11 +6,10 @@ ghost use Rattle.rv_isa.specs.Labels.{longest, has_label_below};
 use crate::same::is_number;
 use asm_layout::call::CallForm;
 use asm_layout::layout::layout;
-use rv_isa::code::Hole;
-use rv_isa::instruction::{BranchOp, ImmOp, Instr};
-use rv_isa::labelled::{Item, LabelledCode};
-use rv_isa::ranges::{Immediate, Register};
-use rv_isa::relocation::{Filling, Partial, Relocation};
+use rv_isa::{
+    BranchOp, Filling, Hole, ImmOp, Immediate, Instr, Item, LabelledCode, Partial, Register,
+    Relocation,
+};
 use std::alloc::AllocError;
 use std::process::Abort;
 

@@ -1,6 +1,6 @@
 //! What was pushed stands in a list.
 
-use il_ast::list::Seq;
+use il_ast::Seq;
 use std::test::Fail;
 
 #[test]

@@ -2,14 +2,8 @@
 use crate::refusing::Refusing;
 use elf_file::{Loaded, read_image, write_image};
 use obj_link::Image;
-use rv_isa::fault::Fault;
-use rv_isa::ranges::Register;
-use rv_machine::flat_ram::FlatRam;
-use rv_machine::machine::Machine;
-use rv_machine::page_ram::PageRam;
-use rv_machine::ram::Ram;
-use rv_machine::start::StartError;
-use rv_machine::stop::Stop;
+use rv_isa::{Fault, Register};
+use rv_machine::{FlatRam, Machine, PageRam, Ram, StartError, Stop};
 use std::alloc::{AllocError, Global};
 use std::process::Abort;
 use std::test::Fail;

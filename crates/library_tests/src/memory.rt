@@ -1,7 +1,6 @@
 //! Loads and stores, by the bytes and parts that they move.
 
-use il_ast::operation::Size;
-use il_ast::value::{Callee, Value};
+use il_ast::{Callee, Size, Value};
 use il_mem::memory::{BlockId, BlockMemory};
 use std::alloc::AllocError;
 use std::process::Abort;

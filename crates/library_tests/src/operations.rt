@@ -1,7 +1,6 @@
 //! Operations on integers and pointers.
 
-use il_ast::operation::{BinaryOp, Class, Condition};
-use il_ast::value::Value;
+use il_ast::{BinaryOp, Class, Condition, Value};
 use il_interp::operate::operate_two;
 use il_mem::memory::BlockMemory;
 use std::test::Fail;

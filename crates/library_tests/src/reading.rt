@@ -1,14 +1,12 @@
 //! Texts that are cut off, texts with a byte too many, and a long text.
 
 use crate::same::is_number;
-use il_ast::function::Func;
-use il_ast::text::{Definition, Text};
+use il_ast::{Definition, Func, Text};
 use il_reader::error::ReadError;
 use il_reader::read::read;
 use std::alloc::{AllocError, Global};
 use std::process::Abort;
-use text_maker::maker::TextMaker;
-use text_maker::say;
+use text_maker::{TextMaker, say};
 
 /// The line of the syntax error, or 0 where there is none.
 fn error_line(alloc: Global, text: &[u8], rt: &impl Abort) -> usize {

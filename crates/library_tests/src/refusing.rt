@@ -1,8 +1,8 @@
 //! A memory whose last page of the stack is refused.
 
 use elf_file::Loaded;
-use rv_isa::permission::Permission;
-use rv_machine::ram::Ram;
+use rv_isa::Permission;
+use rv_machine::Ram;
 use std::alloc::{AllocError, Global};
 
 /// A memory that can't be made ready from 0x0ffff000 to the stack's end.

@@ -2,12 +2,10 @@
 use elf_file::LoadError;
 use il_interp::error::RunError;
 use il_reader::error::ReadError;
-use il_types::error::CheckError;
-use obj_link::linking::error::LinkError;
-use rv_machine::start::StartError;
-use shell::disk::FileFault;
-use shell::sink::SinkFault;
-use shell::write_exe::WriteFault;
+use il_types::CheckError;
+use obj_link::LinkError;
+use rv_machine::StartError;
+use shell::{FileFault, SinkFault, WriteFault};
 use std::alloc::AllocError;
 use std::fmt::Display;
 use std::process::Abort;

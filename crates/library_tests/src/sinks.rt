@@ -1,8 +1,6 @@
 //! Sinks that take little, and files in memory.
-use shell::disk::{Access, Disk};
-use shell::memory::MemorySink;
-use shell::memory_disk::MemoryDisk;
-use shell::write_exe::{WriteFault, write_exe, write_parts};
+use shell::write_exe::{write_exe, write_parts};
+use shell::{Access, Disk, MemoryDisk, MemorySink, WriteFault};
 use std::alloc::Global;
 use std::process::Abort;
 use std::test::Fail;

@@ -1,7 +1,7 @@
 //! Small texts, read and checked.
 use il_reader::read::read;
+use il_types::Checked;
 use il_types::check::check;
-use il_types::checked::Checked;
 use std::alloc::Global;
 use std::test::Fail;
 

@@ -44,4 +44,6 @@ pub mod laws;
 pub mod linking;
 pub mod placing;
 
+pub use linking::error::LinkError;
+pub use linking::linked::Linked;
 pub use placing::image::{CODE_START, IMAGE_END, Image, PAGE, SLOT};

@@ -7,9 +7,8 @@ ghost use Rattle.operation_code.specs.Fields.{reg, negate, is_zero, is_not_zero}
 ghost use Rattle.operation_code.specs.Operations.{compare_items};
 
 use crate::fields::register;
-use il_ast::operation::Condition;
-use rv_isa::instruction::{ImmOp, Instr, RegOp};
-use rv_isa::labelled::Item;
+use il_ast::Condition;
+use rv_isa::{ImmOp, Instr, Item, RegOp};
 use std::alloc::AllocError;
 use vcode::place::low_part;
 

@@ -7,9 +7,7 @@ ghost use Rattle.operation_code.specs.Fields.{high};
 use crate::fields::{
     add_immediate, add_word, halve, load_upper, register, shift_by, shift_by_11, upper_field,
 };
-use rv_isa::abi;
-use rv_isa::labelled::Item;
-use rv_isa::ranges::UpperField;
+use rv_isa::{Item, UpperField, abi};
 use std::alloc::AllocError;
 
 /// The top 31 bits of a number.

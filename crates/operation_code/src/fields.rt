@@ -8,9 +8,10 @@ ghost use Rattle.operation_code.specs.Fields.{reg, field, amount, word_amount, a
 ghost use Rattle.operation_code.specs.Constants.{shifted_by};
 ghost use Rattle.operation_code.specs.Fields.{load_to, store_from, store_at};
 
-use rv_isa::instruction::{ImmOp, Instr, LoadOp, RegOp, ShiftOp, StoreOp};
-use rv_isa::labelled::Item;
-use rv_isa::ranges::{Amount, Immediate, Register, UpperField, WordAmount};
+use rv_isa::{
+    Amount, ImmOp, Immediate, Instr, Item, LoadOp, RegOp, Register, ShiftOp, StoreOp, UpperField,
+    WordAmount,
+};
 use vcode::place::low_part;
 
 /// The register of that number, modulo 32.

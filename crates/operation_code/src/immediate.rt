@@ -10,12 +10,11 @@ ghost use Rattle.operation_code.specs.Immediates.{opposite, next, form_if, immed
 use crate::compare::{negation, test_of_nonzero, test_of_zero};
 use crate::constant::{has_12_bits, word};
 use crate::fields::{add_immediate, amount, register, word_amount};
-use il_ast::operation::{Class, Condition};
-use rv_isa::instruction::{ImmOp, Instr, RegOp, RegWOp, ShiftOp, ShiftWOp};
-use rv_isa::labelled::Item;
+use il_ast::{Class, Condition};
+use rv_isa::{ImmOp, Instr, Item, RegOp, RegWOp, ShiftOp, ShiftWOp};
 use std::alloc::AllocError;
-use vcode::line::Operation;
-use vcode::place::{Location, Operand, low_part};
+use vcode::place::low_part;
+use vcode::{Location, Operand, Operation};
 
 /// How an operation is done on a register and a number.
 #[derive(Clone, Copy)]

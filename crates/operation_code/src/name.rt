@@ -3,9 +3,7 @@ ghost use Rattle.std.specs.Prelude.{◌≡◌, ◌+◌, ◌-◌, ◌*◌, ◌%�
 ghost use Rattle.operation_code.specs.Fields.{with_name, name_into};
 
 use crate::fields::register;
-use rv_isa::labelled::Item;
-use rv_isa::ranges::Immediate;
-use rv_isa::relocation::{Partial, Relocation};
+use rv_isa::{Immediate, Item, Partial, Relocation};
 use std::alloc::AllocError;
 use vcode::place::low_part;
 

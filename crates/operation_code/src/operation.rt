@@ -4,10 +4,9 @@ ghost use Rattle.operation_code.specs.Operations.{operation_items};
 
 use crate::compare::push_compare;
 use crate::fields::register;
-use rv_isa::instruction::Instr;
-use rv_isa::labelled::Item;
+use rv_isa::{Instr, Item};
 use std::alloc::AllocError;
-use vcode::line::Operation;
+use vcode::Operation;
 
 /// Puts the code of an operation on two registers at the end.
 pub fn push_operation(

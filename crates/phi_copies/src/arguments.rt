@@ -1,6 +1,5 @@
 //! Where the arguments of phis stand.
-use il_ast::block::{Block, Phi};
-use il_ast::function::Func;
+use il_ast::{Block, Func, Phi};
 use std::alloc::{AllocError, Global};
 
 /// A list for each label, with nothing in it.

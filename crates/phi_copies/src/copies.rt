@@ -11,10 +11,7 @@ ghost use Rattle.phi_copies.specs.Together.{wanted};
 use crate::ending::Assignment;
 use crate::map::{Map, first_number, phis_at, places_for};
 use crate::together::in_order;
-use il_ast::block::{Phi, PhiArg};
-use il_ast::label::Label;
-use il_ast::list::Seq;
-use il_ast::operand::Val;
+use il_ast::{Label, Phi, PhiArg, Seq, Val};
 use il_types::arguments::{argument_at, search};
 use std::alloc::{AllocError, Global};
 

@@ -6,9 +6,7 @@ ghost use Rattle.phi_copies.specs.Lowered.{edge, block_edges, branch_target, str
 use crate::copies::entry_copies;
 use crate::ending::{Ending, Leave};
 use crate::map::{Map, phis_at, target};
-use il_ast::block::Block;
-use il_ast::instruction::Jump;
-use il_ast::label::Label;
+use il_ast::{Block, Jump, Label};
 use std::alloc::{AllocError, Global};
 
 /// How many edges stand between the block of a label and the block at a place: one where that has phis, else none.

@@ -1,6 +1,5 @@
 //! What stands at the end of a basic block where there are no phis.
-use il_ast::list::Seq;
-use il_ast::operand::{Dest, Val};
+use il_ast::{Dest, Seq, Val};
 
 /// A copy of an operand, read in a place of the destination's class, to a temporary.
 #[derive(Clone, Copy)]

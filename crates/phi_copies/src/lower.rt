@@ -11,11 +11,7 @@ use crate::edges::{branch_target, edge_count, push_edges, straight};
 use crate::ending::{Ending, Leave};
 use crate::map::{Map, map_of, phis_at, target};
 use crate::no_phi::NoPhi;
-use il_ast::block::Block;
-use il_ast::function::Func;
-use il_ast::instruction::Jump;
-use il_ast::label::Label;
-use il_ast::list::Seq;
+use il_ast::{Block, Func, Jump, Label, Seq};
 use std::alloc::{AllocError, Global};
 
 /// The function without its phis: at the end of each block stand the copies of the phis of the block that it goes to, or after a branch in blocks of their own.

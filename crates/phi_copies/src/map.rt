@@ -9,9 +9,7 @@ ghost use Rattle.phi_copies.specs.Map.{first_numbers};
 ghost use Rattle.std.proofs.Props.{props};
 
 use crate::arguments::argument_places;
-use il_ast::block::Phi;
-use il_ast::function::Func;
-use il_ast::label::Label;
+use il_ast::{Func, Label, Phi};
 use il_types::label_blocks::block_places;
 use std::alloc::{AllocError, Global};
 

@@ -5,8 +5,7 @@ ghost use Rattle.phi_copies.specs.OneProof.{lowered_prop};
 ghost use Rattle.std.proofs.Props.{props};
 
 use crate::ending::Ending;
-use il_ast::function::Func;
-use il_ast::list::Seq;
+use il_ast::{Func, Seq};
 
 /// A function without phis: the blocks of the source with their instructions as they are, an ending for each in the place of its phis and its jump, and
 /// behind them blocks that have an ending alone. The temporaries of its phis are numbered after its own.

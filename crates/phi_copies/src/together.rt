@@ -8,9 +8,7 @@ ghost use Rattle.phi_copies.specs.Together.{move_of, moves_in, copy_of, rest_of,
 use crate::ending::Assignment;
 use crate::moves::Move;
 use crate::sequence::sequence;
-use il_ast::operand::{Dest, Val};
-use il_ast::operation::Class;
-use il_ast::temp::Temp;
+use il_ast::{Class, Dest, Temp, Val};
 use std::alloc::{AllocError, Global};
 
 /// The copy, if it goes between two temporaries.

@@ -1,8 +1,7 @@
 //! Copies of lists.
 ghost use Rattle.std.specs.Prelude.{◌≡◌, IfOk};
 
-use il_ast::list::Seq;
-use il_ast::name::Name;
+use il_ast::{Name, Seq};
 use std::alloc::{AllocError, Global};
 
 /// A list with the same items.

@@ -5,9 +5,7 @@ ghost use Rattle.il_types.specs.Locals.{is_alloc};
 ghost use Rattle.promote.specs.Made.{makes, makes_any};
 ghost use Rattle.promote.specs.Promoted.{IsPromoted};
 
-use il_ast::block::Block;
-use il_ast::function::Func;
-use il_ast::instruction::{Inst, Lined};
+use il_ast::{Block, Func, Inst, Lined};
 
 fn is_alloc(inst: &Inst) -> bool
     ensures { result ≡ is_alloc inst.now }

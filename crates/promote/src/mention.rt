@@ -1,6 +1,5 @@
 //! A mention of a temporary.
-use il_ast::operation::Size;
-use il_ast::temp::Temp;
+use il_ast::{Size, Temp};
 
 /// What a temporary is where a text mentions it.
 #[derive(Clone, Copy)]

@@ -4,11 +4,10 @@ ghost use Rattle.std.specs.List.{flat_map};
 ghost use Rattle.promote.specs.Uses.{value_mentions, extension_size, operand_role, destination_mentions, arg_mentions, item_mentions, inst_mentions, jump_mentions, end_mentions, phi_arg_mentions, phi_mentions, block_mentions, param_mentions, mentions_of, mention};
 
 use crate::mention::{Mention, Role};
-use il_ast::block::{Block, Phi, PhiArg};
-use il_ast::function::{Func, Param};
-use il_ast::instruction::{Inst, Jump, Lined};
-use il_ast::operand::{Arg, Dest, Val};
-use il_ast::operation::{Class, Extension, Size, UnaryOp};
+use il_ast::{
+    Arg, Block, Class, Dest, Extension, Func, Inst, Jump, Lined, Param, Phi, PhiArg, Size, UnaryOp,
+    Val,
+};
 use std::alloc::{AllocError, Global};
 
 /// All mentions of a function's temporaries.

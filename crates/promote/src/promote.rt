@@ -6,7 +6,7 @@ use crate::copying::{copied, copied_names};
 use crate::mentions::mentions;
 use crate::rewriting::promoted_blocks;
 use crate::standing::standings;
-use il_ast::function::Func;
+use il_ast::Func;
 use std::alloc::{AllocError, Global};
 
 /// The function with every temporary promoted that can be.

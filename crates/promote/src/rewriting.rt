@@ -4,12 +4,9 @@ ghost use Rattle.promote.specs.Promoted.{storing, extending, loading, made_in, p
 ghost use Rattle.promote.specs.Tables.{widths_by};
 
 use crate::standing::{Standing, width_at};
-use il_ast::block::{Block, Phi};
-use il_ast::few::Few;
-use il_ast::instruction::{Inst, Jump, Lined};
-use il_ast::list::Seq;
-use il_ast::operand::{Dest, Val};
-use il_ast::operation::{Alignment, Class, Extension, Size, UnaryOp};
+use il_ast::{
+    Alignment, Block, Class, Dest, Extension, Few, Inst, Jump, Lined, Phi, Seq, Size, UnaryOp, Val,
+};
 use std::alloc::{AllocError, Global};
 
 /// The blocks in which the temporaries of the table are promoted.

@@ -5,7 +5,7 @@ ghost use Rattle.promote.specs.Tables.{seen, seen_all, width, standing_at};
 ghost use Rattle.promote.specs.declared.standing.Standing.TheVariants.{Unseen as NotSeen};
 
 use crate::mention::{Mention, Role};
-use il_ast::operation::Size;
+use il_ast::Size;
 use std::alloc::{AllocError, Global};
 
 /// What is known of a temporary from its mentions so far.

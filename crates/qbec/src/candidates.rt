@@ -8,12 +8,11 @@ ghost use Rattle.qbec.specs.Codes.{AreGood};
 ghost use Rattle.qbec.specs.Candidates.{AreCandidatesAt, AreCandidatesIn, AreCandidatesMeant, IsCandidateMeant};
 
 use crate::pipeline::candidate_code;
-use il_ast::program::Target;
-use il_ast::value::Callee;
+use il_ast::{Callee, Target};
 use inlining::choice::worthy_functions;
-use obj_link::linking::linked::Linked;
+use obj_link::Linked;
 use std::alloc::{AllocError, Global};
-use vcode::function::VFunc;
+use vcode::VFunc;
 
 fn is_marked(marks: &[bool], number: usize) -> bool {
     matches!(marks.get(number), Some(true))

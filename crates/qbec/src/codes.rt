@@ -16,14 +16,13 @@ ghost use Rattle.qbec.specs.Codes.{AllHaveForm, AreGood, AreWords, AreWordsIn};
 use crate::candidates::{candidates_in, candidates_of};
 use crate::pipeline::function_words;
 use asm_layout::call::CallForm;
-use certificates::strategy::Strategy;
-use il_ast::function::Func;
-use il_ast::program::InText;
-use obj_link::linking::linked::Linked;
+use certificates::Strategy;
+use il_ast::{Func, InText};
+use obj_link::Linked;
 use obj_link::placing::place::calls_reach;
-use rv_isa::code::MachineCode;
+use rv_isa::MachineCode;
 use std::alloc::{AllocError, Global};
-use vcode::function::VFunc;
+use vcode::VFunc;
 
 fn push_code(codes: &mut Vec<MachineCode>, code: MachineCode) -> Result<(), AllocError>
     ensures pushed { OnOk result (codes.new.items ≡ codes.old.items ++ code ∷ []) }

@@ -16,12 +16,12 @@ ghost use Rattle.qbec.specs.Texts.{AreProgram};
 use crate::codes::codes_of;
 use crate::error::{CompileError, link_refusal};
 use crate::texts::checked_texts;
-use certificates::strategy::Strategy;
+use certificates::Strategy;
 use elf_file::write_image;
-use obj_link::linking::linked::Linked;
+use obj_link::Linked;
 use obj_link::linking::resolve::resolve;
 use obj_link::placing::place::place;
-use rv_isa::code::MachineCode;
+use rv_isa::MachineCode;
 use std::alloc::Global;
 
 /// The file of a program whose functions have these words.

@@ -2,8 +2,8 @@
 ghost use Rattle.std.specs.Prelude.{◌≡◌, IfOk};
 ghost use Rattle.qbec.specs.Reasons.{SaysAsMuch};
 
-use il_types::rule::BrokenRule;
-use obj_link::linking::error::LinkError;
+use il_types::BrokenRule;
+use obj_link::LinkError;
 use std::alloc::{AllocError, Global};
 
 /// Why texts are refused: they are no program, or memory was refused. Texts are numbered from 1, in order.

@@ -27,3 +27,6 @@ pub mod passes;
 pub mod pipeline;
 pub mod symbols;
 pub mod texts;
+
+pub use error::CompileError;
+pub use passes::{Pass, Progress};

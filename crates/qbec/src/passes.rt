@@ -16,7 +16,7 @@ use renaming::rename::rename_webs;
 use sign_extensions::copies::copy_whole_words;
 use std::alloc::{AllocError, Global};
 use value_numbering::reuse::reuse_values;
-use vcode::function::VFunc;
+use vcode::VFunc;
 
 /// A pass on virtual code.
 #[derive(Clone, Copy, PartialEq, Eq)]

@@ -23,22 +23,21 @@ use alloc_check::accept::{Refused, accept};
 use alloc_check::spill_all::spill_all;
 use asm_layout::call::CallForm;
 use asm_layout::layout::layout;
-use certificates::certificate::Certificate;
-use certificates::strategy::Strategy;
+use certificates::{Certificate, Strategy};
 use cfg_live::live::live;
 use flat_code::function::{FlatFunc, flat};
-use il_ast::function::Func;
+use il_ast::Func;
 use il_types::cost::{capped_need, weight};
 use inlining::calls::inline_calls;
 use inlining::candidate::is_candidate;
 use phi_copies::lower::lower;
 use promote::made::has_alloc;
 use promote::promote::promote;
-use rv_isa::code::MachineCode;
+use rv_isa::MachineCode;
 use scheduling::schedule::schedule;
 use select::select::select;
 use std::alloc::{AllocError, Global};
-use vcode::function::{LFunc, VFunc};
+use vcode::{LFunc, VFunc};
 
 /// By this certificate where it is right, else with every register in a slot of its own.
 fn certified(

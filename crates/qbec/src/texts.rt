@@ -12,8 +12,7 @@ use crate::error::CompileError;
 use il_reader::error::ReadError;
 use il_reader::read::read;
 use il_types::check::check;
-use il_types::checked::Checked;
-use il_types::error::CheckError;
+use il_types::{CheckError, Checked};
 use std::alloc::{AllocError, Global};
 
 fn read_refusal(number: usize, error: ReadError) -> CompileError

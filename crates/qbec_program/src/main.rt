@@ -5,8 +5,7 @@
 
 use commands::invoke::invoke;
 use regalloc::linear_scan::LinearScan;
-use shell::system::host_files::HostFiles;
-use shell::system::stream::Stream;
+use shell::{HostFiles, Stream};
 use std::process::ExitCode;
 use std::rt::Env;
 use std::{env, io};

@@ -8,7 +8,7 @@ use crate::bare_ways::leaving::leave;
 use crate::places::candidates::Ground;
 use crate::splitting::splitter::Splitter;
 use std::alloc::{AllocError, Global};
-use vcode::place::Location;
+use vcode::Location;
 
 pub(crate) mod fronts;
 pub(crate) mod holders;

@@ -18,14 +18,12 @@ use crate::places::slots::shared_slots;
 use crate::splitting::splits::Splits;
 use crate::splitting::splitter::{Splitter, split_all};
 use crate::written::written;
-use certificates::certificate::Certificate;
 use certificates::spill_all::slots;
-use certificates::strategy::Strategy;
-use cfg_live::sets::Live;
+use certificates::{Certificate, Strategy};
+use cfg_live::Live;
 use std::alloc::{AllocError, Global};
 use std::mem::replace;
-use vcode::function::VFunc;
-use vcode::place::Location;
+use vcode::{Location, VFunc};
 
 /// Answers for each register one of x5 to x27 or a slot, or several of them one after another, with moves where it changes its place; no places where memory is
 /// refused.

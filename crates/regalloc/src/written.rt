@@ -11,10 +11,9 @@ use crate::written::moves::all_moves;
 use crate::written::params::placed_params;
 use crate::written::points::all_places;
 use crate::written::starts::{placed_everywhere, placed_starts};
-use certificates::certificate::Certificate;
+use certificates::Certificate;
 use std::alloc::{AllocError, Global};
-use vcode::function::VFunc;
-use vcode::place::Location;
+use vcode::{Location, VFunc};
 
 pub(crate) mod moves;
 pub(crate) mod params;

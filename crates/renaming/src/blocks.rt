@@ -7,11 +7,9 @@ ghost use Rattle.renaming.specs.Named.{owners_of, names_of};
 use crate::names::Names;
 use crate::plan::{Plan, Renamed};
 use cfg_live::uses::line_writes;
-use il_ast::list::Seq;
+use il_ast::Seq;
 use std::alloc::{AllocError, Global};
-use vcode::code::Block;
-use vcode::line::{Jump, Line};
-use vcode::replace;
+use vcode::{Block, Jump, Line, replace};
 
 /// The line writes this register, if it writes any.
 fn put_destination(line: &mut Line<u32>, name: u32)

@@ -8,7 +8,7 @@ mod webs;
 use crate::plan::Plan;
 use naming::named;
 use std::alloc::{AllocError, Global};
-use vcode::function::VFunc;
+use vcode::VFunc;
 use vcode::limits::PLACES;
 use webs::{Webs, count_uses, find_webs};
 

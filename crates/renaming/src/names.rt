@@ -8,9 +8,7 @@ ghost use Rattle.renaming.specs.Named.{owners_of, listed, names_of};
 
 use crate::plan::Renamed;
 use std::alloc::AllocError;
-use vcode::line::{Jump, Line};
-use vcode::place::{Argument, Operand};
-use vcode::replace::Replace;
+use vcode::{Argument, Jump, Line, Operand, Replace};
 
 /// Which names registers may have, and which ones they have at a place of a block.
 #[derive(Drop)]

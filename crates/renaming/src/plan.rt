@@ -1,6 +1,6 @@
 //! What the registers of a function are to be called.
 
-use il_ast::list::Seq;
+use il_ast::Seq;
 
 /// A register, and the register of the new code that holds its value.
 #[derive(Clone, Copy)]

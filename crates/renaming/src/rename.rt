@@ -10,9 +10,9 @@ use crate::blocks::{blocks, start_at};
 use crate::choice::choose_names;
 use crate::names::Names;
 use crate::plan::{Plan, Renamed};
-use il_ast::list::Seq;
+use il_ast::Seq;
 use std::alloc::{AllocError, Global};
-use vcode::function::VFunc;
+use vcode::VFunc;
 use vcode::limits::PLACES;
 
 /// Whether each of these has its own name.

@@ -50,3 +50,11 @@ pub mod permission;
 pub mod ranges;
 pub mod relocation;
 pub mod text;
+
+pub use code::{Hole, MachineCode};
+pub use fault::Fault;
+pub use instruction::{BranchOp, ImmOp, Instr, LoadOp, RegOp, RegWOp, ShiftOp, ShiftWOp, StoreOp};
+pub use labelled::{Item, LabelledCode};
+pub use permission::Permission;
+pub use ranges::{Amount, BranchOffset, Immediate, JumpOffset, Register, UpperField, WordAmount};
+pub use relocation::{Filling, Partial, Relocation};

@@ -7,7 +7,7 @@ ghost use Rattle.rv_machine.specs.Access.{permits};
 ghost use Rattle.rv_machine.specs.Mapped.{is_mapped};
 
 use crate::ram::Ram;
-use rv_isa::permission::Permission;
+use rv_isa::Permission;
 use std::alloc::AllocError;
 
 /// What is done with bytes.

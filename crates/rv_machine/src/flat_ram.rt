@@ -8,7 +8,7 @@ use crate::region_list::start_regions;
 use crate::regions::Region;
 use crate::width::Width;
 use elf_file::Loaded;
-use rv_isa::permission::Permission;
+use rv_isa::Permission;
 use std::alloc::{AllocError, Global};
 
 /// Memory in one vector for each mapped range: each segment, and the stack with the arguments above it.

@@ -55,3 +55,11 @@ pub mod stop;
 pub mod table;
 pub mod width;
 mod words;
+
+pub use flat_ram::FlatRam;
+pub use machine::Machine;
+pub use page_ram::PageRam;
+pub use ram::Ram;
+pub use start::StartError;
+pub use stop::Stop;
+pub use table::DecodedCode;

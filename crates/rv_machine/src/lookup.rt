@@ -11,7 +11,7 @@ ghost use Rattle.rv_machine.specs.Width.{bytes_of};
 
 use crate::regions::{NOTHING_ALLOWED, Region, number, write_number};
 use crate::width::Width;
-use rv_isa::permission::Permission;
+use rv_isa::Permission;
 
 /// Whether the region has the address.
 #[inline(always)]

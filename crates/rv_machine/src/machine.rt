@@ -3,8 +3,7 @@
 use crate::access::is_mapped;
 use crate::ram::Ram;
 use crate::registers::Registers;
-use rv_isa::permission::Permission;
-use rv_isa::ranges::Register;
+use rv_isa::{Permission, Register};
 
 /// A machine over a memory of the kind `R`. What state it is in, `view` of `specs/Machine.antt` says.
 #[derive(Drop)]

@@ -11,7 +11,7 @@ ghost use Rattle.rv_machine.specs.Width.{bytes_of};
 
 use crate::width::Width;
 use elf_file::Loaded;
-use rv_isa::permission::Permission;
+use rv_isa::Permission;
 use std::alloc::{AllocError, Global};
 
 /// A memory of 2^64 addresses, of which few are mapped: a byte and a permission for each.

@@ -7,8 +7,7 @@ ghost use Rattle.rv_machine.specs.Regions.{AllFull, IsStack, Shows, ShowsAll, re
 
 use crate::regions::{Region, filled, permission_of};
 use elf_file::{Loaded, Segment};
-use rv_isa::abi;
-use rv_isa::permission::Permission;
+use rv_isa::{Permission, abi};
 use std::alloc::{AllocError, Global};
 
 /// The region of a segment, with all its bytes where they are wanted `whole`.

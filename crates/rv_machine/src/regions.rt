@@ -8,7 +8,7 @@ ghost use Rattle.rv_machine.specs.Starts.{permission_of};
 use crate::width::Width;
 use byteorder::{ByteOrder, LittleEndian};
 use elf_file::{Flags, Loaded, Segment};
-use rv_isa::permission::Permission;
+use rv_isa::Permission;
 use std::alloc::{AllocError, Global};
 
 /// Addresses side by side with one permission. Past its bytes stand zeros, up to its size.

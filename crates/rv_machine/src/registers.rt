@@ -1,6 +1,6 @@
 //! The registers x0 to x31.
 
-use rv_isa::ranges::Register;
+use rv_isa::Register;
 
 /// The values of the 32 registers. x0 is 0, whatever stands in its place.
 #[derive(Drop)]

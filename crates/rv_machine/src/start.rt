@@ -7,8 +7,7 @@ use crate::registers::Registers;
 use crate::words::argument_bytes;
 use elf_file::Loaded;
 use obj_link::arguments::are_arguments;
-use rv_isa::abi;
-use rv_isa::ranges::Register;
+use rv_isa::{Register, abi};
 use std::alloc::Global;
 
 /// Why a program was not started.

@@ -7,12 +7,9 @@ use crate::access::{Access, allowed, number, put_out, set_bytes};
 use crate::machine::Machine;
 use crate::ram::Ram;
 use crate::stop::Stop;
-use rv_isa::abi;
 use rv_isa::arithmetic::{load_value, moved};
 use rv_isa::decode::decode;
-use rv_isa::fault::Fault;
-use rv_isa::instruction::{Instr, LoadOp, StoreOp};
-use rv_isa::ranges::Register;
+use rv_isa::{Fault, Instr, LoadOp, Register, StoreOp, abi};
 use std::alloc::AllocError;
 
 const FIRST_ARGUMENT: Register = Register {

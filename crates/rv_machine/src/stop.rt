@@ -1,6 +1,6 @@
 //! Why a run of the machine ended.
 
-use rv_isa::fault::Fault;
+use rv_isa::Fault;
 
 /// What stopped the machine.
 #[derive(Clone, Copy, PartialEq, Eq, Debug)]

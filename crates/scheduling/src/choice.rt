@@ -10,14 +10,12 @@ mod reads;
 mod swaps;
 
 use facts::facts_of;
-use il_ast::list::Seq;
+use il_ast::Seq;
 use latencies::times_of;
 use order::order_of;
 use std::alloc::{AllocError, Global};
 use swaps::swaps_to;
-use vcode::code::Block;
-use vcode::function::LFunc;
-use vcode::place::Location;
+use vcode::{Block, LFunc, Location};
 
 /// How many lines the choice looks at: those of one are no further apart. At most 16.
 pub(crate) const WINDOW: u32 = 8;

@@ -6,8 +6,7 @@ ghost use Rattle.vcode.specs.Places.{same_location};
 ghost use Rattle.vcode.specs.Writes.{line_writes, place_of};
 ghost use Rattle.scheduling.specs.Independent.{kind_of, may_swap, differs, is_unnamed, is_independent};
 
-use vcode::line::{Line, Operation};
-use vcode::place::{Argument, Destination, Location, Operand};
+use vcode::{Argument, Destination, Line, Location, Operand, Operation};
 
 /// What a line has to do with memory and with what was spent.
 #[derive(Clone, Copy)]

@@ -7,9 +7,9 @@ ghost use Rattle.scheduling.specs.Scheduled.{scheduled};
 
 use crate::choice::choose;
 use crate::swaps::scheduled;
-use il_ast::list::Seq;
+use il_ast::Seq;
 use std::alloc::{AllocError, Global};
-use vcode::function::LFunc;
+use vcode::LFunc;
 
 /// The function by a plan, which has for each block numbers of lines: one after another, the line there and the next one change places, where they may. What
 /// the plan asks besides isn't done. It takes time as the text and the plan are long.

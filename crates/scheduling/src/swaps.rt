@@ -3,11 +3,10 @@ ghost use Rattle.std.specs.Prelude.{◌≡◌, ◌+◌, ◌<◌, true, ◌++◌,
 ghost use Rattle.scheduling.specs.Scheduled.{is_swap, swapped, reordered, swaps_at, scheduled_block, scheduled_blocks, scheduled};
 
 use crate::independent::is_independent;
-use il_ast::list::Seq;
+use il_ast::Seq;
 use std::alloc::{AllocError, Global};
-use vcode::code::{Block, Code};
-use vcode::line::{Line, push_lines};
-use vcode::place::Location;
+use vcode::line::push_lines;
+use vcode::{Block, Code, Line, Location};
 
 /// Whether there are two lines from there on that may change places.
 fn is_swap(lines: &[Line<Location>], at: usize) -> bool

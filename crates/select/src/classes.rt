@@ -8,12 +8,7 @@ ghost use Rattle.il_ast.specs.Values.{same_class};
 ghost use Rattle.select.specs.Classes.{classes_in};
 ghost use Rattle.select.specs.Tables.{listed, destinations_in, param_destination, phi_destination, item_destinations, inst_destinations, block_destinations, has_word, word_or_long, phi_classes};
 
-use il_ast::block::{Block, Phi};
-use il_ast::function::{Func, Param};
-use il_ast::instruction::{Inst, Lined};
-use il_ast::list::Seq;
-use il_ast::operand::Dest;
-use il_ast::operation::Class;
+use il_ast::{Block, Class, Dest, Func, Inst, Lined, Param, Phi, Seq};
 use std::alloc::{AllocError, Global};
 
 fn collect_params(assigned: &mut Seq<Dest>, params: &[Param]) -> Result<(), AllocError>

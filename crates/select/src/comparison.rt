@@ -4,9 +4,8 @@ ghost use Rattle.select.specs.Selected.{comparison_of, not_zero};
 ghost use Rattle.select.specs.Tables.{listed};
 
 use crate::operand::{is_whole, word};
-use il_ast::operation::{Class, Condition};
-use vcode::line::Comparison;
-use vcode::place::Operand;
+use il_ast::{Class, Condition};
+use vcode::{Comparison, Operand};
 
 /// The comparison of two operands in places of a class. Two words that both stand sign-extended compare as longs.
 pub(crate) fn comparison(

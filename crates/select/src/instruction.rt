@@ -9,13 +9,9 @@ ghost use Rattle.select.specs.Narrow.{narrow, narrow_inst, narrow_turn, narrow_t
 
 use crate::operand::{arguments, low_bits, operand, register, wanted};
 use crate::operation::{push_binary, push_unary};
-use il_ast::instruction::{Inst, Lined};
-use il_ast::list::Seq;
-use il_ast::operand::{Arg, Dest, Val};
-use il_ast::operation::Class;
+use il_ast::{Arg, Class, Dest, Inst, Lined, Seq, Val};
 use std::alloc::{AllocError, Global};
-use vcode::line::Line;
-use vcode::place::Address;
+use vcode::{Address, Line};
 
 /// What an instruction weighs.
 fn weight(inst: &Inst) -> u32

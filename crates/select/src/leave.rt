@@ -7,12 +7,10 @@ ghost use Rattle.select.specs.Narrow.{narrow_copies, narrow_ending, narrow_leave
 use crate::comparison::not_zero;
 use crate::operand::{low_bits, operand, register};
 use crate::operation::copy;
-use il_ast::list::Seq;
-use il_ast::operation::Class;
+use il_ast::{Class, Seq};
 use phi_copies::ending::{Assignment, Ending, Leave};
 use std::alloc::AllocError;
-use vcode::line::{Jump, Line};
-use vcode::place::{Extension, ReturnValue};
+use vcode::{Extension, Jump, Line, ReturnValue};
 
 fn push_copies(
     classes: &[Class],

@@ -6,13 +6,9 @@ ghost use Rattle.select.specs.Selected.{is_whole, word, operand_of, destination_
 ghost use Rattle.select.specs.Narrow.{narrow, narrow_val, narrow_dest, narrow_arg, narrow_parameter};
 
 use bits::sext32;
-use il_ast::function::Param;
-use il_ast::list::Seq;
-use il_ast::operand::{Arg, Dest, Val};
-use il_ast::operation::Class;
-use il_ast::temp::Temp;
+use il_ast::{Arg, Class, Dest, Param, Seq, Temp, Val};
 use std::alloc::{AllocError, Global};
-use vcode::place::{Argument, Destination, Extension, Operand};
+use vcode::{Argument, Destination, Extension, Operand};
 
 /// The low 32 bits of a number.
 pub(crate) fn low_bits(number: u64) -> u32

@@ -10,12 +10,10 @@ ghost use Rattle.select.specs.Tables.{listed};
 
 use crate::comparison::comparison;
 use crate::operand::{is_whole, word};
-use il_ast::list::Seq;
-use il_ast::operation::{BinaryOp, Class, Extension, UnaryOp};
-use rv_isa::instruction::{LoadOp, RegOp, RegWOp};
+use il_ast::{BinaryOp, Class, Extension, Seq, UnaryOp};
+use rv_isa::{LoadOp, RegOp, RegWOp};
 use std::alloc::AllocError;
-use vcode::line::{Comparison, Line, Operation};
-use vcode::place::{Address, Operand};
+use vcode::{Address, Comparison, Line, Operand, Operation};
 
 /// The low 32 bits of an operand, sign-extended.
 fn as_word(to: u32, value: Operand<u32>) -> Line<u32>

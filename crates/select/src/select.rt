@@ -16,14 +16,11 @@ use crate::instruction::push_turns;
 use crate::leave::{jump_of, push_ending};
 use crate::operand::{low_bits, parameters};
 use il_ast::block::Block as SourceBlock;
-use il_ast::function::Func;
-use il_ast::list::Seq;
-use il_ast::operation::Class;
+use il_ast::{Class, Func, Seq};
 use phi_copies::ending::Ending;
 use phi_copies::no_phi::NoPhi;
 use std::alloc::{AllocError, Global};
-use vcode::code::{Block, Code};
-use vcode::function::VFunc;
+use vcode::{Block, Code, VFunc};
 
 fn block_of(
     alloc: Global,

@@ -25,3 +25,11 @@ pub mod memory_disk;
 pub mod sink;
 pub mod system;
 pub mod write_exe;
+
+pub use disk::{Access, Disk, Faults, FileFault};
+pub use memory::MemorySink;
+pub use memory_disk::MemoryDisk;
+pub use sink::{Sink, SinkFault};
+pub use system::host_files::HostFiles;
+pub use system::stream::Stream;
+pub use write_exe::WriteFault;

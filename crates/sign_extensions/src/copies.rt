@@ -7,7 +7,7 @@ ghost use Rattle.sign_extensions.specs.Whole.{are_closed, IsCopied};
 use crate::lines::blocks;
 use crate::marks::whole_registers;
 use std::alloc::{AllocError, Global};
-use vcode::function::VFunc;
+use vcode::VFunc;
 
 fn with_copies(alloc: Global, function: &VFunc, marks: &[bool]) -> Result<VFunc, AllocError>
     requires { IsTrue (are_closed marks.now function.now.code) }

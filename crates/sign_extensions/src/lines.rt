@@ -3,12 +3,10 @@ ghost use Rattle.std.specs.Prelude.{◌≡◌, map, IfOk};
 ghost use Rattle.sign_extensions.specs.Whole.{is_extension, claim, with_claim, jump_claim, with_copy, with_copies};
 
 use crate::marks::{is_marked, is_whole};
-use il_ast::list::Seq;
-use rv_isa::instruction::RegWOp;
+use il_ast::Seq;
+use rv_isa::RegWOp;
 use std::alloc::{AllocError, Global};
-use vcode::code::Block;
-use vcode::line::{Jump, Line, Operation};
-use vcode::place::{Argument, Extension, Operand, ReturnValue};
+use vcode::{Argument, Block, Extension, Jump, Line, Operand, Operation, ReturnValue};
 
 /// Whether the operation extends a word that stands whole.
 fn is_extension(

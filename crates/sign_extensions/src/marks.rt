@@ -4,12 +4,10 @@ ghost use Rattle.std.specs.List.{list_all};
 ghost use Rattle.vcode.specs.declared.code.Block.{Block as BlockOf};
 ghost use Rattle.sign_extensions.specs.Whole.{is_whole_number, is_marked, is_whole, keeps_whole, gives_whole, loads_whole, is_word, takes_whole, wants_whole, keeps_marks, are_closed};
 
-use il_ast::operation::Class;
-use rv_isa::instruction::{LoadOp, RegOp};
+use il_ast::Class;
+use rv_isa::{LoadOp, RegOp};
 use std::alloc::{AllocError, Global};
-use vcode::code::{Block, Code};
-use vcode::line::{Line, Operation};
-use vcode::place::{Destination, Operand};
+use vcode::{Block, Code, Destination, Line, Operand, Operation};
 
 /// How often marks are taken away before the rest is given up.
 const ROUNDS: usize = 16;

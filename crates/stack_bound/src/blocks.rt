@@ -6,11 +6,8 @@ ghost use Rattle.stack_bound.specs.Bounds.{args_fit, block_fits, call_bound, end
 
 use crate::bounds::{Bounds, at_most, bound_of, pointed_bound};
 use crate::values::operand_fits;
-use il_ast::block::{Block, Phi, PhiArg};
-use il_ast::instruction::{Inst, Jump, Lined};
-use il_ast::operand::{Arg, Val};
-use il_ast::program::Target;
-use obj_link::linking::linked::Linked;
+use il_ast::{Arg, Block, Inst, Jump, Lined, Phi, PhiArg, Target, Val};
+use obj_link::Linked;
 
 fn named_bound(bounds: &Bounds, target: Option<Target>) -> Option<u64>
     ensures { result ≡ named_bound bounds.now target }

@@ -2,8 +2,7 @@
 ghost use Rattle.std.specs.Prelude.{◌≡◌};
 ghost use Rattle.stack_bound.specs.Bounds.{at_most, bound_of, pointed_bound};
 
-use il_ast::list::Seq;
-use il_ast::value::Callee;
+use il_ast::{Callee, Seq};
 
 /// Bounds on the bytes of stack that calls take, each with what the callee calls. Where there is none, nothing is claimed.
 #[derive(Drop)]

@@ -9,11 +9,9 @@ use crate::blocks::blocks_fit;
 use crate::bounds::{Bounds, bound_of};
 use crate::data::objects_fit;
 use crate::names::names_in;
-use il_ast::function::Func;
-use il_ast::program::InText;
-use il_ast::value::Callee;
+use il_ast::{Callee, Func, InText};
 use il_types::cost::capped_need;
-use obj_link::linking::linked::Linked;
+use obj_link::Linked;
 
 /// What a bound leaves to calls once the function has what it needs; none where it is too little for that.
 fn left_of(function: &Func, bound: u64) -> Option<u64>

@@ -1,8 +1,8 @@
 //! Why a program has no bound: a way of calls from `main` to a cycle. What it answers is told to people, and nothing proved rests on it.
 use crate::bounds::{Bounds, bound_of, pointed_bound};
 use crate::graph::Graph;
-use il_ast::value::Callee;
-use obj_link::linking::linked::Linked;
+use il_ast::Callee;
+use obj_link::Linked;
 use std::alloc::{AllocError, Global};
 use std::mem;
 

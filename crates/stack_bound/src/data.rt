@@ -8,9 +8,8 @@ ghost use Rattle.stack_bound.specs.Bounds.{field_fits, item_fits, object_fits};
 use crate::bounds::Bounds;
 use crate::names::names_in;
 use crate::values::name_fits;
-use il_ast::datum::{DataDef, Field, Item};
-use il_ast::program::{InText, Target};
-use obj_link::linking::linked::Linked;
+use il_ast::{DataDef, Field, InText, Item, Target};
+use obj_link::Linked;
 
 fn item_fits(linked: &Linked<'_>, bounds: &Bounds, names: &[Target], item: &Item) -> bool
     ensures { result ≡ item_fits (program linked.now) bounds.now names.now item.now }

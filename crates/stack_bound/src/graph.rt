@@ -1,16 +1,9 @@
 //! Which functions a program's functions call by name, and which ones calls by pointer may mean. It serves to guess bounds, and nothing proved rests on it.
 use crate::names::names_in;
 use crate::values::arity;
-use il_ast::block::Block;
-use il_ast::datum::{Field, Item};
-use il_ast::few::Few;
-use il_ast::instruction::{Inst, Jump};
 use il_ast::limits::ARGUMENTS;
-use il_ast::operand::Val;
-use il_ast::program::Target;
-use il_ast::symbol::Symbol;
-use il_ast::value::Callee;
-use obj_link::linking::linked::Linked;
+use il_ast::{Block, Callee, Few, Field, Inst, Item, Jump, Symbol, Target, Val};
+use obj_link::Linked;
 use std::alloc::{AllocError, Global};
 
 /// Who calls whom. A node is a function by its number, or, behind these, all calls by pointer with 0, 1, .. arguments.

@@ -11,9 +11,8 @@ use crate::bounds::{Bounds, bound_of};
 use crate::check::are_bounds;
 use crate::graph::Graph;
 use crate::guess::guess;
-use il_ast::list::Seq;
-use il_ast::value::Callee;
-use obj_link::linking::linked::Linked;
+use il_ast::{Callee, Seq};
+use obj_link::Linked;
 use std::alloc::{AllocError, Global};
 
 /// No bound for anything, which is right of every program.

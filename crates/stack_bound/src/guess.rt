@@ -1,9 +1,9 @@
 //! A guess of bounds: each node of the graph is settled once all that it may call is. What lies on a cycle, or may come to one, never is, and gets no bound.
 use crate::bounds::Bounds;
 use crate::graph::Graph;
-use il_ast::list::Seq;
+use il_ast::Seq;
 use il_types::cost::capped_need;
-use obj_link::linking::linked::Linked;
+use obj_link::Linked;
 use std::alloc::{AllocError, Global};
 
 /// How far the search has come.

@@ -3,8 +3,8 @@ ghost use Rattle.std.specs.Prelude.{◌≡◌};
 ghost use Rattle.obj_link.specs.ProgramOf.{program};
 ghost use Rattle.stack_bound.specs.Bounds.{names_in};
 
-use il_ast::program::Target;
-use obj_link::linking::linked::Linked;
+use il_ast::Target;
+use obj_link::Linked;
 
 /// What the global names of a text mean, by its number.
 pub(crate) fn names_in<'a>(linked: &'a Linked<'_>, text: usize) -> &'a [Target]

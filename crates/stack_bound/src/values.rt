@@ -4,10 +4,8 @@ ghost use Rattle.obj_link.specs.ProgramOf.{program};
 ghost use Rattle.stack_bound.specs.Bounds.{arity, callee_fits, name_fits, operand_fits};
 
 use crate::bounds::{Bounds, at_most, bound_of, pointed_bound};
-use il_ast::operand::Val;
-use il_ast::program::Target;
-use il_ast::value::Callee;
-use obj_link::linking::linked::Linked;
+use il_ast::{Callee, Target, Val};
+use obj_link::Linked;
 
 /// How many parameters a function has.
 #[tactic(auto, using(crate::proofs::Every::mapped))]

@@ -2,14 +2,11 @@
 use crate::certified::{certificate_of, certificate_text, places_of};
 use crate::code_text::function::{located_text, virtual_function};
 use alloc_check::accept::{Refused, accept};
-use certificates::list;
-use certificates::spill_all::SpillAll;
-use certificates::strategy::Strategy;
+use certificates::{SpillAll, Strategy, list};
 use cfg_live::live::live;
 use regalloc::linear_scan::LinearScan;
 use std::alloc::Global;
-use vcode::function::{LFunc, VFunc};
-use vcode::place::Location;
+use vcode::{LFunc, Location, VFunc};
 
 /// What a certificate makes of a function, or the line `refused`.
 pub fn accepted(alloc: Global, text: &str, certificate: &str) -> Option<String> {

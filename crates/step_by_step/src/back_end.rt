@@ -3,8 +3,7 @@ use rv_isa::decode::decode;
 use rv_isa::encode::encode;
 use rv_isa::text::text;
 use std::alloc::Global;
-use text_maker::maker::TextMaker;
-use text_maker::say;
+use text_maker::{TextMaker, say};
 
 /// Adds the instruction of a word, which has to be encoded as that word.
 fn add_word(out: &mut TextMaker, alloc: Global, word: u32) {

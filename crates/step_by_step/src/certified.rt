@@ -5,12 +5,11 @@
 use crate::code_text::function::is_same;
 use crate::code_text::place::Place;
 use crate::code_text::words::Words;
-use certificates::certificate::{Certificate, Equality, Transfer};
-use il_ast::list::Seq;
+use certificates::{Certificate, Equality, Transfer};
+use il_ast::Seq;
 use std::alloc::{AllocError, Global};
-use text_maker::maker::TextMaker;
-use text_maker::say;
-use vcode::place::Location;
+use text_maker::{TextMaker, say};
+use vcode::Location;
 
 /// What stands in a list, as text.
 trait Part: Copy + Drop {

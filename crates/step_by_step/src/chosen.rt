@@ -6,11 +6,10 @@ use block_layout::tails::choice::{Worth, chosen_tails};
 use code_motion::choice::choose::choose_plan;
 use constant_placement::hoisting::choice::choose::choose_plans;
 use constant_placement::sinking::choice::choose;
-use qbec::passes::Pass;
+use qbec::Pass;
 use std::alloc::Global;
-use text_maker::maker::TextMaker;
-use text_maker::say;
-use vcode::function::VFunc;
+use text_maker::{TextMaker, say};
+use vcode::VFunc;
 
 /// Registers that are computed at the ends of blocks, and in front of lines.
 fn add_computations(text: &mut TextMaker, alloc: Global, function: &VFunc) -> Option<()> {

@@ -2,8 +2,7 @@
 use elf_file::{Loaded, read_image, write_image};
 use obj_link::{Image, SLOT};
 use std::alloc::Global;
-use text_maker::maker::TextMaker;
-use text_maker::say;
+use text_maker::{TextMaker, say};
 
 /// `addi x10, x0, 0`, `addi x17, x0, 93` and `ecall`.
 const EXIT: [u32; 3] = [0x0000_0513, 0x05d0_0893, 0x0000_0073];

@@ -7,16 +7,11 @@ use abi_frames::frame::frame;
 use asm_layout::call::CallForm;
 use asm_layout::layout::layout;
 use flat_code::function::flat;
-use rv_isa::code::MachineCode;
 use rv_isa::decode::decode;
-use rv_isa::instruction::{BranchOp, Instr};
-use rv_isa::labelled::Item;
-use rv_isa::ranges::{BranchOffset, Register};
-use rv_isa::relocation::Relocation;
 use rv_isa::text::text;
+use rv_isa::{BranchOffset, BranchOp, Instr, Item, MachineCode, Register, Relocation};
 use std::alloc::{AllocError, Global};
-use text_maker::maker::TextMaker;
-use text_maker::say;
+use text_maker::{TextMaker, say};
 
 /// A branch to a label, in the place of an offset.
 fn branch_text(

@@ -1,16 +1,14 @@
 //! The steps of the front end.
 use crate::hexadecimal::bytes_of;
 use crate::show::{show, show_alone};
-use il_ast::function::Func;
-use il_ast::text::{Definition, Text};
+use il_ast::{Definition, Func, Text};
 use il_reader::read::read;
+use il_types::CheckError;
 use il_types::check::check;
 use il_types::cost::{alloc_area, weight};
-use il_types::error::CheckError;
 use promote::promote::promote;
 use std::alloc::{AllocError, Global};
-use text_maker::maker::TextMaker;
-use text_maker::say;
+use text_maker::{TextMaker, say};
 
 /// The tree of a text, or why it isn't read.
 pub fn tree(alloc: Global, text: &str) -> Option<String> {

@@ -3,15 +3,11 @@
 //! A graph is a text with a line for each point: the registers that it reads, the one that it writes, and the points behind it.
 use crate::code_text::function::virtual_function;
 use crate::lists::{add_numbers, numbers, registers};
-use cfg_live::graph::Graph;
 use cfg_live::live::live_in;
-use cfg_live::points;
-use cfg_live::sets::Live;
-use cfg_live::uses::Uses;
-use il_ast::list::Seq;
+use cfg_live::{Graph, Live, Uses, points};
+use il_ast::Seq;
 use std::alloc::Global;
-use text_maker::maker::TextMaker;
-use text_maker::say;
+use text_maker::{TextMaker, say};
 
 fn take(alloc: Global, graph: &mut Graph, line: &str) -> Option<()> {
     let (reads, rest) = line.split_once('|')?;

@@ -1,14 +1,12 @@
 //! Texts that are linked: between them stand lines with `next`.
 use il_reader::read::read;
+use il_types::Checked;
 use il_types::check::check;
-use il_types::checked::Checked;
-use obj_link::linking::error::LinkError;
-use obj_link::linking::linked::Linked;
 use obj_link::linking::resolve::resolve;
+use obj_link::{LinkError, Linked};
 use std::alloc::{AllocError, Global};
 use std::str;
-use text_maker::maker::TextMaker;
-use text_maker::say;
+use text_maker::{TextMaker, say};
 
 fn checked_text(alloc: Global, text: &str) -> Option<Checked> {
     check(alloc, read(alloc, text.as_bytes()).ok()?).ok()

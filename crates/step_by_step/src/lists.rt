@@ -1,8 +1,7 @@
 //! Lists of numbers in texts.
-use il_ast::few::Few;
+use il_ast::Few;
 use std::alloc::Global;
-use text_maker::maker::TextMaker;
-use text_maker::say;
+use text_maker::{TextMaker, say};
 
 /// The numbers in a list.
 pub fn numbers(alloc: Global, list: &str) -> Option<Few<usize>> {

@@ -4,13 +4,10 @@
 //! each line stands what register 7 holds behind the words, and where the machine is then; or where it stopped, what register 5 holds then, and where the machine is.
 use elf_file::{read_image, write_image};
 use obj_link::Image;
-use rv_isa::ranges::Register;
-use rv_machine::machine::Machine;
-use rv_machine::page_ram::PageRam;
-use rv_machine::stop::Stop;
+use rv_isa::Register;
+use rv_machine::{Machine, PageRam, Stop};
 use std::alloc::{AllocError, Global};
-use text_maker::maker::TextMaker;
-use text_maker::say;
+use text_maker::{TextMaker, say};
 
 const X5: Register = Register { number: 5 };
 

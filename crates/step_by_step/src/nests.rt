@@ -3,10 +3,9 @@ use crate::code_text::function::virtual_function;
 use crate::lists::add_numbers;
 use flow::depths::{depths, frequency};
 use flow::graph::predecessors;
-use il_ast::few::Few;
+use il_ast::Few;
 use std::alloc::Global;
-use text_maker::maker::TextMaker;
-use text_maker::say;
+use text_maker::{TextMaker, say};
 
 fn add_block(text: &mut TextMaker, block: usize, depths: &[u32], sources: &[Few<usize>]) {
     say!(text; "{block}:");

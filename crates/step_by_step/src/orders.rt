@@ -5,7 +5,7 @@ use crate::passes::shown_or_refused;
 use block_layout::placement::choice::chains::chained;
 use block_layout::placement::order::in_order;
 use std::alloc::Global;
-use text_maker::maker::TextMaker;
+use text_maker::TextMaker;
 
 /// The order that is chosen for the blocks of a function.
 pub fn chosen(alloc: Global, text: &str) -> Option<String> {

@@ -1,9 +1,9 @@
 //! The passes on virtual code.
 use crate::code_text::function::{virtual_function, virtual_text};
 use inlining::calls::inline_calls;
-use qbec::passes::Pass;
+use qbec::Pass;
 use std::alloc::{AllocError, Global};
-use vcode::function::VFunc;
+use vcode::VFunc;
 
 /// The text of what a pass made.
 pub fn shown(alloc: Global, made: Result<VFunc, AllocError>) -> Option<String> {

@@ -3,10 +3,7 @@ ghost use Rattle.std.specs.Prelude.{◌≡◌, Some, IfSome, slice_get};
 ghost use Rattle.phi_copies.specs.Good.{IsGoodFunction};
 
 use crate::code_text::function::virtual_text;
-use il_ast::function::Func;
-use il_ast::operand::Val;
-use il_ast::operation::Class;
-use il_ast::text::{Definition, Text};
+use il_ast::{Class, Definition, Func, Text, Val};
 use il_reader::read::read;
 use il_types::check::check;
 use phi_copies::ending::Assignment;
@@ -14,8 +11,7 @@ use phi_copies::lower::lower;
 use promote::promote::promote;
 use select::select::select;
 use std::alloc::Global;
-use text_maker::maker::TextMaker;
-use text_maker::say;
+use text_maker::{TextMaker, say};
 
 /// How many temporaries the functions have; those behind them may be used besides.
 const OWN: usize = 12;

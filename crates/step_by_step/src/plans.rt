@@ -6,10 +6,9 @@ use code_motion::plan::{BlockPlan, Computation};
 use constant_placement::hoisting::hold::with_constant;
 use constant_placement::hoisting::plan::{Constant, Plan};
 use constant_placement::sinking::known::Known;
-use il_ast::list::Seq;
+use il_ast::Seq;
 use std::alloc::Global;
-use vcode::code::Block;
-use vcode::line::Line;
+use vcode::{Block, Line};
 
 /// For each word whether it is `yes`.
 fn marks(alloc: Global, words: &str) -> Option<Vec<bool>> {

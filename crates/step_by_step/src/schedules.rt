@@ -1,10 +1,10 @@
 //! Location code whose lines change places.
 use crate::code_text::function::{located_function, located_text};
 use crate::lists::numbers;
-use il_ast::list::Seq;
+use il_ast::Seq;
 use scheduling::schedule::{apply, schedule};
 use std::alloc::{AllocError, Global};
-use vcode::function::LFunc;
+use vcode::LFunc;
 
 fn shown(alloc: Global, made: Result<LFunc, AllocError>) -> Option<String> {
     let function = made.ok()?;

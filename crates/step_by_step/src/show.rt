@@ -1,15 +1,10 @@
 //! Trees as text: each item on a line, with the number of its line, and names by number.
-use il_ast::block::{Block, Phi};
-use il_ast::datum::{DataDef, Field, Item};
-use il_ast::function::Func;
-use il_ast::instruction::{Inst, Jump, Lined};
-use il_ast::name::Name;
-use il_ast::operand::{Dest, Val};
-use il_ast::text::{Definition, Text};
+use il_ast::{
+    Block, DataDef, Definition, Dest, Field, Func, Inst, Item, Jump, Lined, Name, Phi, Text, Val,
+};
 use std::alloc::{AllocError, Global};
 use std::fmt;
-use text_maker::maker::TextMaker;
-use text_maker::say;
+use text_maker::{TextMaker, say};
 
 /// A text, with its numbers of lines and bytes and the names of its globals.
 pub fn show(alloc: Global, text: &Text) -> Result<String, AllocError> {

@@ -4,8 +4,7 @@ use il_lex::kind::Kind;
 use il_lex::quoted::string_bytes;
 use il_lex::tokens::{Span, Tokens};
 use std::alloc::{AllocError, Global};
-use text_maker::maker::TextMaker;
-use text_maker::say;
+use text_maker::{TextMaker, say};
 
 /// What a call of `next` shows: a token with its line, an error on a line, or the end.
 #[derive(Clone, Copy)]

@@ -3,10 +3,10 @@ use crate::chosen::chosen;
 use crate::passes::changed_by;
 use crate::phis::Part;
 use crate::{allocation, frames, front_end, phis, schedules};
-use qbec::passes::{PASSES, Pass, Progress};
+use qbec::passes::PASSES;
+use qbec::{Pass, Progress};
 use std::alloc::Global;
-use text_maker::maker::TextMaker;
-use text_maker::say;
+use text_maker::{TextMaker, say};
 
 /// Adds what a step made: a line with its name, and the text.
 fn add_stage(out: &mut TextMaker, name: &str, made: &str) {

@@ -7,3 +7,5 @@
 #![tactic(auto)]
 
 pub mod maker;
+
+pub use maker::TextMaker;

@@ -5,12 +5,9 @@ use crate::steps::pass;
 use crate::ways::{Order, is_known, is_linear, may_grow, may_shrink, order_met, order_missed};
 use cfg_live::uses::line_writes;
 use flow::graph::successor;
-use il_ast::few::Few;
-use il_ast::list::Seq;
+use il_ast::{Few, Seq};
 use std::alloc::{AllocError, Global};
-use vcode::code::Block;
-use vcode::line::{Jump, Line, Operation};
-use vcode::place::Operand;
+use vcode::{Block, Jump, Line, Operand, Operation};
 
 /// How many facts are claimed of a block, at most.
 const CLAIMS: usize = 48;

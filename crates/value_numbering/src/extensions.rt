@@ -10,9 +10,8 @@ ghost use Rattle.value_numbering.specs.Reused.{Made};
 
 use crate::fact::{Expression, Fact, distance};
 use crate::known::canonical;
-use rv_isa::instruction::{LoadOp, RegOp, RegWOp};
-use vcode::line::{Line, Operation};
-use vcode::place::{Address, Operand};
+use rv_isa::{LoadOp, RegOp, RegWOp};
+use vcode::{Address, Line, Operand, Operation};
 
 /// An operand's low bits, extended as this load extends what it reads.
 #[derive(Clone, Copy)]

@@ -4,9 +4,8 @@ ghost use Rattle.vcode.specs.Addresses.{distance};
 ghost use Rattle.value_numbering.specs.Known.{computed, names, reads, asks_memory, changes_memory, spares, stays};
 
 use cfg_live::uses::line_writes;
-use rv_isa::instruction::{LoadOp, RegOp};
-use vcode::line::{Line, Operation};
-use vcode::place::{Address, Operand};
+use rv_isa::{LoadOp, RegOp};
+use vcode::{Address, Line, Operand, Operation};
 
 /// What a line computes.
 #[derive(Clone, Copy)]

@@ -4,9 +4,8 @@ ghost use Rattle.value_numbering.specs.Known.{copied_from, source, copied, shift
 
 use crate::fact::{Expression, Fact, reads};
 use crate::same::same_expression;
-use rv_isa::instruction::{RegOp, RegWOp};
-use vcode::line::Operation;
-use vcode::place::Operand;
+use rv_isa::{RegOp, RegWOp};
+use vcode::{Operand, Operation};
 
 /// The register that a fact says this one is a copy of.
 fn copied_by(fact: Fact, register: u32) -> Option<u32>

@@ -12,11 +12,10 @@ use crate::narrow::narrow;
 use crate::regroup::regrouped_line;
 use crate::shifts::halfway_line;
 use crate::steps::{linear_in, pass};
-use rv_isa::instruction::RegOp;
+use rv_isa::RegOp;
 use std::alloc::{AllocError, Global};
 use vcode::cost::line_cost;
-use vcode::line::{Line, Operation};
-use vcode::place::Operand;
+use vcode::{Line, Operand, Operation};
 
 fn is_no_number(operand: Operand<u32>) -> bool {
     match operand {

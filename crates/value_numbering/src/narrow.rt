@@ -5,10 +5,9 @@ ghost use Rattle.value_numbering.specs.Narrow.{extended_from, masked_from, low_o
 
 use crate::fact::{Expression, Fact};
 use crate::known::is_back;
-use il_ast::operation::Size;
-use rv_isa::instruction::RegOp;
-use vcode::line::Operation;
-use vcode::place::Operand;
+use il_ast::Size;
+use rv_isa::RegOp;
+use vcode::{Operand, Operation};
 
 /// The register of which a value is the extension, back from so many bits further left.
 fn extended_from(value: &Expression, bits: u64) -> Option<u32>

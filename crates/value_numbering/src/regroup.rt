@@ -11,10 +11,9 @@ ghost use Rattle.value_numbering.specs.Reused.{Made};
 use crate::fact::{Expression, Fact};
 use crate::known::{copied, holder, source};
 use crate::same::same_operation;
-use rv_isa::instruction::{RegOp, RegWOp};
+use rv_isa::{RegOp, RegWOp};
 use vcode::cost::is_immediate;
-use vcode::line::{Line, Operation};
-use vcode::place::Operand;
+use vcode::{Line, Operand, Operation};
 
 /// A register, and what is added to it.
 #[derive(Clone, Copy)]

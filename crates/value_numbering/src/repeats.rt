@@ -5,11 +5,9 @@ use crate::known::{canonical, is_back, is_plain, kept_fact};
 use crate::lines::{is_dear, is_worth};
 use crate::same::{same_operand, same_operation};
 use flow::graph::reachable;
-use rv_isa::instruction::{RegOp, RegWOp};
+use rv_isa::{RegOp, RegWOp};
 use std::alloc::{AllocError, Global};
-use vcode::code::Block;
-use vcode::line::{Line, Operation};
-use vcode::place::Operand;
+use vcode::{Block, Line, Operand, Operation};
 
 /// How many values are compared with each other, at most: where there are more, some may repeat others.
 const MOST: usize = 16;

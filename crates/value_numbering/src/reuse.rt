@@ -12,13 +12,11 @@ use crate::fact::Fact;
 use crate::lines::lines;
 use crate::repeats::blocks_may_repeat;
 use crate::ways::{are_known, order_met, order_missed};
-use il_ast::list::Seq;
+use il_ast::Seq;
 use sign_extensions::marks::whole_registers;
 use std::alloc::{AllocError, Global};
-use vcode::code::Block;
 use vcode::cost::is_paid;
-use vcode::function::VFunc;
-use vcode::line::Jump;
+use vcode::{Block, Jump, VFunc};
 
 /// The facts claimed where a block begins.
 fn claims_at(claims: &[Seq<Fact>], block: usize) -> &[Fact]

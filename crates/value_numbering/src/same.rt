@@ -2,9 +2,8 @@
 ghost use Rattle.std.specs.Prelude.{◌≡◌, true};
 
 use crate::fact::{Expression, Fact};
-use il_ast::operation::{Class, Condition};
-use vcode::line::Operation;
-use vcode::place::Operand;
+use il_ast::{Class, Condition};
+use vcode::{Operand, Operation};
 
 pub(crate) fn same_operand(left: Operand<u32>, right: Operand<u32>) -> bool
     ensures { result ≡ true → left ≡ right }

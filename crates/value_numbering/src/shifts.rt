@@ -11,9 +11,8 @@ ghost use Rattle.value_numbering.specs.Reused.{Made};
 
 use crate::fact::{Expression, Fact};
 use crate::known::{holder, source};
-use rv_isa::instruction::RegOp;
-use vcode::line::{Line, Operation};
-use vcode::place::Operand;
+use rv_isa::RegOp;
+use vcode::{Line, Operand, Operation};
 
 /// An operand that is shifted to the left by so many bits and back by zeros.
 #[derive(Clone, Copy)]

@@ -5,10 +5,9 @@ ghost use Rattle.value_numbering.specs.Steps.{product_in, product, product_of, b
 
 use crate::fact::{Expression, Fact, computed, names, reads, stays};
 use crate::known::{canonical, grows_in, kept_fact};
-use rv_isa::instruction::{RegOp, RegWOp};
+use rv_isa::{RegOp, RegWOp};
 use std::alloc::{AllocError, Global};
-use vcode::line::{Line, Operation};
-use vcode::place::Operand;
+use vcode::{Line, Operand, Operation};
 
 /// So many times what an operand holds.
 #[derive(Clone, Copy)]

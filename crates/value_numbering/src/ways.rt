@@ -11,10 +11,9 @@ use crate::fact::{Expression, Fact, names};
 use crate::known::canonical;
 use crate::same::same_fact;
 use crate::steps::{is_word, stands};
-use il_ast::operation::{Class, Condition};
+use il_ast::{Class, Condition};
 use sign_extensions::marks::is_marked;
-use vcode::line::Comparison;
-use vcode::place::Operand;
+use vcode::{Comparison, Operand};
 
 /// Of two operands, as signed numbers of a class, one is less.
 #[derive(Clone, Copy)]

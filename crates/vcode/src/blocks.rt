@@ -7,7 +7,7 @@ ghost use Rattle.vcode.specs.Coded.{virtual_code};
 
 use crate::code::{Block, Code};
 use crate::function::VFunc;
-use il_ast::list::Seq;
+use il_ast::Seq;
 use std::alloc::{AllocError, Global};
 
 impl VFunc {

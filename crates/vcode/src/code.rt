@@ -1,8 +1,7 @@
 //! Blocks, and the code of a function.
 use crate::line::{Jump, Line};
 use crate::place::Destination;
-use il_ast::list::Seq;
-use il_ast::operation::Class;
+use il_ast::{Class, Seq};
 
 /// A basic block.
 #[derive(Drop)]

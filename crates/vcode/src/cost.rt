@@ -6,7 +6,7 @@ ghost use Rattle.vcode.specs.Spent.{spent};
 use crate::code::Block;
 use crate::line::{Jump, Line, Operation};
 use crate::place::Operand;
-use il_ast::operation::Class;
+use il_ast::Class;
 
 /// Whether one immediate of 12 bits with a sign gives the number.
 pub fn is_immediate(number: u64) -> bool

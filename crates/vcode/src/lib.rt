@@ -25,3 +25,9 @@ pub mod limits;
 pub mod line;
 pub mod place;
 pub mod replace;
+
+pub use code::{Block, Code};
+pub use function::{LFunc, VFunc};
+pub use line::{Comparison, Jump, Line, Operation};
+pub use place::{Address, Argument, Destination, Extension, Location, Operand, ReturnValue};
+pub use replace::Replace;

@@ -2,9 +2,8 @@
 ghost use Rattle.std.specs.Prelude.{◌≡◌, ◌++◌, IfOk, OnOk};
 
 use crate::place::{Address, Argument, Destination, Operand, ReturnValue};
-use il_ast::list::Seq;
-use il_ast::operation::{Class, Condition, Size};
-use rv_isa::instruction::{LoadOp, RegOp, RegWOp};
+use il_ast::{Class, Condition, Seq, Size};
+use rv_isa::{LoadOp, RegOp, RegWOp};
 use std::alloc::{AllocError, Global};
 
 /// An operation on two operands.

@@ -3,9 +3,8 @@ ghost use Rattle.std.specs.Prelude.{◌≡◌, ◌<◌};
 ghost use Rattle.rv_isa.specs.Formats.{signed};
 ghost use Rattle.vcode.specs.Addresses.{low, beyond, at_once};
 
-use il_ast::operation::Class;
-use il_ast::symbol::Symbol;
-use rv_isa::ranges::Immediate;
+use il_ast::{Class, Symbol};
+use rv_isa::Immediate;
 use std::alloc::AllocError;
 
 /// Where location code has a value.

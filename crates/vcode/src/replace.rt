@@ -5,7 +5,7 @@ ghost use Rattle.vcode.specs.Replaced.{with_base, with_argument, with_returned, 
 
 use crate::line::{Comparison, Jump, Line};
 use crate::place::{Address, Argument, Operand, ReturnValue};
-use il_ast::list::Seq;
+use il_ast::Seq;
 use std::alloc::{AllocError, Global};
 
 /// A way to read operands: which one stands in the place of each.

@@ -4,10 +4,10 @@ ghost use Rattle.block_layout.specs.Ordered.{block_at, led, placed};
 ghost use Rattle.block_layout.specs.Placed.{ArePlaces};
 
 use crate::placement::places::place;
-use il_ast::list::Seq;
+use il_ast::Seq;
 use std::alloc::{AllocError, Global};
-use vcode::code::Block;
-use vcode::line::{Jump, Line, push_lines};
+use vcode::line::push_lines;
+use vcode::{Block, Jump, Line};
 
 /// The jump to where its targets stand in the order.
 fn led(order: &[usize], places: &[usize], jump: &Jump<u32>) -> Jump<u32>

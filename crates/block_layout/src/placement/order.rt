@@ -9,7 +9,7 @@ use crate::placement::blocks::blocks_in_order;
 use crate::placement::choice::chains::chained;
 use crate::placement::places::{begins, is_closed, places};
 use std::alloc::{AllocError, Global};
-use vcode::function::VFunc;
+use vcode::VFunc;
 
 /// The function in an order, of which these are the places.
 fn ordered(

@@ -5,8 +5,7 @@ ghost use Rattle.block_layout.specs.Ordered.{place_in, is_named, block_at, begin
 ghost use Rattle.block_layout.specs.Placed.{AreUnset, ArePlaces, names_blocks};
 
 use std::alloc::{AllocError, Global};
-use vcode::code::Block;
-use vcode::line::Jump;
+use vcode::{Block, Jump};
 
 /// The place at which a block stands in the order; of one that isn't named, the first place past the end.
 pub(crate) fn place(order: &[usize], places: &[usize], block: usize) -> usize

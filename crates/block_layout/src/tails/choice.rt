@@ -2,8 +2,7 @@
 use flow::depths::depths;
 use flow::graph::{reachable, successor};
 use std::alloc::{AllocError, Global};
-use vcode::code::Block;
-use vcode::line::{Jump, Line};
+use vcode::{Block, Jump, Line};
 
 /// As many lines as a block that isn't worth a copy has.
 const MANY: u64 = 100;

@@ -10,11 +10,10 @@ use crate::placement::order::in_order;
 use crate::tails::choice::{Worth, chosen_tails, reached_blocks};
 use crate::tails::weigh::are_light;
 use flow::graph::reachable;
-use il_ast::list::Seq;
+use il_ast::Seq;
 use std::alloc::{AllocError, Global};
-use vcode::code::Block;
-use vcode::function::VFunc;
-use vcode::line::{Jump, Line, push_lines};
+use vcode::line::push_lines;
+use vcode::{Block, Jump, Line, VFunc};
 
 fn as_it_is(alloc: Global, block: &Block<u32>) -> Result<Block<u32>, AllocError>
     ensures { IfOk result (λ d. d ≡ block.now) }

@@ -5,8 +5,7 @@ ghost use Rattle.il_ast.specs.declared.limits.TheConstants.{FUNCTION_WEIGHT};
 ghost use Rattle.block_layout.specs.Joined.{burden, block_burden};
 
 use il_ast::limits::FUNCTION_WEIGHT;
-use vcode::code::Block;
-use vcode::line::Line;
+use vcode::{Block, Line};
 
 /// The weight of a tick and the turn that it begins.
 fn burden(line: &Line<u32>) -> u64

@@ -1,12 +1,10 @@
 //! Whether there may be anything to do in front of loops: a look at the lines, before the loops are found.
-use cfg_live::low_registers::LowRegisters;
+use cfg_live::LowRegisters;
 use cfg_live::uses::line_writes;
 use flow::graph::successor;
 use flow::loops::is_back;
-use rv_isa::instruction::RegOp;
-use vcode::code::Block;
-use vcode::line::{Line, Operation};
-use vcode::place::Operand;
+use rv_isa::RegOp;
+use vcode::{Block, Line, Operand, Operation};
 
 /// A jump back in the text.
 #[derive(Clone, Copy)]

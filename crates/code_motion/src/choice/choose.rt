@@ -9,14 +9,11 @@ use crate::choice::offsets::plan_offsets;
 use crate::choice::reads::count_reads;
 use crate::choice::written::{Spot, Sum, Written};
 use crate::plan::{BlockPlan, Computation, Plan};
-use rv_isa::instruction::{RegOp, RegWOp};
+use rv_isa::{RegOp, RegWOp};
 use std::alloc::{AllocError, Global};
-use vcode::code::Block;
 use vcode::cost::line_cost;
-use vcode::function::VFunc;
 use vcode::limits::PLACES;
-use vcode::line::{Line, Operation};
-use vcode::place::Operand;
+use vcode::{Block, Line, Operand, Operation, VFunc};
 
 /// How many computations are done in front of a loop, at most.
 const MOST: usize = 32;

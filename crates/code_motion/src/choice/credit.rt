@@ -1,7 +1,6 @@
 //! What the ticks of a block leave for more lines.
-use vcode::code::Block;
 use vcode::cost::line_cost;
-use vcode::line::{Jump, Line};
+use vcode::{Block, Jump, Line};
 
 /// The most that a branch costs.
 const BRANCH: u128 = 25;

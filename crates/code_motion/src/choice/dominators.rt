@@ -2,10 +2,9 @@
 use cfg_live::uses::line_writes;
 use flow::depths::loop_depths;
 use flow::graph::{predecessors, predecessors_of, successor};
-use il_ast::few::Few;
+use il_ast::Few;
 use std::alloc::{AllocError, Global};
-use vcode::code::Block;
-use vcode::place::Operand;
+use vcode::{Block, Operand};
 
 /// How many of them are looked at, at most.
 const MOST: usize = 4;

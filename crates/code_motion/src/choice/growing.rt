@@ -3,15 +3,13 @@ use crate::choice::choose::{Plans, pay};
 use crate::choice::written::{Growth, Product, Spot, Written};
 use crate::plan::Computation;
 use flow::loops::Loop;
-use il_ast::operation::{Class, Condition};
-use rv_isa::instruction::{RegOp, RegWOp};
+use il_ast::{Class, Condition};
+use rv_isa::{RegOp, RegWOp};
 use sign_extensions::marks::is_marked;
 use std::alloc::AllocError;
-use vcode::code::Block;
 use vcode::cost::is_immediate;
 use vcode::limits::PLACES;
-use vcode::line::{Comparison, Jump, Line, Operation};
-use vcode::place::Operand;
+use vcode::{Block, Comparison, Jump, Line, Operand, Operation};
 
 /// A sum of what a loop doesn't change and of a product of a register that grows.
 #[derive(Clone, Copy)]

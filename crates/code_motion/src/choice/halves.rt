@@ -1,12 +1,10 @@
 //! Extensions by zeros that are shifted to the left. Their two shifts write one register; where what stands between them has a register of its own, `value_numbering` shifts that back by less.
 use crate::choice::choose::{Plans, pay};
 use crate::plan::Computation;
-use rv_isa::instruction::RegOp;
+use rv_isa::RegOp;
 use std::alloc::{AllocError, Global};
-use vcode::code::Block;
 use vcode::limits::PLACES;
-use vcode::line::{Line, Operation};
-use vcode::place::Operand;
+use vcode::{Block, Line, Operand, Operation};
 
 /// How many lines behind an extension the shift is looked for.
 const WINDOW: usize = 8;

@@ -6,8 +6,7 @@ use crate::choice::written::Written;
 use flow::loops::{Loop, find_loops, largest_first};
 use sign_extensions::marks::whole_registers;
 use std::alloc::{AllocError, Global};
-use vcode::code::Block;
-use vcode::function::VFunc;
+use vcode::{Block, VFunc};
 
 /// More than all computations in front of a loop cost.
 const PLENTY: u128 = 1_000_000;

@@ -3,13 +3,11 @@
 use crate::choice::choose::{Plans, pay};
 use crate::plan::Computation;
 use cfg_live::uses::line_writes;
-use rv_isa::instruction::RegOp;
+use rv_isa::RegOp;
 use std::alloc::AllocError;
-use vcode::code::Block;
 use vcode::cost::is_immediate;
 use vcode::limits::PLACES;
-use vcode::line::{Line, Operation};
-use vcode::place::{Address, Operand};
+use vcode::{Address, Block, Line, Operand, Operation};
 
 /// How many lines in front of a sum, and behind it, are looked at.
 const WINDOW: usize = 8;

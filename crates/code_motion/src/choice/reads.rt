@@ -1,8 +1,6 @@
 //! How often a function reads each register.
 use std::alloc::{AllocError, Global};
-use vcode::code::Block;
-use vcode::line::{Jump, Line};
-use vcode::place::Operand;
+use vcode::{Block, Jump, Line, Operand};
 
 fn count(reads: &mut [u32], operand: &Operand<u32>) {
     if let Operand::At(register) = operand {

@@ -2,9 +2,7 @@
 use crate::choice::reads::count_reads;
 use cfg_live::uses::line_writes;
 use std::alloc::{AllocError, Global};
-use vcode::code::Block;
-use vcode::line::{Line, Operation};
-use vcode::place::Operand;
+use vcode::{Block, Line, Operand, Operation};
 
 /// Of a register: the last loop that was looked at, how often that writes it, the register in front of it that holds the same, and the number of what more is known.
 #[derive(Clone, Copy)]

@@ -1,10 +1,8 @@
 //! Which sums are put off, and how far: a guess.
 use crate::later::waiting::{lets_wait, operation_of};
 use cfg_live::uses::line_writes;
-use rv_isa::instruction::{RegOp, RegWOp};
-use vcode::code::Block;
-use vcode::line::{Jump, Line, Operation};
-use vcode::place::{Argument, Operand};
+use rv_isa::{RegOp, RegWOp};
+use vcode::{Argument, Block, Jump, Line, Operand, Operation};
 
 /// How many lines behind a sum are looked at.
 const WINDOW: usize = 48;

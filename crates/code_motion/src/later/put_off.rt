@@ -8,12 +8,11 @@ ghost use Rattle.code_motion.specs.Later.{line_of, may_wait, lets_wait, AreLater
 use crate::choice::reads::count_reads;
 use crate::later::choice::{is_any_put_off, place_of};
 use crate::later::waiting::{Waiting, lets_wait, operation_of};
-use il_ast::list::Seq;
+use il_ast::Seq;
 use std::alloc::{AllocError, Global};
-use vcode::code::Block;
 use vcode::cost::is_paid;
-use vcode::function::VFunc;
-use vcode::line::{Line, push_lines};
+use vcode::line::push_lines;
+use vcode::{Block, Line, VFunc};
 
 /// What is put off, if something is, and the number of the line in front of which it has to be done.
 #[derive(Clone, Copy)]

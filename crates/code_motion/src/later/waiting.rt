@@ -6,8 +6,7 @@ ghost use Rattle.vcode.specs.Writes.{line_writes};
 ghost use Rattle.code_motion.specs.Later.{line_of, asks_nothing, differs, may_wait, is_spared, lets_wait};
 
 use cfg_live::uses::line_writes;
-use vcode::line::{Line, Operation};
-use vcode::place::{Argument, Destination, Operand};
+use vcode::{Argument, Destination, Line, Operand, Operation};
 
 /// An operation that is put off.
 #[derive(Clone, Copy)]

@@ -7,7 +7,7 @@ use crate::hoisting::choice::choose::choose_plans;
 use crate::hoisting::hold::with_constant;
 use crate::hoisting::plan::Plan;
 use std::alloc::{AllocError, Global};
-use vcode::function::VFunc;
+use vcode::VFunc;
 
 /// What was made of the function, or the function itself, by one plan more, if that is right.
 #[tactic(auto, using(il_ast::proofs::Passing::keeps_compose))]

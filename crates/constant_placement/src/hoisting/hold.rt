@@ -9,10 +9,9 @@ ghost use Rattle.constant_placement.specs.Held.{with_blocks, with_constant, is_s
 use crate::hoisting::plan::Plan;
 use crate::hoisting::replace::with_blocks;
 use crate::hoisting::right::{are_paid, fits};
-use il_ast::list::Seq;
+use il_ast::Seq;
 use std::alloc::{AllocError, Global};
-use vcode::code::Block;
-use vcode::function::VFunc;
+use vcode::{Block, VFunc};
 
 /// The function with these blocks, which are its own by the plan.
 fn with_these(

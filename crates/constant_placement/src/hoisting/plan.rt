@@ -2,8 +2,8 @@
 ghost use Rattle.std.specs.Prelude.{◌≡◌, false, slice_index_or};
 ghost use Rattle.constant_placement.specs.Held.{operand_of, is_it, is_held, is_set};
 
-use il_ast::symbol::Symbol;
-use vcode::place::Operand;
+use il_ast::Symbol;
+use vcode::Operand;
 
 /// A constant that takes instructions where it is an operand.
 #[derive(Clone, Copy)]

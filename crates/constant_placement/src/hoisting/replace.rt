@@ -4,12 +4,10 @@ ghost use Rattle.vcode.specs.Replaced.{with_line};
 ghost use Rattle.constant_placement.specs.Held.{replaced, setting, held_block, with_blocks};
 
 use crate::hoisting::plan::Plan;
-use il_ast::list::Seq;
+use il_ast::Seq;
 use std::alloc::{AllocError, Global};
-use vcode::code::Block;
-use vcode::line::Line;
-use vcode::place::Operand;
-use vcode::replace::{Replace, jump, line};
+use vcode::replace::{jump, line};
+use vcode::{Block, Line, Operand, Replace};
 
 /// A block that holds the constant, or doesn't.
 #[derive(Drop)]

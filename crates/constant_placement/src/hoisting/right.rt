@@ -9,11 +9,8 @@ ghost use Rattle.flow.specs.Successors.{successors};
 ghost use Rattle.constant_placement.specs.Held.{is_held, is_set, is_other, may_lead, leads_well, is_safe};
 
 use crate::hoisting::plan::Plan;
-use vcode::code::{Block, Code};
 use vcode::cost::is_paid;
-use vcode::function::VFunc;
-use vcode::line::{Jump, Line};
-use vcode::place::{Argument, Destination, Operand};
+use vcode::{Argument, Block, Code, Destination, Jump, Line, Operand, VFunc};
 
 /// The lines of code that spare a register name it nowhere.
 fn operand_spares(register: u32, operand: &Operand<u32>) -> bool

@@ -3,16 +3,13 @@ use crate::points::behind_block;
 use crate::sinking::known::{Known, Plan};
 use crate::sinking::numbers::Numbers;
 use crate::sinking::place::placed;
+use cfg_live::Live;
 use cfg_live::live::live;
-use cfg_live::sets::Live;
 use flow::graph::{predecessors, predecessors_of};
-use il_ast::list::Seq;
+use il_ast::Seq;
 use std::alloc::{AllocError, Global};
 use std::mem;
-use vcode::code::Block;
-use vcode::function::VFunc;
-use vcode::line::{Jump, Line};
-use vcode::place::Operand;
+use vcode::{Block, Jump, Line, Operand, VFunc};
 
 /// How many registers a block sets at most.
 const SETS: usize = 64;

@@ -4,10 +4,8 @@ ghost use Rattle.std.specs.List.{list_all, list_any};
 ghost use Rattle.constant_placement.specs.Known.{same, is_planned, sets, known_behind, known_at_end, stay_known, plan_at, are_known, leads_well};
 
 use cfg_live::uses::line_writes;
-use il_ast::list::Seq;
-use vcode::code::Block;
-use vcode::line::{Jump, Line};
-use vcode::place::Operand;
+use il_ast::Seq;
+use vcode::{Block, Jump, Line, Operand};
 
 /// The register holds the number.
 #[derive(Clone, Copy)]

@@ -1,11 +1,10 @@
 //! Numbers that a block sets registers to and doesn't read.
 use crate::sinking::known::Known;
-use cfg_live::reads::{Reads, jump_reads, line_reads, register_of};
+use cfg_live::Reads;
+use cfg_live::reads::{jump_reads, line_reads, register_of};
 use cfg_live::uses::line_writes;
 use std::alloc::{AllocError, Global};
-use vcode::code::Block;
-use vcode::line::Line;
-use vcode::place::Operand;
+use vcode::{Block, Line, Operand};
 
 /// The numbers that a block sets registers to, as far as they haven't been read or written since.
 #[derive(Drop)]

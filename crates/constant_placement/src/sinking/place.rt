@@ -2,11 +2,10 @@
 use crate::sinking::known::{Known, Plan};
 use cfg_live::reads::{line_reads, register_of};
 use cfg_live::uses::line_writes;
-use il_ast::list::Seq;
+use il_ast::Seq;
 use std::alloc::{AllocError, Global};
-use vcode::code::Block;
 use vcode::cost::{is_immediate, line_cost};
-use vcode::line::{Jump, Line};
+use vcode::{Block, Jump, Line};
 
 /// The most that a jump costs.
 fn jump_cost(jump: &Jump<u32>) -> u128 {

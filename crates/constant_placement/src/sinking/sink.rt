@@ -6,9 +6,9 @@ ghost use Rattle.vcode.specs.Coded.{virtual_code};
 use crate::sinking::choice::choose;
 use crate::sinking::known::{Plan, plan_at};
 use crate::sinking::with_sets::all_sunk;
-use il_ast::list::Seq;
+use il_ast::Seq;
 use std::alloc::{AllocError, Global};
-use vcode::function::VFunc;
+use vcode::VFunc;
 
 /// The function by these plans, one for each block; none where they aren't right: where the first block is to set something, or what is planned of a block isn't known on each
 /// way there. It takes time and memory as the text and the plans are long.

@@ -5,12 +5,11 @@ ghost use Rattle.constant_placement.specs.Known.{plan_at, stay_known};
 ghost use Rattle.constant_placement.specs.Sunk.{set_line, with_sets, is_low, Sinks, IsSunk, AllSunk};
 
 use crate::sinking::known::{Known, Plan, leads_well, place_at, plan_at, stay_known};
-use il_ast::list::Seq;
+use il_ast::Seq;
 use std::alloc::{AllocError, Global};
-use vcode::code::Block;
 use vcode::cost::is_paid;
-use vcode::line::{Line, push_lines};
-use vcode::place::Operand;
+use vcode::line::push_lines;
+use vcode::{Block, Line, Operand};
 
 /// Whether the function has all these registers.
 fn are_low(registers: u32, plan: &[Known]) -> bool

@@ -1,6 +1,6 @@
 //! Why bytes of memory can't be loaded, stored or put out.
 use crate::trace::source::Story;
-use il_ast::value::Value;
+use il_ast::Value;
 use text_maker::say;
 
 /// Says why so many bytes at an address are none that can be accessed. Answers whether they are none.

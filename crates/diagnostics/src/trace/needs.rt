@@ -1,15 +1,13 @@
 //! Why a call finds too little stack.
 use crate::trace::source::{Source, Story, function_at, function_name};
 use crate::trace::turn::value_of;
-use il_ast::instruction::Inst;
 use il_ast::limits::STACK_ROOM;
-use il_ast::value::{Callee, Value};
+use il_ast::{Callee, Inst, Value};
 use il_interp::pieces::Running;
 use il_interp::trace::Place;
 use il_types::cost::capped_need;
 use std::alloc::{AllocError, Global};
-use text_maker::maker::TextMaker;
-use text_maker::say;
+use text_maker::{TextMaker, say};
 
 /// So many functions are told.
 const MOST_FUNCTIONS: usize = 20;

@@ -1,7 +1,6 @@
 //! Why an operation on two values has no value.
 use crate::trace::source::Story;
-use il_ast::operation::{BinaryOp, Condition};
-use il_ast::value::Value;
+use il_ast::{BinaryOp, Condition, Value};
 
 /// Says why an operation on these values has none.
 pub fn add_no_value(story: &mut Story<'_>, op: BinaryOp, left: Value, right: Value) {

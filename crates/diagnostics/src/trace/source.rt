@@ -1,14 +1,12 @@
 //! Lines and names of the texts that are run.
 use crate::name::{Named, name_in};
-use il_ast::function::Func;
-use il_ast::program::InText;
+use il_ast::{Func, InText};
 use il_interp::pieces::Running;
 use il_interp::trace::Place;
 use memchr::memchr;
-use obj_link::linking::linked::Linked;
+use obj_link::Linked;
 use std::str;
-use text_maker::maker::TextMaker;
-use text_maker::say;
+use text_maker::{TextMaker, say};
 
 /// Texts that are a program, with the paths of their files and with what these hold, in the same order.
 #[derive(Drop)]

@@ -5,11 +5,11 @@ use crate::trace::needs::{add_need_of_main, add_needs};
 use crate::trace::source::{Source, Story, add_turn};
 use crate::trace::turn::add_operands;
 use crate::trace::values::add_value;
-use il_ast::value::End;
+use il_ast::End;
 use il_interp::pieces::Running;
 use il_interp::trace::Place;
 use std::alloc::{AllocError, Global};
-use text_maker::maker::TextMaker;
+use text_maker::TextMaker;
 
 /// The lines that tell of a run that was watched and ended so: the last turns, as many as are remembered; where the last one was due, or the next one where the run
 /// goes on; what its operands hold; the cause, where it is undefined or runs out of stack; and the calls that it stands in. No line, where memory for them was refused.

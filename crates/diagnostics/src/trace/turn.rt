@@ -5,12 +5,7 @@ use crate::name;
 use crate::place::{Does, Step, StepList};
 use crate::trace::source::{Story, function_at};
 use crate::trace::values::add_value;
-use il_ast::block::Block;
-use il_ast::function::Func;
-use il_ast::label::Label;
-use il_ast::operand::Val;
-use il_ast::program::{InText, Target};
-use il_ast::value::Value;
+use il_ast::{Block, Func, InText, Label, Target, Val, Value};
 use il_interp::trace::Place;
 use std::alloc::{AllocError, Global};
 

@@ -1,9 +1,8 @@
 //! Values, as they are told.
 use crate::name::{Named, name_in};
 use crate::trace::source::{Source, Story, add_place, function_name};
-use il_ast::value::{Callee, Value};
-use text_maker::maker::TextMaker;
-use text_maker::say;
+use il_ast::{Callee, Value};
+use text_maker::{TextMaker, say};
 
 /// The least number that is told also as a negative one of 32 bits.
 const NEGATIVE_WORDS: u64 = 0x8000_0000;

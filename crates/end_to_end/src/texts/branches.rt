@@ -1,6 +1,5 @@
 //! Texts that branch by each condition on each pair of ten longs: at the edges of words and of longs, and with a low word of 0.
-use text_maker::maker::TextMaker;
-use text_maker::say;
+use text_maker::{TextMaker, say};
 
 const CONDITIONS: [&str; 10] = [
     "eq", "ne", "sle", "slt", "sge", "sgt", "ule", "ult", "uge", "ugt",

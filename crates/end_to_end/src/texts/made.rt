@@ -1,8 +1,7 @@
 //! Texts that are made by a rule: too long to be written down, or one beside a limit.
 use crate::texts::branches::push_branches;
 use std::alloc::{AllocError, Global};
-use text_maker::maker::TextMaker;
-use text_maker::say;
+use text_maker::{TextMaker, say};
 
 const MAIN: &str = "export function w $main() {\n@s\n";
 

@@ -1,8 +1,7 @@
 //! The body of a random function. All its temporaries are assigned and all bytes of its blocks written before anything else, divisors are odd and small, places
 //! lie inside their blocks, and loops are counted: so all of it has a meaning.
 use crate::texts::random_text::{Random, Signature, Value};
-use text_maker::maker::TextMaker;
-use text_maker::say;
+use text_maker::{TextMaker, say};
 
 const BOTH: [&str; 6] = ["add", "sub", "mul", "and", "or", "xor"];
 

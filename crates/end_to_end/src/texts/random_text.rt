@@ -2,8 +2,7 @@
 use crate::texts::random_body::push_body;
 use std::alloc::{AllocError, Global};
 use std::fmt;
-use text_maker::maker::TextMaker;
-use text_maker::say;
+use text_maker::{TextMaker, say};
 
 /// A sequence of numbers that looks random (xorshift).
 #[derive(Drop)]

@@ -3,8 +3,7 @@
 //! divisors are odd and small, places lie inside the datum, and loops are counted.
 use crate::texts::random_text::{Random, Signature, Value, push_head, random_signature};
 use std::alloc::{AllocError, Global};
-use text_maker::maker::TextMaker;
-use text_maker::say;
+use text_maker::{TextMaker, say};
 
 /// How many leaves there are, and how many functions that call them.
 const LEAVES: u64 = 12;

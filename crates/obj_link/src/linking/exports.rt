@@ -7,10 +7,8 @@ ghost use Rattle.obj_link.specs.Refusals.{RefusesExports};
 
 use crate::linking::error::LinkError;
 use crate::linking::names::GlobalName;
-use il_ast::name::Name;
-use il_ast::program::Target;
-use il_ast::value::Callee;
-use il_types::checked::Checked;
+use il_ast::{Callee, Name, Target};
+use il_types::Checked;
 use std::alloc::{AllocError, Global};
 use std::collections::HashMap;
 

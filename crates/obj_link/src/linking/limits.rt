@@ -6,12 +6,9 @@ ghost use Rattle.il_types.specs.Capped.{capped};
 ghost use Rattle.obj_link.specs.Shown.{shown};
 ghost use Rattle.obj_link.specs.Limits.{item_size, field_size, object_size, total_weight, total_size, within_limits};
 
-use il_ast::datum::{DataDef, Field, Item};
-use il_ast::function::Func;
 use il_ast::limits::{DATA_BYTES, FUNCTIONS, PROGRAM_WEIGHT, TEXTS};
-use il_ast::operation::Size;
-use il_ast::program::InText;
-use il_types::checked::Checked;
+use il_ast::{DataDef, Field, Func, InText, Item, Size};
+use il_types::Checked;
 use il_types::cost::weight;
 
 /// Whether a program passes no limit over all its texts.

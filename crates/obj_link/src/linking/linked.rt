@@ -3,11 +3,8 @@ ghost use Rattle.obj_link.specs.Linked.{program_with};
 ghost use Rattle.obj_link.specs.Program.{IsProgram};
 ghost use Rattle.std.proofs.Props.{props};
 
-use il_ast::datum::DataDef;
-use il_ast::function::Func;
-use il_ast::list::Seq;
-use il_ast::program::{InText, Target};
-use il_types::checked::Checked;
+use il_ast::{DataDef, Func, InText, Seq, Target};
+use il_types::Checked;
 
 /// Texts that are a program, with every global name's meaning. The functions and data stand in the
 /// texts.

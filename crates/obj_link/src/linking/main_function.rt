@@ -3,10 +3,7 @@ ghost use Rattle.std.specs.Prelude.{◌≡◌, map};
 ghost use Rattle.obj_link.specs.Shown.{shown};
 ghost use Rattle.obj_link.specs.Main.{takes_words, gives_word, is_main, main_in};
 
-use il_ast::function::{Func, Param};
-use il_ast::operation::Class;
-use il_ast::program::{InText, Target};
-use il_ast::value::Callee;
+use il_ast::{Callee, Class, Func, InText, Param, Target};
 
 /// The number of the function that the name `main` means, where it is of one of the two forms.
 pub fn main_in(functions: &[InText<&Func>], named: Option<Target>) -> Option<usize>

@@ -4,13 +4,8 @@ ghost use Rattle.std.specs.List.{flat_map};
 ghost use Rattle.obj_link.specs.Shown.{shown};
 ghost use Rattle.obj_link.specs.Names.{function_in, object_in, functions_of, objects_of, names_of_functions, names_of_objects};
 
-use il_ast::datum::DataDef;
-use il_ast::function::Func;
-use il_ast::program::{InText, Target};
-use il_ast::symbol::Symbol;
-use il_ast::text::Definition;
-use il_ast::value::Callee;
-use il_types::checked::Checked;
+use il_ast::{Callee, DataDef, Definition, Func, InText, Symbol, Target};
+use il_types::Checked;
 use std::alloc::{AllocError, Global};
 
 /// A definition of a global name: the text that it stands in, the name's number there, whether it is

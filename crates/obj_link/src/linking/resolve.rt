@@ -17,11 +17,8 @@ use crate::linking::main_function::main_in;
 use crate::linking::names::{GlobalName, functions, global_names, objects};
 use crate::linking::tables::owned;
 use crate::linking::targets::targets;
-use il_ast::datum::DataDef;
-use il_ast::function::Func;
-use il_ast::list::Seq;
-use il_ast::program::{InText, Target};
-use il_types::checked::Checked;
+use il_ast::{DataDef, Func, InText, Seq, Target};
+use il_types::Checked;
 use std::alloc::Global;
 
 /// Links texts: gives each global name of each text its meaning.

@@ -5,7 +5,7 @@ ghost use Rattle.obj_link.specs.Names.{own};
 ghost use Rattle.obj_link.specs.Tables.{held};
 
 use crate::linking::names::GlobalName;
-use il_ast::program::Target;
+use il_ast::Target;
 use std::alloc::{AllocError, Global};
 use std::collections::HashMap;
 

@@ -5,10 +5,8 @@ ghost use Rattle.obj_link.specs.Tables.{meaning_in};
 ghost use Rattle.obj_link.specs.Refusals.{RefusesSymbols, RefusesNames};
 
 use crate::linking::error::LinkError;
-use il_ast::list::Seq;
-use il_ast::name::Name;
-use il_ast::program::Target;
-use il_types::checked::Checked;
+use il_ast::{Name, Seq, Target};
+use il_types::Checked;
 use std::alloc::{AllocError, Global};
 use std::collections::HashMap;
 

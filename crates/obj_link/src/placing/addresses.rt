@@ -10,11 +10,8 @@ ghost use Rattle.obj_link.specs.ImageOf.{object_addresses, callee_address};
 
 use crate::linking::limits::object_size;
 use crate::placing::image::CODE_START;
-use il_ast::datum::DataDef;
-use il_ast::list::Seq;
-use il_ast::program::{InText, Target};
-use il_ast::value::Callee;
-use rv_isa::code::MachineCode;
+use il_ast::{Callee, DataDef, InText, Seq, Target};
+use rv_isa::MachineCode;
 use std::alloc::{AllocError, Global};
 
 /// Where each function and each datum of a program stands.

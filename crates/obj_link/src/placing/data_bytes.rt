@@ -10,10 +10,7 @@ ghost use Rattle.il_ast.specs.Cost.{round_16};
 ghost use Rattle.obj_link.specs.DataBytes.{address_bytes, item_bytes, field_bytes, slot_bytes};
 
 use crate::placing::addresses::{Addresses, callee_address, meaning, object_address};
-use il_ast::datum::{DataDef, Field, Item};
-use il_ast::list::Seq;
-use il_ast::operation::Size;
-use il_ast::program::{InText, Target};
+use il_ast::{DataDef, Field, InText, Item, Seq, Size, Target};
 use std::alloc::AllocError;
 
 #[tactic(auto, using(crate::proofs::DataLemmas::zeros_more))]

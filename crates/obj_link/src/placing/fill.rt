@@ -6,10 +6,8 @@ ghost use Rattle.obj_link.specs.Shown.{shown};
 ghost use Rattle.obj_link.specs.Placed.{functions_end, name_address, functions_words};
 
 use crate::placing::addresses::{Addresses, meaning, target_address};
-use il_ast::function::Func;
-use il_ast::list::Seq;
-use il_ast::program::{InText, Target};
-use rv_isa::code::{Hole, MachineCode};
+use il_ast::{Func, InText, Seq, Target};
+use rv_isa::{Hole, MachineCode};
 use std::alloc::{AllocError, Global};
 
 /// Fills an address into the hole of words that stand from `at` on.

@@ -7,10 +7,8 @@ ghost use Rattle.rv_isa.specs.Formats.{i_type, u_type};
 ghost use Rattle.obj_link.specs.Natives.{start_words, write_words, exit_words, load_double, jump_to};
 
 use bits::split;
-use rv_isa::abi;
 use rv_isa::encode::encode;
-use rv_isa::instruction::{ImmOp, Instr, LoadOp};
-use rv_isa::ranges::{Immediate, Register, UpperField};
+use rv_isa::{ImmOp, Immediate, Instr, LoadOp, Register, UpperField, abi};
 use std::alloc::AllocError;
 
 const ZERO: Register = Register { number: abi::ZERO };

@@ -17,9 +17,8 @@ use crate::placing::fill::push_functions;
 use crate::placing::image::{CODE_START, Image, PAGE};
 use crate::placing::natives::{push_natives, push_start};
 use crate::placing::reach::functions_reach;
-use il_ast::list::Seq;
-use il_ast::value::Callee;
-use rv_isa::code::MachineCode;
+use il_ast::{Callee, Seq};
+use rv_isa::MachineCode;
 use std::alloc::{AllocError, Global};
 
 const START: u32 = CODE_START as u32;

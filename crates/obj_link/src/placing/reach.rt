@@ -7,11 +7,8 @@ ghost use Rattle.obj_link.specs.Shown.{shown};
 ghost use Rattle.obj_link.specs.Placed.{functions_end, name_address, functions_reach};
 
 use crate::placing::addresses::{Addresses, meaning, target_address};
-use il_ast::function::Func;
-use il_ast::list::Seq;
-use il_ast::program::{InText, Target};
-use rv_isa::code::{Hole, MachineCode};
-use rv_isa::relocation::Filling;
+use il_ast::{Func, InText, Seq, Target};
+use rv_isa::{Filling, Hole, MachineCode};
 
 /// How far `jal` reaches either way, in bytes, by the J-type format.
 const REACH: u64 = 1 << 20;

@@ -6,9 +6,8 @@ ghost use Rattle.propagation.specs.Claimed.{claims_at, AreKnown, LeadsWell};
 
 use crate::constants::fact::Fact;
 use crate::constants::table::FactTable;
-use il_ast::list::Seq;
-use vcode::line::Jump;
-use vcode::place::Operand;
+use il_ast::Seq;
+use vcode::{Jump, Operand};
 
 /// The register holds what the operand does.
 #[derive(Clone, Copy)]

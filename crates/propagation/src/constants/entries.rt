@@ -2,11 +2,9 @@
 use crate::constants::claim::{Claim, Entry};
 use crate::constants::replace::is_short;
 use crate::constants::walk::Walk;
-use il_ast::list::Seq;
+use il_ast::Seq;
 use std::alloc::{AllocError, Global};
-use vcode::code::Block;
-use vcode::function::VFunc;
-use vcode::line::{Jump, Line};
+use vcode::{Block, Jump, Line, VFunc};
 
 /// How often the guess goes over a function at most.
 const ROUNDS: usize = 8;

@@ -1,6 +1,5 @@
 //! What is known of a register.
-use vcode::line::Comparison;
-use vcode::place::Operand;
+use vcode::{Comparison, Operand};
 
 /// What a register holds.
 #[derive(Clone, Copy)]

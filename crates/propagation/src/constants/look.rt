@@ -2,11 +2,9 @@
 use crate::constants::claim::{Claim, Entry, claims_at};
 use crate::constants::replace::{is_add, is_short};
 use crate::constants::strength_reduction::exponent;
-use cfg_live::low_registers::LowRegisters;
-use rv_isa::instruction::{RegOp, RegWOp};
-use vcode::code::Block;
-use vcode::line::{Comparison, Jump, Line, Operation};
-use vcode::place::Operand;
+use cfg_live::LowRegisters;
+use rv_isa::{RegOp, RegWOp};
+use vcode::{Block, Comparison, Jump, Line, Operand, Operation};
 
 /// How much is put by what is known.
 #[derive(Clone, Copy)]

@@ -17,12 +17,10 @@ use crate::constants::look::{Extent, block_may_change, first_change};
 use crate::constants::replace::{is_add, jump, line as forwarded};
 use crate::constants::table::FactTable;
 use cfg_live::uses::line_writes;
-use il_ast::list::Seq;
+use il_ast::Seq;
 use std::alloc::{AllocError, Global};
-use vcode::code::Block;
-use vcode::function::VFunc;
-use vcode::line::{Comparison, Jump, Line, Operation, push_lines};
-use vcode::place::{Destination, Operand};
+use vcode::line::push_lines;
+use vcode::{Block, Comparison, Destination, Jump, Line, Operand, Operation, VFunc};
 
 fn changes_memory(line: &Line<u32>) -> bool
     ensures { result ≡ changes_memory line.now }

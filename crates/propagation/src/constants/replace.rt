@@ -15,13 +15,12 @@ use crate::constants::fact::Fact;
 use crate::constants::strength_reduction::shortened;
 use crate::constants::table::FactTable;
 use il_ast::condition::numbers_hold;
-use il_ast::operation::{Class, Condition};
-use rv_isa::instruction::RegOp;
+use il_ast::{Class, Condition};
+use rv_isa::RegOp;
 use std::alloc::{AllocError, Global};
 use vcode::cost::{affords, is_immediate};
-use vcode::line::{Comparison, Jump, Line, Operation};
-use vcode::place::{Address, Operand};
-use vcode::replace::{Replace, address as with_base, comparison, line as put_operands, returned};
+use vcode::replace::{address as with_base, comparison, line as put_operands, returned};
+use vcode::{Address, Comparison, Jump, Line, Operand, Operation, Replace};
 
 pub(crate) fn is_short(operand: &Operand<u32>) -> bool
     ensures { result ≡ is_short operand.now }

@@ -6,10 +6,9 @@ ghost use Rattle.propagation.specs.Shortened.{result_of, with_result, computed, 
 
 use il_ast::condition::numbers_hold;
 use rv_isa::arithmetic::{reg_value, regw_value};
-use rv_isa::instruction::{RegOp, RegWOp};
+use rv_isa::{RegOp, RegWOp};
 use vcode::cost::line_cost;
-use vcode::line::{Line, Operation};
-use vcode::place::Operand;
+use vcode::{Line, Operand, Operation};
 
 /// What an operation gives of two numbers.
 fn result_of(operation: Operation, left: u64, right: u64) -> u64

@@ -6,7 +6,7 @@ ghost use Rattle.propagation.specs.FactTable.{cell, is_fresh, stands, counted, f
 
 use crate::constants::fact::{DatedFact, Fact};
 use std::alloc::{AllocError, Global};
-use vcode::place::Operand;
+use vcode::Operand;
 
 /// Facts of registers, each with the time since when it is known. A fact counts as long as no register that it names was written since, nor memory, if it
 /// asks that; so writing a register takes one step, however many facts name it. Block b begins at time b * 2^64, and each line takes 1.

@@ -4,10 +4,7 @@ use crate::constants::replace::is_short;
 use cfg_live::uses::line_writes;
 use std::alloc::{AllocError, Global};
 use std::mem;
-use vcode::code::Block;
-use vcode::function::VFunc;
-use vcode::line::{Jump, Line};
-use vcode::place::Operand;
+use vcode::{Block, Jump, Line, Operand, VFunc};
 
 /// How many claims a block has at most.
 const CLAIMS: usize = 128;

@@ -4,8 +4,7 @@ ghost use Rattle.propagation.specs.Copied.{copy_of, survives, made_by, with_copy
 
 use cfg_live::uses::line_writes;
 use std::alloc::{AllocError, Global};
-use vcode::line::Line;
-use vcode::place::Operand;
+use vcode::{Line, Operand};
 
 /// A register that holds the same as another, its source.
 #[derive(Clone, Copy)]

@@ -6,12 +6,10 @@ ghost use Rattle.propagation.specs.Copied.{reading_lines, known_behind, reading_
 
 use crate::copies::known::KnownCopies;
 use crate::copies::sources::read_sources;
-use il_ast::list::Seq;
+use il_ast::Seq;
 use std::alloc::{AllocError, Global};
-use vcode::code::Block;
-use vcode::function::VFunc;
-use vcode::line::Line;
 use vcode::replace::{jump, line};
+use vcode::{Block, Line, VFunc};
 
 fn lines(
     alloc: Global,

@@ -2,8 +2,7 @@
 ghost use Rattle.propagation.specs.Copied.{read_by};
 
 use crate::copies::known::KnownCopies;
-use vcode::place::Operand;
-use vcode::replace::Replace;
+use vcode::{Operand, Replace};
 
 impl Replace for KnownCopies {
     ghost replacing = { λ k. read_by k.copies.items };

@@ -1,8 +1,6 @@
 //! Whether copies are read behind them: a look at the lines, before they are made anew.
-use cfg_live::low_registers::LowRegisters;
-use vcode::code::Block;
-use vcode::line::{Jump, Line};
-use vcode::place::Operand;
+use cfg_live::LowRegisters;
+use vcode::{Block, Jump, Line, Operand};
 
 /// The registers that were copied so far in a block, by their numbers modulo 128.
 #[derive(Clone, Copy)]

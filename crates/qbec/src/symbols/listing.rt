@@ -18,10 +18,10 @@ use crate::error::{CompileError, link_refusal};
 use crate::symbols::symbol::{Kind, Symbol};
 use crate::symbols::table::symbols;
 use crate::texts::checked_texts;
-use certificates::strategy::Strategy;
-use obj_link::linking::linked::Linked;
+use certificates::Strategy;
+use obj_link::Linked;
 use obj_link::linking::resolve::resolve;
-use rv_isa::code::MachineCode;
+use rv_isa::MachineCode;
 use shell::digits::sixteen_digits;
 use std::alloc::{AllocError, Global};
 

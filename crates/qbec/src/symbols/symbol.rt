@@ -3,7 +3,7 @@ ghost use Rattle.std.specs.Prelude.{◌≡◌};
 ghost use Rattle.obj_link.specs.Names.{symbol_name};
 
 use il_ast::symbol::Symbol as SymbolNumber;
-use il_types::checked::Checked;
+use il_types::Checked;
 
 /// What a name stands for.
 #[derive(Clone, Copy, PartialEq, Eq)]

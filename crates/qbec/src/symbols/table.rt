@@ -12,14 +12,11 @@ ghost use Rattle.qbec.specs.Codes.{AreWords};
 ghost use Rattle.qbec.specs.Symbols.{entry, function_entries, object_entries, symbols_of};
 
 use crate::symbols::symbol::{Kind, Symbol, name_in};
-use il_ast::datum::DataDef;
-use il_ast::function::Func;
-use il_ast::program::InText;
-use il_types::checked::Checked;
+use il_ast::{DataDef, Func, InText};
+use il_types::Checked;
 use obj_link::linking::limits::object_size;
-use obj_link::linking::linked::Linked;
-use obj_link::{CODE_START, PAGE};
-use rv_isa::code::MachineCode;
+use obj_link::{CODE_START, Linked, PAGE};
+use rv_isa::MachineCode;
 use std::alloc::{AllocError, Global};
 
 /// Where the first function stands, behind the start code, `write` and `exit`.

@@ -4,9 +4,7 @@ use crate::intervals::text::{Stretch, Text};
 use crate::places::candidates::Ground;
 use crate::places::rooms::scratch_room;
 use std::alloc::{AllocError, Global};
-use vcode::code::Block;
-use vcode::line::{Jump, Line};
-use vcode::place::Location;
+use vcode::{Block, Jump, Line, Location};
 
 /// The back end makes no more lines and jumps twice, so no more blocks are looked at.
 const MOST_BLOCKS: usize = 80;

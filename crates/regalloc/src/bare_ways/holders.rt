@@ -8,8 +8,7 @@ use crate::places::rooms::{Rooms, free_scratch, hinted, scratch_room};
 use crate::splitting::splits::Begin;
 use cfg_live::uses::line_writes;
 use std::alloc::{AllocError, Global};
-use vcode::code::Block;
-use vcode::place::Location;
+use vcode::{Block, Location};
 
 /// More ranges of a register aren't looked at.
 const MOST_RANGES: usize = 64;

@@ -5,11 +5,11 @@ use crate::places::candidates::Ground;
 use crate::splitting::credit::{Credit, credit_of};
 use crate::splitting::splits::{Begin, Entry, Move, Splits, Stay, Way};
 use crate::splitting::splitter::Splitter;
-use cfg_live::reads::{Reads, jump_reads, line_reads};
+use cfg_live::Reads;
+use cfg_live::reads::{jump_reads, line_reads};
 use cfg_live::uses::line_writes;
 use std::alloc::{AllocError, Global};
-use vcode::line::Line;
-use vcode::place::Location;
+use vcode::{Line, Location};
 
 /// What is looked at.
 #[derive(Clone, Copy)]

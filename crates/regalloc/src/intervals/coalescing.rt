@@ -3,7 +3,7 @@ use crate::intervals::demands::{Copying, Demands};
 use crate::intervals::live_intervals::{LiveInterval, ranges_of};
 use crate::intervals::positions::Range;
 use crate::lists::set;
-use il_ast::few::Few;
+use il_ast::Few;
 use std::alloc::{AllocError, Global};
 use std::mem;
 

@@ -6,9 +6,7 @@ use crate::intervals::positions::Range;
 use crate::intervals::text::Text;
 use cfg_live::reads::register_of;
 use std::alloc::{AllocError, Global};
-use vcode::code::{Block, Code};
-use vcode::line::{Jump, Line};
-use vcode::place::{Argument, Destination, Operand};
+use vcode::{Argument, Block, Code, Destination, Jump, Line, Operand};
 
 /// What a register is used for.
 #[derive(Clone, Copy)]

@@ -4,9 +4,9 @@ use crate::intervals::demands::{Demands, demands_of};
 use crate::intervals::live_intervals::{LiveInterval, live_intervals};
 use crate::intervals::starts::{Known, Starts, line_count, starts_of};
 use crate::intervals::text::{Text, text_of};
-use cfg_live::sets::Live;
+use cfg_live::Live;
 use std::alloc::{AllocError, Global};
-use vcode::function::VFunc;
+use vcode::VFunc;
 
 /// What is known of a function.
 #[derive(Drop)]

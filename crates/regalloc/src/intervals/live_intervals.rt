@@ -2,12 +2,12 @@
 use crate::intervals::positions::{Range, right_after, right_before};
 use crate::intervals::starts::Starts;
 use crate::intervals::text::{Stretch, Text};
-use cfg_live::reads::{Reads, jump_reads, line_reads, register_of};
+use cfg_live::Reads;
+use cfg_live::reads::{jump_reads, line_reads, register_of};
 use cfg_live::uses::line_writes;
 use smallvec::SmallVec;
 use std::alloc::{AllocError, Global};
-use vcode::code::Code;
-use vcode::line::Line;
+use vcode::{Code, Line};
 
 /// The ranges in which a register is live, or was just written, in the order of the text, and apart; one range of all positions where it is taken to have a value
 /// throughout.

@@ -2,9 +2,9 @@
 use crate::intervals::accesses::{Accesses, Kind};
 use crate::intervals::text::Text;
 use crate::lists::{Rows, set};
-use cfg_live::sets::Live;
+use cfg_live::Live;
 use std::alloc::{AllocError, Global};
-use vcode::code::Block;
+use vcode::Block;
 
 /// The registers that are live where blocks begin. A register that is live at the starts of too many blocks is named for none of them: it is taken to have a
 /// value throughout.

@@ -1,11 +1,10 @@
 //! The blocks of a function: where they stand in its text, how often they run, and which lead to which.
-use cfg_live::sets::Live;
+use cfg_live::Live;
 use flow::depths::{frequency, loop_depths};
 use flow::graph::{predecessors, successor};
-use il_ast::few::Few;
+use il_ast::Few;
 use std::alloc::{AllocError, Global};
-use vcode::code::Block;
-use vcode::line::Line;
+use vcode::{Block, Line};
 
 /// A block in the text.
 #[derive(Clone, Copy)]

@@ -3,7 +3,7 @@ use crate::intervals::accesses::Access;
 use crate::intervals::text::Text;
 use crate::lists::{part, set};
 use crate::parts::nodes::{Node, Nodes};
-use cfg_live::sets::Live;
+use cfg_live::Live;
 use std::alloc::{AllocError, Global};
 
 /// Which parts go together.

@@ -4,10 +4,9 @@ use crate::intervals::demands::{Demand, Demands, is_over_call};
 use crate::intervals::facts::Facts;
 use crate::intervals::positions::Range;
 use crate::places::slots::Wish;
-use cfg_live::sets::Live;
+use cfg_live::Live;
 use std::alloc::{AllocError, Global};
-use vcode::function::VFunc;
-use vcode::place::Location;
+use vcode::{Location, VFunc};
 
 /// What registers of the machine are given by.
 #[derive(Clone, Copy)]

@@ -3,7 +3,7 @@ use crate::intervals::positions::Range;
 use crate::parts::balance::Balance;
 use crate::places::candidates::Candidate;
 use std::alloc::{AllocError, Global};
-use vcode::place::Location;
+use vcode::Location;
 
 /// How many registers of the machine there are: the first eight are those of arguments, the last argument's first.
 pub(crate) const ROOMS: usize = 23;

@@ -2,10 +2,8 @@
 use crate::intervals::text::{Stretch, Text};
 use crate::lists::set;
 use std::alloc::{AllocError, Global};
-use vcode::code::Block;
 use vcode::cost::is_immediate;
-use vcode::line::{Jump, Line, Operation};
-use vcode::place::Operand;
+use vcode::{Block, Jump, Line, Operand, Operation};
 
 /// What a move costs wherever its places are.
 const MOVE: u64 = 6;

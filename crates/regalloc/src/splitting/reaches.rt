@@ -9,7 +9,7 @@ use crate::parts::regions::{Member, Reach, View, leaders, members};
 use crate::parts::savings::balance_of;
 use crate::places::candidates::Ground;
 use crate::places::rooms::{Rooms, room_for_part};
-use cfg_live::sets::Live;
+use cfg_live::Live;
 use std::alloc::{AllocError, Global};
 
 /// A register that is split, and what is known of it.

@@ -10,7 +10,7 @@ use crate::splitting::reaches::{Subject, give_all, subject_of, view};
 use crate::splitting::splits::Splits;
 use crate::splitting::worth::split_costs_over_kept;
 use std::alloc::{AllocError, Global};
-use vcode::place::Location;
+use vcode::Location;
 
 /// What splitting has come to.
 #[derive(Drop)]

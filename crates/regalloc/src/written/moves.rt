@@ -7,10 +7,10 @@ ghost use Rattle.regalloc.specs.Scanned.{are_between};
 use crate::lists::part;
 use crate::splitting::splits::{Move, Way, moves_end};
 use crate::written::points::{own_place, room_place};
-use certificates::certificate::Transfer;
-use il_ast::list::Seq;
+use certificates::Transfer;
+use il_ast::Seq;
 use std::alloc::{AllocError, Global};
-use vcode::place::Location;
+use vcode::Location;
 
 /// Adds the move between the slot and the register of the machine, that way.
 fn push_transfer(

@@ -5,9 +5,9 @@ ghost use Rattle.vcode.specs.Named.{is_place};
 
 use crate::splitting::splits::Entry;
 use crate::written::points::{own_place, room_place};
-use il_ast::list::Seq;
+use il_ast::Seq;
 use std::alloc::{AllocError, Global};
-use vcode::place::{Destination, Location};
+use vcode::{Destination, Location};
 
 /// The place that the parameter comes in: the register of the machine of its entry, or else its own place.
 fn param_place(

@@ -7,14 +7,13 @@ ghost use Rattle.regalloc.specs.Scanned.{are_placed};
 use crate::linear_scan::machine_register;
 use crate::lists::part;
 use crate::splitting::splits::{Stay, stays_end};
-use certificates::certificate::Equality;
-use cfg_live::reads::{Reads, jump_reads, line_reads, register_of};
+use certificates::Equality;
+use cfg_live::Reads;
+use cfg_live::reads::{jump_reads, line_reads, register_of};
 use cfg_live::uses::line_writes;
-use il_ast::list::Seq;
+use il_ast::Seq;
 use std::alloc::{AllocError, Global};
-use vcode::code::Block;
-use vcode::line::Line;
-use vcode::place::{Argument, Location};
+use vcode::{Argument, Block, Line, Location};
 
 /// The register of the machine with that number, if there is one.
 pub(crate) fn room_place(registers: u32, room: usize) -> Option<Location>

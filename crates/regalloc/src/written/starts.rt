@@ -7,10 +7,10 @@ ghost use Rattle.regalloc.specs.Scanned.{are_placed};
 use crate::intervals::starts::Starts;
 use crate::splitting::splits::{Begin, begin_at, begins_from};
 use crate::written::points::{own_place, push_at, room_place};
-use certificates::certificate::Equality;
-use il_ast::list::Seq;
+use certificates::Equality;
+use il_ast::Seq;
 use std::alloc::{AllocError, Global};
-use vcode::place::Location;
+use vcode::Location;
 
 /// Adds where a live register is.
 fn push_live(

@@ -2,11 +2,10 @@
 use crate::choice::webs::{Begin, Webs};
 use crate::plan::{Plan, Renamed};
 use cfg_live::uses::line_writes;
-use il_ast::list::Seq;
+use il_ast::Seq;
 use std::alloc::{AllocError, Global};
 use std::mem;
-use vcode::code::Block;
-use vcode::function::VFunc;
+use vcode::{Block, VFunc};
 
 /// The names that were given so far.
 #[derive(Drop)]

@@ -2,12 +2,9 @@
 use crate::choice::forest::Forest;
 use cfg_live::uses::line_writes;
 use flow::graph::{predecessors, predecessors_of, successor};
-use il_ast::few::Few;
+use il_ast::Few;
 use std::alloc::{AllocError, Global};
-use vcode::code::Block;
-use vcode::function::VFunc;
-use vcode::line::{Jump, Line};
-use vcode::place::{Argument, Destination, Operand};
+use vcode::{Argument, Block, Destination, Jump, Line, Operand, VFunc};
 
 /// What a register holds where a block begins, which somebody reads.
 #[derive(Clone, Copy)]

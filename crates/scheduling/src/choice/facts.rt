@@ -4,9 +4,7 @@ use crate::choice::latencies::times_of;
 use crate::choice::reads::{jump_reads, line_reads};
 use crate::independent::{is_independent, written};
 use std::alloc::{AllocError, Global};
-use vcode::code::Block;
-use vcode::line::Line;
-use vcode::place::Location;
+use vcode::{Block, Line, Location};
 
 /// A line that isn't a tick, beside those in front of it, of which bit i stands for the one i + 1 lines before it.
 #[derive(Clone, Copy)]

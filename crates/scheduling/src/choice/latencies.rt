@@ -1,10 +1,9 @@
 //! What lines take, in cycles of a processor with one pipeline that begins an instruction each cycle, in their order, and waits where one reads what isn't there yet.
 //!
 //! The numbers are those of SiFive's U54 (U54 Core Complex Manual, "Execution Pipeline"): the results of most instructions are there for the next one.
-use rv_isa::instruction::{LoadOp, RegOp, RegWOp};
+use rv_isa::{LoadOp, RegOp, RegWOp};
 use vcode::cost::is_immediate;
-use vcode::line::{Line, Operation};
-use vcode::place::{Location, Operand};
+use vcode::{Line, Location, Operand, Operation};
 
 /// From an instruction to one that reads its result, for most.
 const NEXT: u32 = 1;

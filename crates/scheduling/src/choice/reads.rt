@@ -1,6 +1,5 @@
 //! Which places lines and jumps read.
-use vcode::line::{Jump, Line};
-use vcode::place::{Location, Operand};
+use vcode::{Jump, Line, Location, Operand};
 
 fn is_same(place: Location, other: Location) -> bool {
     match (place, other) {

@@ -4,8 +4,7 @@ use crate::code_text::read::read;
 use crate::code_text::rules::check::is_function;
 use crate::code_text::write::written;
 use std::alloc::{AllocError, Global};
-use vcode::code::Code;
-use vcode::function::{LFunc, VFunc};
+use vcode::{Code, LFunc, VFunc};
 
 /// Whether two texts have the same lines, but for the spacing around each.
 pub fn is_same(text: &str, other: &str) -> bool {

@@ -1,9 +1,9 @@
 //! Operations by name.
-use il_ast::operation::{Class, Condition, Size};
-use rv_isa::instruction::{LoadOp, RegOp, RegWOp};
+use il_ast::{Class, Condition, Size};
 use rv_isa::text::{load_name, reg_name, regw_name};
+use rv_isa::{LoadOp, RegOp, RegWOp};
 use std::fmt;
-use vcode::line::Operation;
+use vcode::Operation;
 
 fn register_op(word: &str) -> Option<RegOp> {
     let ops = [

@@ -2,7 +2,7 @@
 use crate::code_text::rules::place::CodePlace;
 use crate::code_text::words::number_behind;
 use std::fmt;
-use vcode::place::Location;
+use vcode::Location;
 
 /// A place, or another operand, as a word.
 #[derive(Clone, Copy)]

@@ -2,13 +2,13 @@
 use crate::code_text::names::{class_of, comparison_of, load_op, operation_of, store_size};
 use crate::code_text::place::Place;
 use crate::code_text::words::{Words, number_behind, signed};
-use il_ast::list::Seq;
-use il_ast::symbol::Symbol;
+use il_ast::{Seq, Symbol};
 use std::alloc::Global;
 use std::mem;
-use vcode::code::{Block, Code};
-use vcode::line::{Comparison, Jump, Line};
-use vcode::place::{Address, Argument, Destination, Extension, Operand, ReturnValue};
+use vcode::{
+    Address, Argument, Block, Code, Comparison, Destination, Extension, Jump, Line, Operand,
+    ReturnValue,
+};
 
 fn operand<P: Place>(word: &str) -> Option<Operand<P>> {
     if let Some(place) = P::read(word) {

@@ -3,11 +3,8 @@ use crate::code_text::names::{Named, class_name, store_name};
 use crate::code_text::place::{Place, Word};
 use rv_isa::text::load_name;
 use std::alloc::{AllocError, Global};
-use text_maker::maker::TextMaker;
-use text_maker::say;
-use vcode::code::{Block, Code};
-use vcode::line::{Jump, Line, Operation};
-use vcode::place::{Argument, Extension, Operand};
+use text_maker::{TextMaker, say};
+use vcode::{Argument, Block, Code, Extension, Jump, Line, Operand, Operation};
 
 fn operand<P: Place>(value: &Operand<P>) -> Word {
     match value {

@@ -3,8 +3,7 @@ use crate::tails::choice::is_marked;
 use flow::depths::depths;
 use flow::graph::{reachable, successor};
 use std::alloc::{AllocError, Global};
-use vcode::code::Block;
-use vcode::line::Jump;
+use vcode::{Block, Jump};
 
 /// Blocks in more loops than that are as those in so many.
 const DEEPEST: u32 = 5;

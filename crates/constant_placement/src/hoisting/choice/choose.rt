@@ -7,10 +7,9 @@ use crate::hoisting::choice::uses::{Key, Use, may_save, uses_of};
 use crate::hoisting::plan::Plan;
 use flow::depths::loop_depths;
 use flow::graph::{predecessors, successor};
-use il_ast::few::Few;
+use il_ast::Few;
 use std::alloc::{AllocError, Global};
-use vcode::code::Block;
-use vcode::function::VFunc;
+use vcode::{Block, VFunc};
 
 /// More of them would leave too few registers of the machine for what changes in a long function.
 const MOST: usize = 6;

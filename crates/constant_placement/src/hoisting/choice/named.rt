@@ -1,10 +1,10 @@
 //! How often a function names its registers.
-use cfg_live::reads::{Reads, jump_reads, line_reads, register_of};
+use cfg_live::Reads;
+use cfg_live::reads::{jump_reads, line_reads, register_of};
 use cfg_live::uses::line_writes;
 use flow::depths::frequency;
 use std::alloc::{AllocError, Global};
-use vcode::code::Block;
-use vcode::function::VFunc;
+use vcode::{Block, VFunc};
 
 /// The names of registers that were counted so far.
 #[derive(Drop)]

@@ -1,12 +1,10 @@
 //! Which registers live over the calls of loops.
 use crate::hoisting::choice::regions::Regions;
 use crate::points::{behind_block, behind_line};
+use cfg_live::Live;
 use cfg_live::live::live;
-use cfg_live::sets::Live;
 use std::alloc::{AllocError, Global};
-use vcode::code::Block;
-use vcode::function::VFunc;
-use vcode::line::Line;
+use vcode::{Block, Line, VFunc};
 
 /// How many registers of the machine a callee keeps.
 const KEPT: usize = 12;

@@ -1,9 +1,8 @@
 //! Loops that hang together.
 use flow::graph::{predecessors_of, successor};
-use il_ast::few::Few;
+use il_ast::Few;
 use std::alloc::{AllocError, Global};
-use vcode::code::Block;
-use vcode::line::Line;
+use vcode::{Block, Line};
 
 /// What is known of a region: all blocks of loops that lead to one another, in whatever order.
 #[derive(Clone, Copy)]

@@ -1,10 +1,9 @@
 //! How many instructions it saves to read a constant from a register.
-use il_ast::operation::Class;
+use il_ast::Class;
 use operation_code::constant::{constant_length, word};
 use operation_code::immediate::{number_form, swapped};
-use rv_isa::instruction::{RegOp, RegWOp};
-use vcode::line::{Comparison, Operation};
-use vcode::place::Operand;
+use rv_isa::{RegOp, RegWOp};
+use vcode::{Comparison, Operand, Operation};
 
 /// The instructions that have a number in a register; x0 has 0.
 fn number_cost(number: u64) -> i64 {

@@ -3,11 +3,9 @@ use crate::hoisting::choice::regions::Regions;
 use crate::hoisting::choice::saving::{where_branching, where_copied, where_operating, where_read};
 use crate::hoisting::plan::Constant;
 use flow::depths::frequency;
-use il_ast::symbol::Symbol;
+use il_ast::Symbol;
 use std::alloc::{AllocError, Global};
-use vcode::code::Block;
-use vcode::line::{Jump, Line};
-use vcode::place::{Argument, Operand};
+use vcode::{Argument, Block, Jump, Line, Operand};
 
 /// A constant, by what orders it.
 #[derive(Clone, Copy, PartialEq, Eq, PartialOrd, Ord)]

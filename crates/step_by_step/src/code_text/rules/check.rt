@@ -9,11 +9,9 @@ ghost use Rattle.step_by_step.specs.Function.{IsFunction, measured};
 
 use crate::code_text::rules::place::CodePlace;
 use il_ast::limits::{ALLOC_BYTES, ARGUMENTS, FUNCTION_WEIGHT};
-use vcode::code::{Block, Code};
 use vcode::cost::is_paid;
 use vcode::limits::PLACES;
-use vcode::line::{Jump, Line};
-use vcode::place::{Argument, Destination, Operand};
+use vcode::{Argument, Block, Code, Destination, Jump, Line, Operand};
 
 // ---- the places that it names
 

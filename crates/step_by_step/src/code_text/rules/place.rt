@@ -2,7 +2,7 @@
 ghost use Rattle.std.specs.Prelude.{◌≡◌, ◌<◌};
 
 use rv_isa::abi;
-use vcode::place::Location;
+use vcode::Location;
 
 /// A place that a code names.
 pub trait CodePlace: Copy + Drop {
