@@ -156,22 +156,6 @@ moves_then g s a most to e m =
       registers = m.registers;
     }
 
-moves_more : (g : Ground) (s : State) (m n to : ℕ) → m ≤ n → Moves g m to s → Moves g n to s
-moves_more g s m n to h mv =
-    let le = mv.at_most in
-    record {
-      count = mv.count;
-      after = mv.after;
-      comes = mv.comes;
-      at_least_one = mv.at_least_one;
-      at_most = omega arith;
-      place = mv.place;
-      fixed = mv.fixed;
-      output = mv.output;
-      bytes = mv.bytes;
-      registers = mv.registers;
-    }
-
 -- ---- a far jump
 
 pub put_fits : (registers : ℕ → ℕ) (r v n : ℕ) → v < 2 ^ 64 → ((m : ℕ) → registers m < 2 ^ 64) → updated registers r v n < 2 ^ 64

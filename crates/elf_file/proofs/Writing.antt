@@ -74,12 +74,6 @@ start_bytes count = e_ident ++ fields_bytes (file_header_fields (header_for coun
 abbrev program_header_bytes : ProgramHeader → List ℕ
 program_header_bytes h = fields_bytes (program_header_fields h)
 
-length-program_header_bytes : (h : ProgramHeader) → length (program_header_bytes h) ≡ 56
-length-program_header_bytes h = refl
-
-length-start_bytes : (count : ℕ) → length (start_bytes count) ≡ 64
-length-start_bytes count = refl
-
 length-program_headers : (hs : List ProgramHeader) → length (flat_map program_header_bytes hs) ≡ 56 * length hs
 length-program_headers [] = refl
 length-program_headers (h ∷ hs) =

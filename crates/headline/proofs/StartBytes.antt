@@ -4,7 +4,7 @@ use Rattle.std.specs.Prelude.{Some}
 use Rattle.std.specs.Int.{w64, to_le_bytes}
 use Rattle.il_ast.specs.declared.value.Cell.TheVariants.{Plain}
 use Rattle.il_ast.specs.declared.value.Value.TheVariants.{Pointer}
-use Rattle.il_ast.specs.Memory.{Memory, parts}
+use Rattle.il_ast.specs.Memory.{parts}
 use Rattle.il_ast.specs.Start.{word_cells, pointers_from}
 use Rattle.rv_isa.specs.Start.{pointer_bytes, word_bytes}
 use Rattle.flat_code.specs.Spots.{ThisByte, Spots, Bases, Entries}
@@ -35,9 +35,6 @@ length_word : (w : List ℕ) → length (word_cells w) ≡ length w + 1
 length_word w = length_plain (w ++ 0 ∷ []) ∙ length-append w (0 ∷ [])
 
 -- ---- the words
-
-words_memory : List (List ℕ) → Memory
-words_memory ws = map (λ (w : List ℕ). Some (word_cells w)) ws
 
 pub words_shown : (e : Entries) (p : Bases) (f : Spots) (ws : List (List ℕ)) (at : ℕ) → 0 < at → at + length (word_bytes ws) < 2 ^ 64 → BytesKnown f (word_bytes ws) at → AllShow e p f (map (λ (w : List ℕ). Some (word_cells w)) ws) (word_places at ws)
 words_shown e p f [] at positive small h = tt

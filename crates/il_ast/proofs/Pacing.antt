@@ -372,15 +372,6 @@ body_goes env c t room args m cs =
 body_starts : (env : Env) (c : Callees) (room : ℕ) (args : List Value) (m : Memory) → body env c 0 room args m ≡ Ended nothing Turns
 body_starts env c room args m = run_starts env c room 0 (begun env.func args) m
 
--- a call that is undefined, or has no room, whatever the turns
-fails_always : (t : ℕ) (e : End) → (e ≡ Undefined) ⊎ (e ≡ Stack) → GoesSo (λ n. Ended nothing e) t (Ended nothing e)
-fails_always t (Exit n) h = tt
-fails_always t Halt h = tt
-fails_always t Undefined h = inl refl
-fails_always t Stack h = inl refl
-fails_always t Turns (inl h) = cc
-fails_always t Turns (inr h) = cc
-
 cond_goes : (b : Bool) (f g : Paced) (t : ℕ) → GoesSo f t (f t) → GoesSo g t (g t) → GoesSo (λ n. cond b (f n) (g n)) t (cond b (f t) (g t))
 cond_goes true f g t h k = h
 cond_goes false f g t h k = k

@@ -41,9 +41,6 @@ parts_stop cells from n k v x goal lt h miss inv =
 
 -- ---- bytes
 
-number_in : List Cell → Option ℕ
-number_in cells = option_map number_of (plain_bytes cells)
-
 pub number_cons : (b n : ℕ) (bytes : Option (List ℕ)) → option_map number_of bytes ≡ Some n → option_map number_of (option_map (λ bs. b ∷ bs) bytes) ≡ Some (n * 256 + b)
 number_cons b n None h = cc
 number_cons b n (Some bs) h =

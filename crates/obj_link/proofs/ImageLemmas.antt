@@ -41,7 +41,7 @@ use Rattle.obj_link.specs.Image.{Contents, IsImage, code_start, functions_start}
 use Rattle.obj_link.specs.Limits.{item_size, field_size, object_size}
 use Rattle.obj_link.specs.Natives.{start_words, write_words, exit_words}
 use Rattle.obj_link.specs.Placed.{functions_end, objects_end, objects_start, meaning, name_address, functions_words, code_of, addresses_of, contents_of, FitsBelow, EveryCode}
-use Rattle.obj_link.specs.ImageOf.{callee_address, value_number, cell_byte, in_slots, object_bytes}
+use Rattle.obj_link.specs.ImageOf.{callee_address, cell_byte, in_slots, object_bytes}
 use Rattle.obj_link.specs.DataBytes.{address_bytes, item_bytes, field_bytes, slot_bytes}
 use Rattle.obj_link.proofs.AddressLemmas.{functions_rise, objects_rise}
 use Rattle.il_ast.proofs.Measured.{length_bytes}
@@ -62,9 +62,6 @@ plain_bytes a (b ∷ bs) = ap (λ xs. b ∷ xs) (plain_bytes a bs)
 
 moved_twice : (x n : ℕ) → (x + (0 + n) % 2 ^ 64) % 2 ^ 64 ≡ (x + n) % 2 ^ 64
 moved_twice x n = omega arith
-
-part_bytes : (a : Addresses) (v : Value) → map (cell_byte a) (parts v) ≡ to_le_bytes w64 (value_number a v)
-part_bytes a v = refl
 
 target_bytes : (a : Addresses) (t : Option Target) (n : ℕ) → map (cell_byte a) (address_cells (option_map target_value t) n) ≡ address_bytes a t n
 target_bytes a None n = zero_cells a 8

@@ -1,5 +1,5 @@
 -- A function of a good text has few blocks, temporaries and phis.
-use Rattle.std.proofs.Common.{◌≡◌, ◌+◌, ◌<◌, ◌≤◌, Bool, true, nat_lt, nat_le, List, [], ◌∷◌, length, arith}
+use Rattle.std.proofs.Common.{◌≡◌, ◌+◌, ◌<◌, ◌≤◌, true, nat_lt, nat_le, List, [], ◌∷◌, length, arith}
 use Rattle.std.specs.List.{sum_by, list_all}
 use Rattle.std.proofs.lemmas.Bool.Decides.{nat_tests}
 use Rattle.std.proofs.lemmas.List.Sums.{sum_by-cons}
@@ -12,9 +12,6 @@ use Rattle.phi_copies.specs.Good.{IsGoodFunction}
 use Rattle.il_ast.proofs.Truth.{and_first, and_second}
 
 -- ---- phis weigh their arguments
-
-has_args : Phi → Bool
-has_args p = nat_lt 0 (length p.args)
 
 phis_weigh : (phis : List Phi) → list_all (λ (p : Phi). nat_lt 0 (length p.args)) phis ≡ true → length phis ≤ sum_by (λ (p : Phi). length p.args) phis
 phis_weigh [] h = omega arith

@@ -15,9 +15,6 @@ eqb_no a b h = not_so (eqb a b) (λ t. h ((Decides-eqb a b).0 t))
     not_so true h = absurd (h refl)
     not_so false h = refl
 
-eqb_yes : (a : ℕ) → eqb a a ≡ true
-eqb_yes a = (Decides-eqb a a).1 refl
-
 -- one move more, in front
 pub after_same : {X : Type 0} (env : ℕ → X) (m : Move) (p : ℕ) → p ≡ m.to → cond (eqb p m.to) (env m.from) (env p) ≡ env m.from
 after_same env m p h = ap (λ b. cond b (env m.from) (env p)) ((Decides-eqb p m.to).1 h)

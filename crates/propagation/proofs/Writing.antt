@@ -17,12 +17,6 @@ use Rattle.il_ast.proofs.Truth.{and_false}
 
 -- ---- lists that are written at a place
 
-set_past : {X : Type 0} (xs : List X) (i : ℕ) (x : X) → nat_lt i (length xs) ≡ false → slice_set xs i x ≡ xs
-set_past [] zero x h = refl
-set_past [] (suc i) x h = refl
-set_past (y ∷ ys) zero x h = absurd (let no : ⊥ = grind (arith, nat_tests) in no)
-set_past (y ∷ ys) (suc i) x h = ap (λ zs. y ∷ zs) (set_past ys i x (grind (arith, nat_tests)))
-
 get_same : {X : Type 0} (xs : List X) (i : ℕ) (x : X) → slice_get (slice_set xs i x) i ≡ (if nat_lt i (length xs) then Some x else None)
 get_same xs i x = by (nat_lt i (length xs)) refl
   where

@@ -6,7 +6,7 @@ use Rattle.std.proofs.lemmas.Int.{ints}
 use Rattle.bits.specs.Words.{Fits12}
 use Rattle.rv_isa.specs.Formats.{part, low_bits, signed}
 use Rattle.rv_isa.specs.Encoding.{word, branch_row, load_row, store_row, imm_row, shift_row, shiftw_row, reg_row, regw_row}
-use Rattle.rv_isa.specs.Decoding.{rd_of, rs1_of, rs2_of, s_bits, b_half, j_half, op_imm, op_imm_32, i_immediate, s_immediate, b_offset, j_offset, upper_of, amount_of, word_amount_of, branch_op, load_op, store_op, imm_op, right_shift_op, right_shiftw_op, reg_op, regw_op, candidate, candidate_at}
+use Rattle.rv_isa.specs.Decoding.{rd_of, rs1_of, rs2_of, s_bits, b_half, j_half, op_imm, op_imm_32, i_immediate, s_immediate, b_offset, j_offset, upper_of, amount_of, word_amount_of, branch_op, load_op, store_op, right_shift_op, right_shiftw_op, reg_op, regw_op, candidate, candidate_at}
 use Rattle.rv_isa.proofs.FieldLemmas.{Reads}
 use Rattle.rv_isa.proofs.Same.{same_register, same_immediate, same_upper, same_amount, same_word_amount, same_branch_offset, same_jump_offset}
 use Rattle.rv_isa.specs.declared.ranges.Register.{Register}
@@ -81,14 +81,6 @@ store_op_back Sb = refl
 store_op_back Sh = refl
 store_op_back Sw = refl
 store_op_back Sd = refl
-
-imm_op_back : (op : ImmOp) → imm_op (imm_row op) ≡ op
-imm_op_back Addi = refl
-imm_op_back Slti = refl
-imm_op_back Sltiu = refl
-imm_op_back Xori = refl
-imm_op_back Ori = refl
-imm_op_back Andi = refl
 
 reg_op_back : (op : RegOp) → reg_op (reg_row op).0 (reg_row op).1 ≡ op
 reg_op_back Add = refl

@@ -357,10 +357,6 @@ shifted_yields c t p back bits fits a u y r is =
     (operate_line c t p (Reg SllReg) a (Number bits) (Integer n) (Integer bits) (Integer (reg_value SllReg n bits)) (r.is ∙ ap Some w.is) (ap (λ m. Some (Integer m)) fits) refl)
     (λ s m e. operate_line c s p (Reg back) (At p) (Number bits) (Integer (reg_value SllReg n bits)) (Integer bits) _ e (ap (λ m. Some (Integer m)) fits) refl))
 
--- the number that an extension gives
-wide : Class → Extension → ℕ → Value
-wide k e n = Integer (extended e k n)
-
 extended_is : (e : Extension) (k : Class) (u x : Value) (n : ℕ) → widened e k u ≡ Some x → u ≡ Integer n → x ≡ Integer (extended e k n)
 extended_is e k u x n h is = same_chosen (sym h ∙ ap (widened e k) is)
 

@@ -129,9 +129,6 @@ operand_few (Name g) = omega arith
 
 -- ---- instructions
 
-one : (l : Line ℕ) (n : ℕ) → IsQuiet l → line_cost l ≤ n → Costs (l ∷ []) n
-one l n q h = (q, h, tt)
-
 word_costs : (classes : Classes) (t : ℕ) (a : Operand ℕ) → Costs (word_of classes t a ∷ []) 14
 word_costs classes t a = by (is_whole classes a)
   where

@@ -17,13 +17,10 @@ use Rattle.vcode.specs.Named.{operand_keeps, wanted_keeps, line_keeps, jump_keep
 use Rattle.vcode.specs.Regular.{leads_inside}
 use Rattle.vcode.proofs.Measuring.{measure, nothing_taken, Measured, Empty, Put, within, each_mapped}
 use Rattle.vcode.proofs.Results.{Serves, Owed, owed_each}
-use Rattle.sign_extensions.specs.Whole.{is_marked, takes_whole, wants_whole, keeps_marks, are_closed, is_extension, with_claim, jump_claim, with_copy, with_copies}
+use Rattle.sign_extensions.specs.Whole.{takes_whole, wants_whole, keeps_marks, are_closed, is_extension, with_claim, jump_claim, with_copy, with_copies}
 use Rattle.sign_extensions.proofs.Running.{runs}
 
 -- ---- without marks
-none_marked : (r : ℕ) → is_marked [] r ≡ false
-none_marked r = refl
-
 none_takes : (d : Destination ℕ) → takes_whole [] d ≡ true
 none_takes d = refl
 

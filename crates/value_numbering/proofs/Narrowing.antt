@@ -88,9 +88,6 @@ masked_low m None = refl
 abbrev twice : Memory → RegOp → (bits : ℕ) → Option Value → Option Value
 twice m op bits o = operated m (Reg op) (operated m (Reg Sll) o (Some (Integer (bits % 2 ^ 64)))) (Some (Integer (bits % 2 ^ 64)))
 
-not_number : (m : Memory) (size : Size) (op : RegOp) (o : Option Value) → operated m (Reg Sll) o (Some (Integer (bits size % 2 ^ 64))) ≡ None → twice m op (bits size) o ≡ None
-not_number m size op o h = ap (λ (x : Option Value). operated m (Reg op) x (Some (Integer (bits size % 2 ^ 64)))) h
-
 extended_low : (m : Memory) (size : Size) (op : RegOp) → is_back op ≡ true → (o : Option Value) → SameLow (span size) o (twice m op (bits size) o)
 unfolding operate
 extended_low m Byte Srl h (Some (Integer n)) = (n * 2 ^ 56 % 2 ^ 64 / 2 ^ 56, (refl, zeros_56 n))

@@ -101,9 +101,6 @@ AllOf holds (Loaded op a d) = holds a
 AllOf holds (Linear b i c o) = holds b × holds i
 AllOf holds (Growing a n) = holds a
 
-number_same : (globals : List Value) (values other : Values ℕ) (d : ℕ) → value_of globals other (Number d) ≡ value_of globals values (Number d)
-number_same globals values other d = refl
-
 gives_same : (globals : List Value) (m : Memory) (values other : Values ℕ) (f : Operand ℕ → Operand ℕ) (e : Expression) → AllOf (SameIn globals values other f) e → gives globals m other (put f e) ≡ gives globals m values e
 gives_same globals m values other f (Same a) h = ap Gives h
 gives_same globals m values other f (Operated op a b) h =
