@@ -80,64 +80,32 @@ fn reads_outside(written: LowRegisters, line: &Line<u32>) -> bool {
 
 /// Whether a line multiplies by a number or shifts back: sums and extensions for which something is planned have such a part.
 fn is_part(line: &Line<u32>) -> bool {
-    match line {
+    matches!(
+        line,
         Line::Operate {
-            operation: Operation::Reg(op),
+            operation: Operation::Reg(RegOp::Sll | RegOp::Srl | RegOp::Mul),
             right: Operand::Number(_),
             ..
-        } => match op {
-            RegOp::Sll | RegOp::Srl | RegOp::Mul => true,
-            _ => false,
-        },
-        _ => false,
-    }
-}
-
-fn have_part(lines: &[Line<u32>]) -> bool {
-    for line in lines {
-        if is_part(line) {
-            return true;
         }
-    }
-    false
-}
-
-fn has_part(blocks: &[Block<u32>]) -> bool {
-    for block in blocks {
-        if have_part(block.lines.as_slice()) {
-            return true;
-        }
-    }
-    false
-}
-
-fn read_outside(written: LowRegisters, lines: &[Line<u32>]) -> bool {
-    for line in lines {
-        if reads_outside(written, line) {
-            return true;
-        }
-    }
-    false
+    )
 }
 
 /// Whether a line of the only loop operates on a register that neither its first nor its last block writes.
 fn loop_reads_outside(blocks: &[Block<u32>], back: Back) -> bool {
     let written = written_in(blocks, back.head).joined(written_in(blocks, back.last));
-    for block in blocks
+    let mut inside = blocks
         .iter()
         .take(back.last.saturating_add(1))
-        .skip(back.head)
-    {
-        if read_outside(written, block.lines.as_slice()) {
-            return true;
-        }
-    }
-    false
+        .skip(back.head);
+    inside.any(|block| {
+        let mut lines = block.lines.as_slice().iter();
+        lines.any(|line| reads_outside(written, line))
+    })
 }
 
 /// Whether something may be planned for these blocks.
 pub(crate) fn may_plan(blocks: &[Block<u32>]) -> bool {
-    if has_part(blocks) {
+    if blocks.iter().any(|block| block.lines.as_slice().iter().any(|line| is_part(line))) {
         return true;
     }
     match jumps_back(blocks) {

@@ -56,18 +56,13 @@ fn is_worth(plan: &Computation) -> bool {
     }
 }
 
-fn is_same(one: &Computation, other: &Computation) -> bool {
-    one.operation == other.operation && one.left == other.left && one.right == other.right
-}
-
 /// The register of a computation that is planned for this loop already.
 fn planned(plans: &Plans, wanted: &Computation) -> Option<u32> {
-    for plan in plans.list.iter().skip(plans.first) {
-        if is_same(plan, wanted) {
-            return Some(plan.register);
-        }
-    }
-    None
+    let mut made = plans.list.iter().skip(plans.first);
+    let same = made.find(|plan| {
+        plan.operation == wanted.operation && plan.left == wanted.left && plan.right == wanted.right
+    })?;
+    Some(same.register)
 }
 
 /// Takes from the credit of a block what a line costs, if it leaves that.
@@ -88,13 +83,9 @@ fn maker(plans: &Plans, operand: &Operand<u32>) -> Option<usize> {
     let Operand::At(register) = operand else {
         return None;
     };
-    let made = plans.list.iter().skip(plans.first);
-    for plan in made {
-        if plan.register == *register {
-            return Some(plan.block);
-        }
-    }
-    None
+    let mut made = plans.list.iter().skip(plans.first);
+    let plan = made.find(|plan| plan.register == *register)?;
+    Some(plan.block)
 }
 
 /// The furthest block that dominates the loop, has both operands and can pay for the computation, where the block in front of the loop can't pay for all.
@@ -136,6 +127,28 @@ fn push_plan(plans: &mut Plans, plan: Computation) -> Result<Option<u32>, AllocE
     plans.next = plan.register.saturating_add(1);
     plans.list.push(Computation { block, ..plan })?;
     Ok(Some(plan.register))
+}
+
+/// A computation in front of a line of its own block, into the next register, if the block pays for it.
+pub(crate) fn plan_in_front(
+    plans: &mut Plans,
+    block: usize,
+    op: RegOp,
+    left: Operand<u32>,
+    right: Operand<u32>,
+) -> Option<Computation> {
+    let plan = Computation {
+        block,
+        register: plans.next,
+        operation: Operation::Reg(op),
+        left,
+        right,
+    };
+    if plan.register >= PLACES - 1 || !pay(plans.credits.as_mut_slice(), block, &plan.line()) {
+        return None;
+    }
+    plans.next = plan.register.saturating_add(1);
+    Some(plan)
 }
 
 /// A plan for an operation on these operands, if there are both and it is worth that.
@@ -199,18 +212,6 @@ struct Part {
     rest: Operand<u32>,
 }
 
-/// The summand that has its value in front of the loop, if one has, and the other.
-fn unchanged(
-    written: &Written,
-    left: &Operand<u32>,
-    right: &Operand<u32>,
-) -> (Option<Operand<u32>>, Operand<u32>) {
-    match written.in_front(*left) {
-        Some(one) => (Some(one), *right),
-        None => (written.in_front(*right), *left),
-    }
-}
-
 /// Whether to add two summands in front of a loop saves an addition in it: the sum of words isn't read but by the one that is added otherwise.
 fn saves(written: &Written, operation: Operation, sum: u32) -> bool {
     match operation {
@@ -231,7 +232,10 @@ fn part_of_sum(
     if of.operation != operation || !saves(written, operation, sum) {
         return None;
     }
-    let (one, rest) = unchanged(written, &of.left, &of.right);
+    let (one, rest) = match written.in_front(of.left) {
+        Some(one) => (Some(one), of.right),
+        None => (written.in_front(of.right), of.left),
+    };
     let other = written.in_front(added);
     let plan = plan_of(before, register, operation, one, other)?;
     Some(Part { plan, sum, rest })
@@ -328,15 +332,6 @@ fn linear_of(
     }
 }
 
-/// The sum of two stands in a sum of three alone.
-fn take_part(sums: &mut [Linear], sum: u32) {
-    for linear in sums.iter_mut() {
-        if linear.to == sum {
-            linear.is_part = true;
-        }
-    }
-}
-
 /// Notes the sum with a product of a register that grows, if it is one; the sum of the other two is planned.
 fn push_part(
     plans: &mut Plans,
@@ -347,7 +342,9 @@ fn push_part(
     register: u32,
 ) -> Result<(), AllocError> {
     if let Some(product) = written.product(part.rest) {
-        take_part(plans.sums.as_mut_slice(), part.sum);
+        for linear in plans.sums.iter_mut() {
+            linear.is_part = linear.is_part || linear.to == part.sum;
+        }
         plans.sums.push(Linear {
             at: place.at,
             to,
@@ -380,21 +377,7 @@ fn push_linear(
     Ok(())
 }
 
-/// Notes the sum of longs if it has a product.
-fn plan_linear(
-    plans: &mut Plans,
-    written: &Written,
-    place: Place,
-    to: u32,
-    of: &Sum,
-) -> Result<(), AllocError> {
-    match of.operation {
-        Operation::Reg(_) => push_linear(plans, written, place, to, &of.left, &of.right),
-        _ => Ok(()),
-    }
-}
-
-/// Plans the part of a sum that doesn't change, and notes the sum if it has a product.
+/// Plans the part of a sum that doesn't change, and notes a sum of longs if it has a product.
 fn plan_part(
     plans: &mut Plans,
     written: &Written,
@@ -402,15 +385,21 @@ fn plan_part(
     to: u32,
     of: &Sum,
 ) -> Result<(), AllocError> {
+    let is_long = matches!(of.operation, Operation::Reg(_));
     if let Some(part) = wanted_part(plans.next, written, place.before, of) {
         if let Some(register) = put_plan(plans, part.plan)? {
-            return match of.operation {
-                Operation::Reg(_) => push_part(plans, written, place, to, &part, register),
-                _ => Ok(()),
+            return if is_long {
+                push_part(plans, written, place, to, &part, register)
+            } else {
+                Ok(())
             };
         }
     }
-    plan_linear(plans, written, place, to, of)
+    if is_long {
+        push_linear(plans, written, place, to, &of.left, &of.right)
+    } else {
+        Ok(())
+    }
 }
 
 /// What a line adds, and the register that takes that.
@@ -418,20 +407,17 @@ fn sum_in(line: &Line<u32>) -> Option<(u32, Sum)> {
     match line {
         Line::Operate {
             to,
-            operation,
+            operation: operation @ (Operation::Reg(RegOp::Add) | Operation::RegW(RegWOp::Addw)),
             left,
             right,
-        } => match operation {
-            Operation::Reg(RegOp::Add) | Operation::RegW(RegWOp::Addw) => {
-                let sum = Sum {
-                    operation: *operation,
-                    left: *left,
-                    right: *right,
-                };
-                Some((*to, sum))
-            }
-            _ => None,
-        },
+        } => {
+            let sum = Sum {
+                operation: *operation,
+                left: *left,
+                right: *right,
+            };
+            Some((*to, sum))
+        }
         _ => None,
     }
 }
@@ -502,29 +488,6 @@ fn credits(alloc: Global, blocks: &[Block<u32>]) -> Result<Vec<u128>, AllocError
     Ok(credits)
 }
 
-fn push_to(blocks: &mut [BlockPlan], plan: Computation) -> Result<(), AllocError> {
-    match blocks.get_mut(plan.block) {
-        Some(plans) => plans.behind.extend_from_slice(&[plan]),
-        None => Ok(()),
-    }
-}
-
-/// The plans for the lines of a block.
-fn in_block(
-    alloc: Global,
-    plans: &mut Plans,
-    reads: &[u32],
-    number: usize,
-    block: &Block<u32>,
-) -> Result<BlockPlan, AllocError> {
-    let mut in_front = plan_halves(alloc, plans, number, block)?;
-    plan_offsets(plans, &mut in_front, reads, number, block)?;
-    Ok(BlockPlan {
-        in_front,
-        behind: Vec::new(alloc),
-    })
-}
-
 /// The plans, block by block; with those for the lines of each block.
 fn by_block(
     alloc: Global,
@@ -535,17 +498,14 @@ fn by_block(
     let reads = count_reads(alloc, registers, blocks)?;
     let mut lists = Vec::with_capacity(alloc, blocks.len())?;
     for (number, block) in blocks.iter().enumerate() {
-        lists.push(in_block(alloc, plans, reads.as_slice(), number, block)?)?;
+        let mut in_front = plan_halves(alloc, plans, number, block)?;
+        plan_offsets(plans, &mut in_front, reads.as_slice(), number, block)?;
+        lists.push(BlockPlan {
+            in_front,
+            behind: Vec::new(alloc),
+        })?;
     }
     Ok(lists)
-}
-
-/// Each plan to the end of its block.
-fn push_plans(blocks: &mut [BlockPlan], plans: &[Computation]) -> Result<(), AllocError> {
-    for plan in plans {
-        push_to(blocks, *plan)?;
-    }
-    Ok(())
 }
 
 /// No plans yet, and what the ticks of each block leave.
@@ -577,7 +537,11 @@ fn choice_of(
     if plans.next == function.registers {
         return Ok(None);
     }
-    push_plans(blocks.as_mut_slice(), plans.list.as_slice())?;
+    for plan in plans.list.iter() {
+        if let Some(block) = blocks.get_mut(plan.block) {
+            block.behind.extend_from_slice(&[*plan])?;
+        }
+    }
     Ok(Some(Plan {
         blocks,
         registers: plans.next,

@@ -144,17 +144,15 @@ fn leaves_word(lines: &[Line<u32>], register: u32) -> bool {
 
 /// Whether one of the first lines leaves a word in the register.
 fn from_word(lines: &[Line<u32>], number: usize, register: u32) -> bool {
-    for line in lines.iter().take(number) {
-        match line {
-            Line::Operate {
-                to,
-                operation: Operation::RegW(_),
-                ..
-            } if *to == register => return true,
-            _ => {}
-        }
-    }
-    false
+    let mut first = lines.iter().take(number);
+    first.any(|line| match line {
+        Line::Operate {
+            to,
+            operation: Operation::RegW(_),
+            ..
+        } => *to == register,
+        _ => false,
+    })
 }
 
 /// A register that takes the sum of a register and a number, or takes back such a sum of its own.
@@ -212,22 +210,6 @@ fn grows_long(
         && is_tested(marks, blocks, nest, register, growth.by)
 }
 
-fn note_growth(
-    written: &mut Written,
-    marks: &[bool],
-    blocks: &[Block<u32>],
-    nest: &Loop,
-    line: &Line<u32>,
-    at: Spot,
-) -> Result<(), AllocError> {
-    match growth_of(written, line, at) {
-        Some((to, growth)) if to != growth.from || grows_long(marks, blocks, nest, to, &growth) => {
-            written.grow(to, growth)
-        }
-        _ => Ok(()),
-    }
-}
-
 /// Notes the registers that the loop adds a number to, by the marks of those that hold whole words alone.
 ///
 /// # Errors
@@ -246,7 +228,11 @@ pub(crate) fn find_growth(
                     block: *number,
                     line,
                 };
-                note_growth(written, marks, blocks, nest, item, at)?;
+                if let Some((to, growth)) = growth_of(written, item, at) {
+                    if to != growth.from || grows_long(marks, blocks, nest, to, &growth) {
+                        written.grow(to, growth)?;
+                    }
+                }
             }
         }
     }
@@ -291,18 +277,14 @@ pub(crate) fn product_of(written: &Written, line: &Line<u32>) -> Option<(u32, Pr
 
 // ---- what is added to in their place
 
-fn is_before(one: Spot, other: Spot) -> bool {
-    one.block < other.block || (one.block == other.block && one.line < other.line)
-}
-
 /// Whether each round comes to the sum, before the register grows.
 fn is_steady(written: &Written, nest: &Loop, linear: &Linear) -> bool {
-    match written.own_growth(linear.product.index) {
-        Some(growth) => {
-            nest.always.contains(&linear.at.block) && is_before(linear.at, growth.at)
-        }
-        None => false,
-    }
+    let Some(Growth { at: grown, .. }) = written.own_growth(linear.product.index) else {
+        return false;
+    };
+    let at = linear.at;
+    let is_before = at.block < grown.block || (at.block == grown.block && at.line < grown.line);
+    nest.always.contains(&at.block) && is_before
 }
 
 /// Whether the product is read by nothing but such sums.
@@ -391,16 +373,6 @@ fn plan_step(
     Ok(true)
 }
 
-/// Whether one of the first sums is the same, and isn't planned in another's place.
-fn is_planned(sums: &[Linear], number: usize, linear: &Linear) -> bool {
-    for one in sums.iter().take(number) {
-        if !one.is_part && is_same(one, linear) {
-            return true;
-        }
-    }
-    false
-}
-
 /// Whether a sum is worth a register that is added to: where its product is then read by nothing, and it isn't planned already.
 fn is_wanted(
     sums: &[Linear],
@@ -409,8 +381,9 @@ fn is_wanted(
     number: usize,
     linear: &Linear,
 ) -> bool {
+    let mut first = sums.iter().take(number);
     !linear.is_part
-        && !is_planned(sums, number, linear)
+        && !first.any(|one| !one.is_part && is_same(one, linear))
         && is_steady(written, nest, linear)
         && is_spared(written, nest, sums, linear.factor)
 }

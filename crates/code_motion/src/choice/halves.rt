@@ -1,9 +1,8 @@
 //! Extensions by zeros that are shifted to the left. Their two shifts write one register; where what stands between them has a register of its own, `value_numbering` shifts that back by less.
-use crate::choice::choose::{Plans, pay};
+use crate::choice::choose::{Plans, plan_in_front};
 use crate::plan::Computation;
 use rv_isa::RegOp;
 use std::alloc::{AllocError, Global};
-use vcode::limits::PLACES;
 use vcode::{Block, Line, Operand, Operation};
 
 /// How many lines behind an extension the shift is looked for.
@@ -47,14 +46,11 @@ fn pair_of(first: &Line<u32>, second: &Line<u32>) -> Option<Pair> {
 
 /// Whether one of the lines shifts the extension to the left.
 fn is_shifted(lines: &[Line<u32>], from: usize, pair: &Pair) -> bool {
-    for line in lines.iter().skip(from).take(WINDOW) {
-        if let Some(again) = shift(line, RegOp::Sll) {
-            if again.from == pair.to && again.bits < pair.bits {
-                return true;
-            }
-        }
-    }
-    false
+    let mut behind = lines.iter().skip(from).take(WINDOW);
+    behind.any(|line| match shift(line, RegOp::Sll) {
+        Some(again) => again.from == pair.to && again.bits < pair.bits,
+        None => false,
+    })
 }
 
 fn pair_at(lines: &[Line<u32>], number: usize) -> Option<Pair> {
@@ -68,22 +64,6 @@ fn pair_at(lines: &[Line<u32>], number: usize) -> Option<Pair> {
     }
 }
 
-/// The register that takes what an extension is before it is shifted back, if the block pays for that.
-fn plan_half(plans: &mut Plans, block: usize, pair: &Pair) -> Option<Computation> {
-    let plan = Computation {
-        block,
-        register: plans.next,
-        operation: Operation::Reg(RegOp::Sll),
-        left: Operand::At(pair.from),
-        right: Operand::Number(pair.bits),
-    };
-    if plan.register >= PLACES - 1 || !pay(plans.credits.as_mut_slice(), block, &plan.line()) {
-        return None;
-    }
-    plans.next = plan.register.saturating_add(1);
-    Some(plan)
-}
-
 /// What is computed in front of each line of a block; nothing at all where the block extends nothing that is shifted to the left.
 pub(crate) fn plan_halves(
     alloc: Global,
@@ -95,7 +75,8 @@ pub(crate) fn plan_halves(
     let mut fronts = Vec::new(alloc);
     for at in 0..lines.len() {
         if let Some(pair) = pair_at(lines, at) {
-            let plan = plan_half(plans, number, &pair);
+            let (left, right) = (Operand::At(pair.from), Operand::Number(pair.bits));
+            let plan = plan_in_front(plans, number, RegOp::Sll, left, right);
             fronts.resize(at, None)?;
             fronts.push(plan)?;
         }

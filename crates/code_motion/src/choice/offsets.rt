@@ -1,13 +1,12 @@
 //! Addresses that are sums of a register and of what another register and a number give. The sum of the two registers is set in front of them; `value_numbering` adds the number last then, and so it becomes the offset of the
 //! loads and stores there.
-use crate::choice::choose::{Plans, pay};
+use crate::choice::choose::{Plans, plan_in_front};
 use crate::plan::Computation;
 use cfg_live::uses::line_writes;
 use rv_isa::RegOp;
 use std::alloc::AllocError;
 use vcode::cost::is_immediate;
-use vcode::limits::PLACES;
-use vcode::{Address, Block, Line, Operand, Operation};
+use vcode::{Block, Line, Operand, Operation};
 
 /// How many lines in front of a sum, and behind it, are looked at.
 const WINDOW: usize = 8;
@@ -64,21 +63,14 @@ fn offset_of(lines: &[Line<u32>], number: usize, register: u32) -> Option<Offset
     known
 }
 
-fn address_of(line: &Line<u32>) -> Option<Address<u32>> {
-    match line {
-        Line::Load { at, .. } | Line::Store { at, .. } => Some(*at),
-        _ => None,
-    }
-}
-
 /// Whether the line reads the register as an address which, with the number, is still one of an instruction.
 fn takes(line: &Line<u32>, register: u32, number: u64) -> bool {
-    match address_of(line) {
-        Some(at) => {
+    match line {
+        Line::Load { at, .. } | Line::Store { at, .. } => {
             let offset = i64::from(at.offset.value).cast_unsigned();
             at.base == Operand::At(register) && is_immediate(offset.wrapping_add(number))
         }
-        None => false,
+        _ => false,
     }
 }
 
@@ -149,22 +141,6 @@ fn sum_at(lines: &[Line<u32>], reads: &[u32], number: usize) -> Option<Sum> {
     }
 }
 
-/// The register that takes the sum, if the block pays for that.
-fn plan_sum(plans: &mut Plans, block: usize, sum: Sum) -> Option<Computation> {
-    let plan = Computation {
-        block,
-        register: plans.next,
-        operation: Operation::Reg(RegOp::Add),
-        left: Operand::At(sum.base),
-        right: Operand::At(sum.added),
-    };
-    if plan.register >= PLACES - 1 || !pay(plans.credits.as_mut_slice(), block, &plan.line()) {
-        return None;
-    }
-    plans.next = plan.register.saturating_add(1);
-    Some(plan)
-}
-
 /// Puts what is computed in front of a line to what is computed in front of others.
 fn put_front(
     fronts: &mut Vec<Option<Computation>>,
@@ -180,14 +156,6 @@ fn put_front(
     Ok(())
 }
 
-/// Whether nothing is computed in front of the line yet.
-fn is_free(fronts: &[Option<Computation>], number: usize) -> bool {
-    match fronts.get(number) {
-        Some(Some(_)) => false,
-        _ => true,
-    }
-}
-
 /// Adds such sums to what is computed in front of the lines of a block.
 pub(crate) fn plan_offsets(
     plans: &mut Plans,
@@ -199,8 +167,9 @@ pub(crate) fn plan_offsets(
     let lines = block.lines.as_slice();
     for at in 0..lines.len() {
         if let Some(sum) = sum_at(lines, reads, at) {
-            if is_free(fronts.as_slice(), at) {
-                let plan = plan_sum(plans, number, sum);
+            if !matches!(fronts.get(at), Some(Some(_))) {
+                let (left, right) = (Operand::At(sum.base), Operand::At(sum.added));
+                let plan = plan_in_front(plans, number, RegOp::Add, left, right);
                 put_front(fronts, at, plan)?;
             }
         }
