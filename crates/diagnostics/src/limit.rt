@@ -28,13 +28,11 @@ pub fn add_text_limit(words: &mut TextMaker, text: &Text) -> usize {
 
 /// Says which limit a function passes. Answers the line, where it passes one.
 fn add_function_limit(words: &mut TextMaker, text: &Text, function: &Func) -> Option<usize> {
+    let temps = function.temps.len() as u64;
+    let params = function.params.len() as u64;
     let limits = [
-        (
-            function.temps.len() as u64,
-            "temporaries",
-            TEMPORARIES as u64,
-        ),
-        (function.params.len() as u64, "parameters", ARGUMENTS as u64),
+        (temps, "temporaries", TEMPORARIES as u64),
+        (params, "parameters", ARGUMENTS as u64),
         (alloc_area(function), "bytes of alloc", ALLOC_BYTES),
         (weight(function), "of weight", FUNCTION_WEIGHT),
     ];
