@@ -1,6 +1,7 @@
 //! Words behind the line of a failure.
 use crate::failure::Failure;
 use crate::file_words::file_words;
+use crate::tell::file_number;
 use crate::verdict::{Verdict, judge};
 use crate::verdict_lines::verdict_lines;
 use elf_file::read_image;
@@ -45,7 +46,8 @@ impl Explanation {
         if self.is_asked
             && let Err(error) = read_image(self.alloc, bytes)
         {
-            let (words, code) = file_words(error, bytes);
+            let words = file_words(error, bytes);
+            let code = file_number(error);
             self.add_line(format!(in self.alloc; "{path}: error: {words} [{code}]\n"));
         }
     }

@@ -7,7 +7,6 @@ ghost use Rattle.commands.specs.Exits.{Exits, IsUnbegun, words_failure};
 
 use crate::command::{command, report};
 use crate::failure::Failure;
-use crate::process::exit_code;
 use crate::refusal::Refusal;
 use crate::words::words_of;
 use regalloc::strategy::Strategy;
@@ -71,6 +70,13 @@ fn status<D: Disk, O: Sink, E: Sink>(
         Ok(args) => perform(alloc, args.as_slice(), allocator, disk, out, err),
         Err(error) => report(words_failure(error.kind()), err),
     }
+}
+
+/// The status as the process's, uncut.
+fn exit_code(status: u8) -> ExitCode
+    ensures { exit_status result ≡ status }
+{
+    ExitCode::from(status)
 }
 
 /// Does what the words of a process ask for, of which the first is the program's name, and ends with the status of that.

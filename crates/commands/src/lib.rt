@@ -33,7 +33,6 @@ pub mod laws;
 mod list_symbols;
 pub mod other_lines;
 mod pieces;
-mod process;
 pub mod refusal;
 mod run;
 pub mod runs;

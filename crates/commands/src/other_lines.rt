@@ -2,7 +2,6 @@
 use diagnostics::reading_on::behind_stop;
 use diagnostics::remark::Remark;
 use diagnostics::text::other_rules;
-use il_types::Rule;
 use qbec::CompileError;
 use std::alloc::{AllocError, Global};
 
@@ -36,28 +35,15 @@ pub(crate) fn other_lines(
     bytes: &[u8],
     refusal: &CompileError,
 ) -> Result<OtherLines, AllocError> {
-    match refusal {
-        CompileError::Syntax { text: _, line } => {
-            let remarks = behind_stop(alloc, number, bytes)?;
-            around(alloc, path, *line, remarks.as_slice())
-        }
-        CompileError::Rule { text: _, fault } => {
-            let remarks = other_rules(alloc, number, bytes, *fault)?;
-            around(alloc, path, fault.line, remarks.as_slice())
-        }
-        _ => Ok(OtherLines::none(alloc)),
-    }
-}
-
-/// The lines of mistakes around a line.
-fn around(
-    alloc: Global,
-    path: &str,
-    line: usize,
-    remarks: &[Remark],
-) -> Result<OtherLines, AllocError> {
     let mut lines = OtherLines::none(alloc);
-    for remark in remarks {
+    let (line, remarks) = match refusal {
+        CompileError::Syntax { text: _, line } => (*line, behind_stop(alloc, number, bytes)?),
+        CompileError::Rule { text: _, fault } => {
+            (fault.line, other_rules(alloc, number, bytes, *fault)?)
+        }
+        _ => return Ok(lines),
+    };
+    for remark in remarks.as_slice() {
         if remark.note.line < line {
             push_line(&mut lines.before, path, remark)?;
         } else {
@@ -71,17 +57,12 @@ fn push_line(lines: &mut String, path: &str, remark: &Remark) -> Result<(), Allo
     let line = remark.note.line;
     let words = remark.note.words.as_str();
     write!(lines, "{path}:{line}: error: {words} [")?;
-    push_code(lines, remark.rule)?;
-    lines.push_str("]\n")
-}
-
-fn push_code(lines: &mut String, rule: Option<Rule>) -> Result<(), AllocError> {
-    match rule {
+    match remark.rule {
         Some(rule) => {
             let number = rule.number();
             write!(lines, "E2 C{number}")?;
-            Ok(())
         }
-        None => lines.push_str("E1"),
+        None => lines.push_str("E1")?,
     }
+    lines.push_str("]\n")
 }

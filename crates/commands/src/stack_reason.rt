@@ -1,6 +1,4 @@
 //! Why nothing bounds the stack that a program takes, in words.
-use il_ast::{Func, InText};
-use il_types::Checked;
 use itoa::Buffer;
 use obj_link::Linked;
 use qbec::symbols::symbol::name_in;
@@ -10,34 +8,13 @@ use stack_bound::graph::Graph;
 use std::alloc::{AllocError, Global};
 
 /// Adds the name of a function.
-fn push_name(
-    line: &mut Vec<u8>,
-    texts: &[Checked],
-    functions: &[InText<&Func>],
-    number: usize,
-) -> Result<(), AllocError> {
-    match functions.get(number) {
+fn push_name(line: &mut Vec<u8>, linked: &Linked<'_>, number: usize) -> Result<(), AllocError> {
+    match linked.functions.as_slice().get(number) {
         Some(function) => {
-            line.extend_from_slice(name_in(texts, function.text, function.item.name))
+            line.extend_from_slice(name_in(linked.texts, function.text, function.item.name))
         }
         None => Ok(()),
     }
-}
-
-/// Adds the names of functions.
-fn push_names(
-    line: &mut Vec<u8>,
-    texts: &[Checked],
-    functions: &[InText<&Func>],
-    numbers: &[usize],
-) -> Result<(), AllocError> {
-    for (at, number) in numbers.iter().enumerate() {
-        if at > 0 {
-            line.extend_from_slice(b", ")?;
-        }
-        push_name(line, texts, functions, *number)?;
-    }
-    Ok(())
 }
 
 /// Adds that calls by pointer with so many arguments may mean these functions.
@@ -50,15 +27,19 @@ fn push_pointed(
     let mut buffer = Buffer::new();
     line.extend_from_slice(b" calls by pointer with ")?;
     line.extend_from_slice(buffer.format(arguments).as_bytes())?;
-    let word: &[u8] = if arguments == 1 {
-        b" argument"
-    } else {
-        b" arguments"
+    let word: &[u8] = match arguments {
+        1 => b" argument",
+        _ => b" arguments",
     };
     line.extend_from_slice(word)?;
     line.extend_from_slice(b", which may mean ")?;
-    let meant = graph.meant_by(arguments);
-    push_names(line, linked.texts, linked.functions.as_slice(), meant)
+    for (at, number) in graph.meant_by(arguments).iter().enumerate() {
+        if at > 0 {
+            line.extend_from_slice(b", ")?;
+        }
+        push_name(line, linked, *number)?;
+    }
+    Ok(())
 }
 
 /// Adds that a function makes the next step of a way; what a call by pointer may mean was said with it.
@@ -69,30 +50,14 @@ fn push_call(
     from: usize,
     to: Step,
 ) -> Result<(), AllocError> {
-    let functions = linked.functions.as_slice();
-    push_name(line, linked.texts, functions, from)?;
+    push_name(line, linked, from)?;
     match to {
         Step::Function(number) => {
             line.extend_from_slice(b" calls ")?;
-            push_name(line, linked.texts, functions, number)
+            push_name(line, linked, number)
         }
         Step::Pointed(arguments) => push_pointed(line, linked, graph, arguments),
     }
-}
-
-fn push_way(
-    line: &mut Vec<u8>,
-    linked: &Linked<'_>,
-    graph: &Graph,
-    way: &[Step],
-) -> Result<(), AllocError> {
-    for at in 1..way.len() {
-        if let Step::Function(from) = way[at - 1] {
-            line.extend_from_slice(if at == 1 { b": " } else { b"; " })?;
-            push_call(line, linked, graph, from, way[at])?;
-        }
-    }
-    Ok(())
 }
 
 /// The line that shows a way of calls from `main` to a cycle.
@@ -109,7 +74,12 @@ pub(crate) fn reason(
     let way = way_to_cycle(alloc, linked, graph, bounds)?;
     let mut line = Vec::new(alloc);
     line.extend_from_slice(b"no bound")?;
-    push_way(&mut line, linked, graph, way.as_slice())?;
+    for at in 1..way.len() {
+        if let Step::Function(from) = way[at - 1] {
+            line.extend_from_slice(if at == 1 { b": " } else { b"; " })?;
+            push_call(&mut line, linked, graph, from, way[at])?;
+        }
+    }
     line.extend_from_slice(b"\n")?;
     Ok(line)
 }

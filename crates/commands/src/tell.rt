@@ -15,7 +15,7 @@ use shell::digits::sixteen_digits;
 use shell::write_exe::{write_exe, write_parts};
 
 /// The number of a file's refusal.
-fn file_number(error: LoadError) -> &'static str
+pub(crate) fn file_number(error: LoadError) -> &'static str
     ensures { result.now ≡ file_number error }
 {
     match error {

@@ -19,20 +19,11 @@ pub(crate) fn tip(words: &[&str]) -> &'static str {
 }
 
 fn any_explain(words: &[&str]) -> bool {
-    for word in words {
-        if *word == "--explain" {
-            return true;
-        }
-    }
-    false
+    words.iter().any(|word| *word == "--explain")
 }
 
 /// Whether one of the words is an option for the output that other compilers have.
 fn any_output(words: &[&str]) -> bool {
-    for word in words {
-        if *word == "--output" || *word == "--out" || word.starts_with("--output=") {
-            return true;
-        }
-    }
-    false
+    let mut words = words.iter();
+    words.any(|word| *word == "--output" || *word == "--out" || word.starts_with("--output="))
 }

@@ -6,7 +6,10 @@ use crate::note::Gathered;
 use crate::phi::is_wrong;
 use crate::place::{Does, Step, steps};
 use crate::size::{is_long_blit, is_wrong_alloc};
-use il_ast::{Block, Class, Definition, Extension, Func, Inst, Jump, Text, UnaryOp, Val};
+use il_ast::{
+    Block, Class, Definition, Extension, Func, Inst, Jump, Label, Param, Text, UnaryOp, Val,
+};
+use il_types::label_blocks::block_places;
 use il_types::{BrokenRule, Rule};
 use std::alloc::{AllocError, Global};
 
@@ -27,8 +30,17 @@ fn tell(breaks: &mut Gathered<BrokenRule>, rule: Rule, line: usize) -> bool {
 /// The rules that a text breaks, each at each of its places, by line. What clashes is named at the first of its places.
 pub fn all_broken(alloc: Global, text: &Text) -> Result<Vec<BrokenRule>, AllocError> {
     let mut breaks = Gathered::new(alloc);
-    add_repeated_globals(&mut breaks, text)?;
-    for definition in text.definitions.as_slice() {
+    let definitions = text.definitions.as_slice();
+    let count = text.symbols.len();
+    let named = |it: &Definition| (symbol_of(it).number(), line_of(it));
+    add_repeated(
+        &mut breaks,
+        Rule::DistinctGlobals,
+        count,
+        definitions,
+        named,
+    )?;
+    for definition in definitions {
         match definition {
             Definition::Function(function) => add_function(&mut breaks, function)?,
             Definition::Object(object) => {
@@ -46,36 +58,29 @@ pub fn all_broken(alloc: Global, text: &Text) -> Result<Vec<BrokenRule>, AllocEr
     Ok(list)
 }
 
-/// Counts how often a number is named, up to two times; what is told already counts as once.
-fn name(counts: &mut Vec<u8>, number: usize) {
-    if let Some(count) = counts.get_mut(number) {
-        *count = if *count == 0 { 1 } else { 2 };
+/// Adds each name that several items have, at the line of the first of them. An item is named by a number below this count.
+fn add_repeated<T, F: Fn(&T) -> (usize, usize)>(
+    breaks: &mut Gathered<BrokenRule>,
+    rule: Rule,
+    count: usize,
+    items: &[T],
+    named: F,
+) -> Result<(), AllocError>
+    requires { F.IsAlwaysCallable named }
+{
+    let mut times = vec![in breaks.alloc; 0u8; count]?;
+    for item in items {
+        if let Some(times) = times.get_mut(named(item).0) {
+            *times = times.saturating_add(1);
+        }
     }
-}
-
-/// Whether a number is named twice. From then on it isn't.
-fn take_repeated(counts: &mut Vec<u8>, number: usize) -> bool {
-    if let Some(count) = counts.get_mut(number)
-        && *count > 1
-    {
-        *count = 1;
-        return true;
-    }
-    false
-}
-
-fn is_named(counts: &[u8], number: usize) -> bool {
-    counts.get(number).is_some_and(|count| *count > 0)
-}
-
-fn add_repeated_globals(breaks: &mut Gathered<BrokenRule>, text: &Text) -> Result<(), AllocError> {
-    let mut counts = vec![in breaks.alloc; 0u8; text.symbols.len()]?;
-    for definition in text.definitions.as_slice() {
-        name(&mut counts, symbol_of(definition).number());
-    }
-    for definition in text.definitions.as_slice() {
-        if take_repeated(&mut counts, symbol_of(definition).number()) {
-            tell(breaks, Rule::DistinctGlobals, line_of(definition));
+    for item in items {
+        let (number, line) = named(item);
+        if let Some(times) = times.get_mut(number)
+            && *times > 1
+        {
+            *times = 0;
+            tell(breaks, rule, line);
         }
     }
     Ok(())
@@ -83,55 +88,73 @@ fn add_repeated_globals(breaks: &mut Gathered<BrokenRule>, text: &Text) -> Resul
 
 /// Adds what is broken in a function.
 fn add_function(breaks: &mut Gathered<BrokenRule>, function: &Func) -> Result<(), AllocError> {
-    let steps = steps(breaks.alloc, function)?;
-    let mut classes = vec![in breaks.alloc; Classes::default(); function.temps.len()]?;
-    assign_all(&mut classes, steps.as_slice());
-    add_repeated_params(breaks, function)?;
+    let alloc = breaks.alloc;
+    let count = function.temps.len();
+    let params = function.params.as_slice();
+    let named = |param: &Param| (param.temp.number(), param.line);
+    add_repeated(breaks, Rule::DistinctLocals, count, params, named)?;
     add_blocks(breaks, function)?;
-    add_of_classes(breaks, function, &mut classes, steps.as_slice());
-    Ok(())
-}
-
-fn add_repeated_params(
-    breaks: &mut Gathered<BrokenRule>,
-    function: &Func,
-) -> Result<(), AllocError> {
-    let mut counts = vec![in breaks.alloc; 0u8; function.temps.len()]?;
-    for param in function.params.as_slice() {
-        name(&mut counts, param.temp.number());
-    }
-    for param in function.params.as_slice() {
-        if take_repeated(&mut counts, param.temp.number()) {
-            tell(breaks, Rule::DistinctLocals, param.line);
+    let steps = steps(alloc, function)?;
+    let mut classes = vec![in alloc; Classes::default(); count]?;
+    for step in steps.as_slice() {
+        if let Does::Assigns(temp) = step.does
+            && let Some(classes) = classes.get_mut(temp.number())
+        {
+            match step.class {
+                Class::W => classes.is_word = true,
+                Class::L => classes.is_long = true,
+            }
         }
     }
+    add_of_classes(breaks, function, &mut classes, steps.as_slice());
     Ok(())
 }
 
 /// Adds what is broken of blocks, but for the classes of temporaries.
 fn add_blocks(breaks: &mut Gathered<BrokenRule>, function: &Func) -> Result<(), AllocError> {
     let blocks = function.blocks.as_slice();
-    let mut counts = vec![in breaks.alloc; 0u8; function.labels.len()]?;
-    for block in blocks {
-        name(&mut counts, block.label.number());
-    }
-    let entry = entry_of(blocks, counts.as_slice());
+    let count = function.labels.len();
+    let named = |block: &Block| (block.label.number(), block.line);
+    add_repeated(breaks, Rule::DistinctLocals, count, blocks, named)?;
+    let places = block_places(breaks.alloc, blocks)?;
+    let entry = entry_of(blocks);
     for (number, block) in blocks.iter().enumerate() {
-        if take_repeated(&mut counts, block.label.number()) {
-            tell(breaks, Rule::DistinctLocals, block.line);
+        add_phis(breaks, blocks, block, places.as_slice());
+        for inst in block.insts.as_slice() {
+            if is_wrong_alloc(&inst.item, number == 0) {
+                tell(breaks, Rule::AllocInEntry, inst.line);
+            }
+            if is_long_blit(&inst.item) {
+                tell(breaks, Rule::BlitSize, inst.line);
+            }
         }
-        add_phis(breaks, blocks, block, counts.as_slice());
-        add_insts(breaks, block, number == 0);
-        add_end(breaks, block, entry, counts.as_slice());
+        add_end(breaks, block, entry, places.as_slice());
     }
     Ok(())
 }
 
+/// The number of the label of the first block, where no other block has it.
+fn entry_of(blocks: &[Block]) -> Option<usize> {
+    let (entry, others) = blocks.split_first()?;
+    let is_alone = others.iter().all(|other| other.label != entry.label);
+    is_alone.then_some(entry.label.number())
+}
+
+/// Whether a block has this label, of blocks at these places.
+fn is_known(places: &[Option<usize>], label: Label) -> bool {
+    matches!(places.get(label.number()), Some(Some(_)))
+}
+
 /// Adds the phis that name labels that the function hasn't, and those that don't cover the predecessors.
-fn add_phis(breaks: &mut Gathered<BrokenRule>, blocks: &[Block], block: &Block, counts: &[u8]) {
+fn add_phis(
+    breaks: &mut Gathered<BrokenRule>,
+    blocks: &[Block],
+    block: &Block,
+    places: &[Option<usize>],
+) {
     for phi in block.phis.as_slice() {
         let mut args = phi.args.as_slice().iter();
-        if !args.all(|arg| is_named(counts, arg.from.number())) {
+        if !args.all(|arg| is_known(places, arg.from)) {
             tell(breaks, Rule::KnownLabels, phi.line);
         } else if is_wrong(blocks, block, phi) {
             tell(breaks, Rule::PhiCoversPredecessors, phi.line);
@@ -139,40 +162,24 @@ fn add_phis(breaks: &mut Gathered<BrokenRule>, blocks: &[Block], block: &Block, 
     }
 }
 
-/// Adds the instructions that name wrong sizes.
-fn add_insts(breaks: &mut Gathered<BrokenRule>, block: &Block, is_entry: bool) {
-    for inst in block.insts.as_slice() {
-        if is_wrong_alloc(&inst.item, is_entry) {
-            tell(breaks, Rule::AllocInEntry, inst.line);
-        }
-        if is_long_blit(&inst.item) {
-            tell(breaks, Rule::BlitSize, inst.line);
-        }
-    }
-}
-
 /// Adds what is wrong with the end of a block.
-fn add_end(breaks: &mut Gathered<BrokenRule>, block: &Block, entry: Option<usize>, counts: &[u8]) {
+fn add_end(
+    breaks: &mut Gathered<BrokenRule>,
+    block: &Block,
+    entry: Option<usize>,
+    places: &[Option<usize>],
+) {
     let Some(jump) = &block.jump else {
         tell(breaks, Rule::LastBlockEnds, block.line);
         return;
     };
-    let (one, other) = targets(block);
-    for target in [one, other] {
-        if let Some(label) = target {
-            if !is_named(counts, label.number()) {
-                tell(breaks, Rule::KnownLabels, jump.line);
-            } else if Some(label.number()) == entry {
-                tell(breaks, Rule::EntryNotTarget, jump.line);
-            }
+    for label in targets(block).into_iter().flatten() {
+        if !is_known(places, label) {
+            tell(breaks, Rule::KnownLabels, jump.line);
+        } else if Some(label.number()) == entry {
+            tell(breaks, Rule::EntryNotTarget, jump.line);
         }
     }
-}
-
-/// The label of the first block, where no other block has it.
-fn entry_of(blocks: &[Block], counts: &[u8]) -> Option<usize> {
-    let label = blocks.first()?.label.number();
-    (*counts.get(label)? == 1).then_some(label)
 }
 
 // ---- temporaries and their classes
@@ -185,20 +192,7 @@ struct Classes {
     is_told: bool,
 }
 
-fn assign_all(classes: &mut Vec<Classes>, steps: &[Step]) {
-    for step in steps {
-        if let Does::Assigns(temp) = step.does
-            && let Some(classes) = classes.get_mut(temp.number())
-        {
-            match step.class {
-                Class::W => classes.is_word = true,
-                Class::L => classes.is_long = true,
-            }
-        }
-    }
-}
-
-/// Adds what is broken of temporaries and operands, rule by rule.
+/// Adds what is broken of temporaries and operands, rule by rule: what is assigned with both classes, what doesn't fit its place, and what nothing assigns.
 fn add_of_classes(
     breaks: &mut Gathered<BrokenRule>,
     function: &Func,
@@ -206,38 +200,35 @@ fn add_of_classes(
     steps: &[Step],
 ) {
     for step in steps {
-        add_two_classes(breaks, classes, step);
+        if let Does::Assigns(temp) = step.does
+            && let Some(of) = classes.get_mut(temp.number())
+            && of.is_word
+            && of.is_long
+            && !of.is_told
+        {
+            of.is_told = tell(breaks, Rule::OneType, step.line);
+        }
     }
     for step in steps {
-        if is_misfit(classes.as_slice(), step) {
+        if let Some(value) = step.read_within()
+            && !fits(classes.as_slice(), step.class, value)
+        {
             tell(breaks, Rule::OperandFits, step.line);
         }
     }
     for step in steps {
-        add_undefined(breaks, classes, step);
+        if let Some(temp) = step.temp_read()
+            && let Some(of) = classes.get_mut(temp.number())
+            && !of.is_word
+            && !of.is_long
+            && !of.is_told
+        {
+            of.is_told = tell(breaks, Rule::DefinedTemporaries, step.line);
+        }
     }
     for block in function.blocks.as_slice() {
-        add_results(breaks, block);
-        add_return(breaks, function, classes.as_slice(), block);
+        add_results(breaks, function, classes.as_slice(), block);
     }
-}
-
-/// Adds a temporary that is assigned with both classes, where it isn't told yet.
-fn add_two_classes(breaks: &mut Gathered<BrokenRule>, classes: &mut Vec<Classes>, step: &Step) {
-    if let Does::Assigns(temp) = step.does
-        && let Some(of) = classes.get_mut(temp.number())
-        && of.is_word
-        && of.is_long
-        && !of.is_told
-    {
-        of.is_told = tell(breaks, Rule::OneType, step.line);
-    }
-}
-
-/// Whether a value that a step reads doesn't fit its place; what is returned is none of these.
-fn is_misfit(classes: &[Classes], step: &Step) -> bool {
-    step.read_within()
-        .is_some_and(|value| !fits(classes, step.class, value))
 }
 
 /// Whether a value fits a place.
@@ -251,58 +242,39 @@ fn fits(classes: &[Classes], class: Class, value: Val) -> bool {
     }
 }
 
-/// Adds a temporary that nothing assigns, where it isn't told yet.
-fn add_undefined(breaks: &mut Gathered<BrokenRule>, classes: &mut Vec<Classes>, step: &Step) {
-    if let Some(temp) = step.temp_read()
-        && let Some(of) = classes.get_mut(temp.number())
-        && !of.is_word
-        && !of.is_long
-        && !of.is_told
-    {
-        of.is_told = tell(breaks, Rule::DefinedTemporaries, step.line);
-    }
-}
-
-/// Adds the results of classes that their operations haven't.
-fn add_results(breaks: &mut Gathered<BrokenRule>, block: &Block) {
-    for inst in block.insts.as_slice() {
-        if has_wrong_result(&inst.item) {
-            tell(breaks, Rule::OperandFits, inst.line);
-        }
-    }
-}
-
-fn has_wrong_result(inst: &Inst) -> bool {
-    match inst {
-        Inst::Unary { to, op, value: _ } => to.class == Class::W && gives_long(*op),
-        Inst::Alloc { to, .. } => to.class == Class::W,
-        _ => false,
-    }
-}
-
-fn gives_long(op: UnaryOp) -> bool {
-    match op {
-        UnaryOp::LoadLong => true,
-        UnaryOp::Extend(Extension::SignedWord | Extension::UnsignedWord) => true,
-        UnaryOp::Extend(_) | UnaryOp::Neg | UnaryOp::Copy | UnaryOp::Load(_) => false,
-    }
-}
-
-/// Adds a value that doesn't fit the function's class, where a block returns one.
-fn add_return(
+/// Adds the results of classes that their operations haven't, and a value that doesn't fit the function's class, where the block returns one.
+fn add_results(
     breaks: &mut Gathered<BrokenRule>,
     function: &Func,
     classes: &[Classes],
     block: &Block,
 ) {
+    for inst in block.insts.as_slice() {
+        if has_wrong_result(&inst.item) {
+            tell(breaks, Rule::OperandFits, inst.line);
+        }
+    }
     if let Some(jump) = &block.jump
         && let Jump::Return(Some(value)) = jump.item
-    {
-        let is_fit = function
+        && !function
             .result
-            .is_some_and(|class| fits(classes, class, value));
-        if !is_fit {
-            tell(breaks, Rule::ReturnFits, jump.line);
+            .is_some_and(|class| fits(classes, class, value))
+    {
+        tell(breaks, Rule::ReturnFits, jump.line);
+    }
+}
+
+fn has_wrong_result(inst: &Inst) -> bool {
+    match inst {
+        Inst::Unary { to, op, value: _ } => {
+            to.class == Class::W
+                && matches!(
+                    op,
+                    UnaryOp::LoadLong
+                        | UnaryOp::Extend(Extension::SignedWord | Extension::UnsignedWord)
+                )
         }
+        Inst::Alloc { to, .. } => to.class == Class::W,
+        _ => false,
     }
 }

@@ -1,8 +1,9 @@
-//! Calls by name of functions that have other classes.
+//! Calls by name: those of functions that have other classes, and what results they want.
 use crate::name::{class_word, name_in};
 use crate::note::{Gathered, Note, make_note};
 use il_ast::{Arg, Callee, Class, Dest, Func, InText, Inst, Symbol, Target, Val};
 use obj_link::Linked;
+use std::alloc::{AllocError, Global};
 use text_maker::{TextMaker, say};
 
 /// What a call passes, and where its result goes.
@@ -15,14 +16,21 @@ pub struct Call<'a> {
 /// The calls of a function that are undefined, since the callee has other classes.
 pub fn add_wrong_calls(notes: &mut Gathered<Note>, linked: &Linked<'_>, function: &InText<&Func>) {
     let text = function.text;
-    for block in function.item.blocks.as_slice() {
-        for inst in block.insts.as_slice() {
-            if let Some((name, call)) = call_by_name(&inst.item) {
-                let mut words = TextMaker::new(notes.alloc);
-                say!(words; "{}", name_in(linked, text, name));
-                if add_mistake(&mut words, linked, target(linked, text, name), &call) {
-                    notes.add(make_note(text, inst.line, words));
+    let blocks = function.item.blocks.as_slice().iter();
+    for inst in blocks.flat_map(|block| block.insts.as_slice()) {
+        if let Some((name, call)) = call_by_name(&inst.item) {
+            let mut words = TextMaker::new(notes.alloc);
+            say!(words; "{}", name_in(linked, text, name));
+            let is_wrong = match target(linked, text, name) {
+                Some(Target::Code(callee)) => add_difference(&mut words, linked, &call, callee),
+                Some(Target::Object(_)) => {
+                    words.add(" is data, and no function");
+                    true
                 }
+                None => false,
+            };
+            if is_wrong {
+                notes.add(make_note(text, inst.line, words));
             }
         }
     }
@@ -35,31 +43,11 @@ pub fn call_by_name(inst: &Inst) -> Option<(Symbol, Call<'_>)> {
             to,
             callee: Val::Global(name),
             args,
-        } => Some((
-            *name,
-            Call {
-                to: *to,
-                args: args.as_slice(),
-            },
-        )),
-        _ => None,
-    }
-}
-
-/// Says of a call what is wrong with it. Answers whether anything is.
-fn add_mistake(
-    words: &mut TextMaker,
-    linked: &Linked<'_>,
-    target: Option<Target>,
-    call: &Call<'_>,
-) -> bool {
-    match target {
-        Some(Target::Code(callee)) => add_difference(words, linked, call, callee),
-        Some(Target::Object(_)) => {
-            words.add(" is data, and no function");
-            true
+        } => {
+            let args = args.as_slice();
+            Some((*name, Call { to: *to, args }))
         }
-        None => false,
+        _ => None,
     }
 }
 
@@ -103,26 +91,13 @@ pub fn add_difference(
     let Some((count, gives)) = form(linked, callee) else {
         return false;
     };
-    add_wrong_count(words, call.args.len(), count)
-        || add_wrong_argument(words, linked, call.args, callee)
-        || add_wrong_result(words, call.to, gives)
-}
-
-fn add_wrong_count(words: &mut TextMaker, given: usize, count: usize) -> bool {
+    let given = call.args.len();
     if given != count {
         let plural = if given == 1 { "" } else { "s" };
         say!(words; " is given {given} argument{plural}, and takes {count}");
+        return true;
     }
-    given != count
-}
-
-fn add_wrong_argument(
-    words: &mut TextMaker,
-    linked: &Linked<'_>,
-    args: &[Arg],
-    callee: Callee,
-) -> bool {
-    for (number, arg) in args.iter().enumerate() {
+    for (number, arg) in call.args.iter().enumerate() {
         if let Some(class) = taken(linked, callee, number)
             && class != arg.class
         {
@@ -131,19 +106,38 @@ fn add_wrong_argument(
             return true;
         }
     }
-    false
-}
-
-/// Says how a result differs from what is wanted. Answers whether it does.
-fn add_wrong_result(words: &mut TextMaker, to: Option<Dest>, gives: Option<Class>) -> bool {
-    let Some(to) = to else {
-        return false;
-    };
-    let wanted = class_word(to.class);
-    match gives {
-        Some(class) if class == to.class => return false,
-        Some(class) => say!(words; " gives class {}, and {wanted} is wanted", class_word(class)),
-        None => words.add(" gives no result, and one is wanted"),
+    match (call.to.map(|to| to.class), gives) {
+        (Some(wanted), Some(class)) if class != wanted => {
+            let (wanted, class) = (class_word(wanted), class_word(class));
+            say!(words; " gives class {class}, and {wanted} is wanted");
+        }
+        (Some(_), None) => words.add(" gives no result, and one is wanted"),
+        _ => return false,
     }
     true
+}
+
+/// For each function of a program whether its result is wanted: by the start, or by a call by name.
+pub fn wanted(alloc: Global, linked: &Linked<'_>) -> Result<Vec<bool>, AllocError> {
+    let mut wanted = vec![in alloc; false; linked.functions.len()]?;
+    mark(&mut wanted, linked.main);
+    for function in linked.functions.as_slice() {
+        let text = function.text;
+        let blocks = function.item.blocks.as_slice().iter();
+        for inst in blocks.flat_map(|block| block.insts.as_slice()) {
+            if let Some((name, call)) = call_by_name(&inst.item)
+                && call.to.is_some()
+                && let Some(Target::Code(Callee::Defined(number))) = target(linked, text, name)
+            {
+                mark(&mut wanted, number);
+            }
+        }
+    }
+    Ok(wanted)
+}
+
+fn mark(wanted: &mut Vec<bool>, number: usize) {
+    if let Some(mark) = wanted.get_mut(number) {
+        *mark = true;
+    }
 }

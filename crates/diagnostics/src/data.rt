@@ -8,11 +8,9 @@ use text_maker::{TextMaker, say};
 pub fn add_repeated_global(words: &mut TextMaker, text: &Text, line: usize) {
     if let Some(definition) = definition_at(text, line) {
         let symbol = symbol_of(definition);
-        let others = text.definitions.as_slice().iter();
-        let at = others
-            .map(|other| (symbol_of(other), line_of(other)))
-            .find(|(other, at)| *other == symbol && *at != line)
-            .map_or(line, |(_, at)| at);
+        let mut others = text.definitions.as_slice().iter();
+        let other = others.find(|other| symbol_of(other) == symbol && line_of(other) != line);
+        let at = other.map_or(line, |other| line_of(other));
         say!(words; "{} is defined here and at line {at}", global(text, symbol));
     }
 }
@@ -34,18 +32,15 @@ pub fn add_wrong_fields(words: &mut TextMaker, text: &Text, line: usize) {
 
 /// The first item of a datum that doesn't fit its field.
 fn misfit(object: &DataDef) -> Option<&Item> {
-    object
-        .fields
-        .as_slice()
-        .iter()
-        .find_map(|field| match field {
-            Field::Items { size, items } => items.as_slice().iter().find(|item| match item {
-                Item::Bytes(_) => *size != Size::Byte,
-                Item::Address { .. } => *size != Size::Long,
-                Item::Int(_) => false,
-            }),
-            Field::Zeros(_) => None,
-        })
+    let mut fields = object.fields.as_slice().iter();
+    fields.find_map(|field| match field {
+        Field::Items { size, items } => items.as_slice().iter().find(|item| match item {
+            Item::Bytes(_) => *size != Size::Byte,
+            Item::Address { .. } => *size != Size::Long,
+            Item::Int(_) => false,
+        }),
+        Field::Zeros(_) => None,
+    })
 }
 
 pub fn add_wrong_alignment(words: &mut TextMaker, text: &Text, line: usize) {
@@ -58,12 +53,8 @@ pub fn add_wrong_alignment(words: &mut TextMaker, text: &Text, line: usize) {
 
 /// Whether a datum has an item that doesn't fit its field, or no byte.
 pub fn has_wrong_fields(object: &DataDef) -> bool {
-    !object
-        .fields
-        .as_slice()
-        .iter()
-        .any(|field| has_bytes(field))
-        || misfit(object).is_some()
+    let mut fields = object.fields.as_slice().iter();
+    misfit(object).is_some() || !fields.any(|field| has_bytes(field))
 }
 
 fn has_bytes(field: &Field) -> bool {

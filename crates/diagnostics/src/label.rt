@@ -1,20 +1,20 @@
 //! What is wrong with the labels of a function, and with its parameters.
 use crate::name::{label, temp};
-use il_ast::{Block, Func, Jump, Label, Param, Phi};
+use il_ast::{Block, Func, Jump, Label, Param};
 use text_maker::{TextMaker, say};
 
 /// A label or a parameter that stands twice.
 pub fn add_repeated_local(words: &mut TextMaker, function: &Func, line: usize) {
     let blocks = function.blocks.as_slice();
-    match label_at(blocks, line) {
-        Some(at) => {
-            let mut others = blocks.iter();
-            let other = others.find(|block| block.label == at && block.line != line);
-            let other = other.map_or(line, |block| block.line);
-            let name = label(function, at);
-            say!(words; "{name} is the label of this block and of the one at line {other}");
-        }
-        None => add_repeated_parameter(words, function),
+    let params = function.params.as_slice();
+    if let Some(at) = label_at(blocks, line) {
+        let mut others = blocks.iter();
+        let other = others.find(|block| block.label == at && block.line != line);
+        let other = other.map_or(line, |block| block.line);
+        let name = label(function, at);
+        say!(words; "{name} is the label of this block and of the one at line {other}");
+    } else if let Some(param) = params.iter().find(|param| is_repeated(params, param)) {
+        say!(words; "{} stands twice among the parameters", temp(function, param.temp));
     }
 }
 
@@ -22,19 +22,9 @@ fn label_at(blocks: &[Block], line: usize) -> Option<Label> {
     Some(blocks.iter().find(|block| block.line == line)?.label)
 }
 
-fn add_repeated_parameter(words: &mut TextMaker, function: &Func) {
-    let params = function.params.as_slice();
-    if let Some(param) = params.iter().find(|param| is_repeated(params, param)) {
-        say!(words; "{} stands twice among the parameters", temp(function, param.temp));
-    }
-}
-
 fn is_repeated(params: &[Param], param: &Param) -> bool {
-    params
-        .iter()
-        .filter(|other| other.temp == param.temp)
-        .count()
-        > 1
+    let temps = params.iter().map(|other| other.temp);
+    temps.filter(|temp| *temp == param.temp).count() > 1
 }
 
 /// Whether a function has a block of this label.
@@ -43,18 +33,18 @@ fn has_label(blocks: &[Block], label: Label) -> bool {
 }
 
 /// The labels that a block's jump names; two where it is a branch.
-pub fn targets(block: &Block) -> (Option<Label>, Option<Label>) {
+pub fn targets(block: &Block) -> [Option<Label>; 2] {
     let Some(jump) = &block.jump else {
-        return (None, None);
+        return [None, None];
     };
     match jump.item {
-        Jump::Goto(label) => (Some(label), None),
+        Jump::Goto(label) => [Some(label), None],
         Jump::Branch {
             nonzero,
             otherwise,
             ..
-        } => (Some(nonzero), Some(otherwise)),
-        Jump::Return(_) | Jump::Halt => (None, None),
+        } => [Some(nonzero), Some(otherwise)],
+        Jump::Return(_) | Jump::Halt => [None, None],
     }
 }
 
@@ -70,25 +60,15 @@ pub fn add_unknown_label(words: &mut TextMaker, function: &Func, line: usize) {
     }
 }
 
+/// A label that the function hasn't, of a block's jump or phi at this line.
 fn unknown_in(blocks: &[Block], block: &Block, line: usize) -> Option<Label> {
     if block.jump.as_ref().is_some_and(|jump| jump.line == line) {
-        return unknown_target(blocks, block);
+        let mut labels = targets(block).into_iter().flatten();
+        return labels.find(|label| !has_label(blocks, *label));
     }
     let phi = block.phis.as_slice().iter().find(|phi| phi.line == line)?;
-    unknown_source(blocks, phi)
-}
-
-fn unknown_source(blocks: &[Block], phi: &Phi) -> Option<Label> {
-    let mut args = phi.args.as_slice().iter();
-    Some(args.find(|arg| !has_label(blocks, arg.from))?.from)
-}
-
-fn unknown_target(blocks: &[Block], block: &Block) -> Option<Label> {
-    match targets(block) {
-        (Some(label), _) if !has_label(blocks, label) => Some(label),
-        (_, Some(label)) if !has_label(blocks, label) => Some(label),
-        _ => None,
-    }
+    let mut labels = phi.args.as_slice().iter().map(|arg| arg.from);
+    labels.find(|label| !has_label(blocks, *label))
 }
 
 pub fn add_jump_to_entry(words: &mut TextMaker, function: &Func) {

@@ -36,5 +36,4 @@ mod syntax;
 mod temporary;
 pub mod text;
 pub mod trace;
-mod wanted;
 pub mod warning;

@@ -4,7 +4,7 @@ use crate::limit::program_limit;
 use crate::mention::{line_in, symbol_in};
 use crate::name::{Named, class_word, shown};
 use crate::note::{Note, make_note};
-use il_ast::{Definition, Func, Text};
+use il_ast::{Definition, Text};
 use il_types::Checked;
 use obj_link::LinkError;
 use std::alloc::{AllocError, Global};
@@ -33,26 +33,20 @@ fn defined<'a>(text: &'a Text, name: &[u8]) -> Option<&'a Definition> {
     definitions.find(|definition| symbol_of(definition) == symbol)
 }
 
-/// A name that means nothing in a text that mentions it.
+/// A name that means nothing in a text: the first one that mentions it and doesn't define it.
 fn unknown(alloc: Global, texts: &[Checked], name: &[u8]) -> Result<Note, AllocError> {
-    let (text, line) = unknown_at(alloc, texts, name)?;
     let mut words = TextMaker::new(alloc);
-    let name = Named::global(shown(name));
-    say!(words; "{name} is defined nowhere that this text sees");
-    make_note(text, line, words)
-}
-
-/// The first text that mentions a name and doesn't define it, and the line.
-fn unknown_at(alloc: Global, texts: &[Checked], name: &[u8]) -> Result<(usize, usize), AllocError> {
+    let named = Named::global(shown(name));
+    say!(words; "{named} is defined nowhere that this text sees");
     for (number, checked) in texts.iter().enumerate() {
         if defined(&checked.text, name).is_none()
             && let Some(symbol) = symbol_in(&checked.text, name)
         {
             let line = line_in(alloc, &checked.text, symbol)?;
-            return Ok((number, line.unwrap_or(1)));
+            return make_note(number, line.unwrap_or(1), words);
         }
     }
-    Ok((0, 1))
+    make_note(0, 1, words)
 }
 
 /// The last of these texts that exports a name, and the line.
@@ -84,10 +78,15 @@ fn exported_twice(
     make_note(text, line, words)
 }
 
-/// No `main` of either form is exported.
+/// No `main` of either form is exported: the first one that is exported isn't of these, or the first one isn't exported, or there is none.
 fn no_main(alloc: Global, texts: &[Checked]) -> Result<Note, AllocError> {
     let mut words = TextMaker::new(alloc);
-    let (text, line) = match main_in(texts) {
+    let any = exported(texts, b"main").is_none();
+    let main = texts.iter().enumerate().find_map(|(number, checked)| {
+        let definition = defined(&checked.text, b"main")?;
+        (any || is_exported(definition)).then_some((number, definition))
+    });
+    let (text, line) = match main {
         Some((text, definition)) => {
             add_no_main(&mut words, definition);
             (text, line_of(definition))
@@ -100,37 +99,22 @@ fn no_main(alloc: Global, texts: &[Checked]) -> Result<Note, AllocError> {
     make_note(text, line, words)
 }
 
-/// The first `main` that is exported, or the first one where none is, and its text.
-fn main_in(texts: &[Checked]) -> Option<(usize, &Definition)> {
-    let any = exported(texts, b"main").is_none();
-    texts.iter().enumerate().find_map(|(number, checked)| {
-        let definition = defined(&checked.text, b"main")?;
-        (any || is_exported(definition)).then_some((number, definition))
-    })
-}
-
 /// Why this definition of `main` is none that a program begins with.
 fn add_no_main(words: &mut TextMaker, definition: &Definition) {
     match definition {
         Definition::Function(function) if function.exported => {
             words.add("$main is ");
-            add_form(words, function);
-            words.add(", and not w () or w (w, l)");
+            if let Some(class) = function.result {
+                say!(words; "{} ", class_word(class));
+            }
+            words.add("(");
+            for (number, param) in function.params.as_slice().iter().enumerate() {
+                words.add(if number == 0 { "" } else { ", " });
+                words.add(class_word(param.class));
+            }
+            words.add("), and not w () or w (w, l)");
         }
         Definition::Function(_) => words.add("$main isn't exported"),
         Definition::Object(_) => words.add("$main is data, and no function"),
     }
-}
-
-/// The classes of a function.
-fn add_form(words: &mut TextMaker, function: &Func) {
-    if let Some(class) = function.result {
-        say!(words; "{} ", class_word(class));
-    }
-    words.add("(");
-    for (number, param) in function.params.as_slice().iter().enumerate() {
-        words.add(if number == 0 { "" } else { ", " });
-        words.add(class_word(param.class));
-    }
-    words.add(")");
 }

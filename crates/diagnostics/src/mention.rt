@@ -1,5 +1,5 @@
 //! Where a text first mentions a global name.
-use crate::place::{Does, Step, steps};
+use crate::place::{Step, steps};
 use il_ast::{DataDef, Definition, Field, Item, Symbol, Text, Val};
 use std::alloc::{AllocError, Global};
 
@@ -13,7 +13,13 @@ pub fn symbol_in(text: &Text, name: &[u8]) -> Option<Symbol> {
 /// The line of the first definition that mentions a name besides its own; within a function that of the value.
 pub fn line_in(alloc: Global, text: &Text, symbol: Symbol) -> Result<Option<usize>, AllocError> {
     for definition in text.definitions.as_slice() {
-        let found = mentioned(alloc, definition, symbol)?;
+        let found = match definition {
+            Definition::Function(function) => {
+                let steps = steps(alloc, function)?;
+                read_in(steps.as_slice(), Val::Global(symbol))
+            }
+            Definition::Object(object) => has_address(object, symbol).then_some(object.line),
+        };
         if found.is_some() {
             return Ok(found);
         }
@@ -21,30 +27,11 @@ pub fn line_in(alloc: Global, text: &Text, symbol: Symbol) -> Result<Option<usiz
     Ok(None)
 }
 
-fn mentioned(
-    alloc: Global,
-    definition: &Definition,
-    symbol: Symbol,
-) -> Result<Option<usize>, AllocError> {
-    match definition {
-        Definition::Function(function) => {
-            let steps = steps(alloc, function)?;
-            Ok(read_in(steps.as_slice(), Val::Global(symbol)))
-        }
-        Definition::Object(object) if has_address(object, symbol) => Ok(Some(object.line)),
-        Definition::Object(_) => Ok(None),
-    }
-}
-
 /// The line that first reads a value, or else the one that first returns it.
 fn read_in(steps: &[Step], wanted: Val) -> Option<usize> {
-    let reads = |step: &&Step| match step.does {
-        Does::Reads(value) | Does::Takes(_, value) => value == wanted,
-        Does::Returns(_) | Does::Assigns(_) => false,
-    };
-    let returns = |step: &&Step| matches!(step.does, Does::Returns(value) if value == wanted);
-    let found = steps.iter().find(reads);
-    Some(found.or_else(|| steps.iter().find(returns))?.line)
+    let found = steps.iter().find(|step| step.read_within() == Some(wanted));
+    let found = found.or_else(|| steps.iter().find(|step| step.read() == Some(wanted)));
+    Some(found?.line)
 }
 
 fn has_address(object: &DataDef, name: Symbol) -> bool {

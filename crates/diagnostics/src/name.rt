@@ -32,13 +32,8 @@ pub fn shown(name: &[u8]) -> &str {
 
 /// A name by its number.
 fn by_number(sign: char, names: &[Name], number: usize) -> Named<'_> {
-    match names.get(number) {
-        Some(name) => Named {
-            sign,
-            name: shown(name.as_slice()),
-        },
-        None => Named { sign, name: "?" },
-    }
+    let name = names.get(number).map_or("?", |name| shown(name.as_slice()));
+    Named { sign, name }
 }
 
 pub fn temp(function: &Func, temp: Temp) -> Named<'_> {

@@ -13,16 +13,23 @@ pub struct Paths<'a> {
     blocks: &'a [Block],
     places: Vec<Option<usize>>,
     mark: usize,
-    /// for each block what some path to its start leaves unassigned
-    entered: Vec<BitSet>,
-    /// for each block what it assigns
-    assigned: Vec<BitSet>,
+    /// for each block what is known of it
+    known: Vec<Known>,
     /// what is handed on; then what was told
     spare: BitSet,
     /// the places of the blocks that haven't handed on yet what came in
     waiting: Vec<usize>,
-    /// for each block whether it is one of them
-    waits: Vec<bool>,
+}
+
+/// What is known of a block.
+#[derive(Drop)]
+struct Known {
+    /// what some path to its start leaves unassigned
+    entered: BitSet,
+    /// what it assigns
+    assigned: BitSet,
+    /// whether it hasn't handed on yet what came in
+    waits: bool,
 }
 
 impl<'a> Paths<'a> {
@@ -31,85 +38,73 @@ impl<'a> Paths<'a> {
         let blocks = function.blocks.as_slice();
         let mark = function.temps.len();
         let length = mark.saturating_add(1);
-        let mut entered = no_temps(alloc, length, blocks.len())?;
-        if let Some(entry) = entered.get_mut(0) {
+        let mut known = Vec::new(alloc);
+        for _ in blocks {
+            known.push(Known {
+                entered: BitSet::new(alloc, length)?,
+                assigned: BitSet::new(alloc, length)?,
+                waits: false,
+            })?;
+        }
+        if let Some(entry) = known.get_mut(0) {
             for number in 0..length {
-                put_in(entry, number);
+                put_in(&mut entry.entered, number);
             }
         }
         Ok(Paths {
             blocks,
             places: block_places(alloc, blocks)?,
             mark,
-            entered,
-            assigned: no_temps(alloc, length, blocks.len())?,
+            known,
             spare: BitSet::new(alloc, length)?,
             waiting: vec![in alloc; 0usize; 1]?,
-            waits: vec![in alloc; false; blocks.len()]?,
         })
     }
 
     /// Hands what blocks leave unassigned to the blocks behind them, until nothing more comes in anywhere.
     pub fn settle(&mut self, steps: &[Step]) -> Result<(), AllocError> {
-        self.assign(steps);
+        for step in steps {
+            if let Does::Assigns(temp) = step.does
+                && let Some(block) = self.known.get_mut(step.block)
+            {
+                put_in(&mut block.assigned, temp.number());
+            }
+        }
         for _ in 0..usize::MAX {
             let Some(place) = self.waiting.pop() else {
                 break;
             };
-            self.hand_on(place)?;
+            self.leave(place);
+            if let Some(block) = self.blocks.get(place) {
+                for label in targets(block).into_iter().flatten() {
+                    self.enter(label)?;
+                }
+            }
         }
         self.spare.clear();
         Ok(())
     }
 
-    fn assign(&mut self, steps: &[Step]) {
-        for step in steps {
-            if let Does::Assigns(temp) = step.does
-                && let Some(set) = self.assigned.get_mut(step.block)
-            {
-                put_in(set, temp.number());
+    /// Takes what the block at a place leaves unassigned.
+    fn leave(&mut self, place: usize) {
+        self.spare.clear();
+        if let Some(block) = self.known.get_mut(place) {
+            block.waits = false;
+            let _ = join(&mut self.spare, &block.entered);
+            if self.spare.len() == block.assigned.len() {
+                self.spare.minus(&block.assigned);
             }
         }
     }
 
-    /// Hands what the block at a place leaves unassigned to the blocks behind it.
-    fn hand_on(&mut self, place: usize) -> Result<(), AllocError> {
-        self.leave(place);
-        let blocks = self.blocks;
-        let Some(block) = blocks.get(place) else {
-            return Ok(());
-        };
-        let (one, other) = targets(block);
-        self.enter(one)?;
-        self.enter(other)
-    }
-
-    /// Takes what the block at a place leaves unassigned.
-    fn leave(&mut self, place: usize) {
-        if let Some(waits) = self.waits.get_mut(place) {
-            *waits = false;
-        }
-        self.spare.clear();
-        if let Some(entered) = self.entered.get(place) {
-            let _ = join(&mut self.spare, entered);
-        }
-        if let Some(assigned) = self.assigned.get(place)
-            && self.spare.len() == assigned.len()
-        {
-            self.spare.minus(assigned);
-        }
-    }
-
     /// Hands it to the block of a label, which waits where more comes in.
-    fn enter(&mut self, label: Option<Label>) -> Result<(), AllocError> {
-        if let Some(label) = label
-            && let Some(place) = self.place(label)
-            && let Some(set) = self.entered.get_mut(place)
-            && join(set, &self.spare)
-            && let Some(waits) = self.waits.get_mut(place)
-            && !*waits
+    fn enter(&mut self, label: Label) -> Result<(), AllocError> {
+        if let Some(place) = self.place(label)
+            && let Some(block) = self.known.get_mut(place)
+            && join(&mut block.entered, &self.spare)
+            && !block.waits
         {
-            *waits = true;
+            block.waits = true;
             self.waiting.push(place)?;
         }
         Ok(())
@@ -122,20 +117,28 @@ impl<'a> Paths<'a> {
 
     /// Whether the first block leads to the block at a place.
     pub fn is_reached(&self, place: usize) -> bool {
-        has(self.entered.as_slice(), place, self.mark)
+        self.is_entered(place, self.mark)
+    }
+
+    /// Whether some path to the block at a place leaves a number unassigned.
+    fn is_entered(&self, place: usize, number: usize) -> bool {
+        let block = self.known.get(place);
+        block.is_some_and(|block| is_in(&block.entered, number))
     }
 
     /// The temporary that a step reads and some path leaves unassigned, where none was answered before. The steps are asked for in order.
     pub fn first_read(&mut self, step: &Step) -> Option<Temp> {
         match step.does {
             Does::Reads(Val::Temp(temp)) | Does::Returns(Val::Temp(temp))
-                if has(self.entered.as_slice(), step.block, temp.number()) => { self.told(temp) }
+                if self.is_entered(step.block, temp.number()) => { self.told(temp) }
             Does::Takes(from, Val::Temp(temp)) if self.is_left(from, temp.number()) => {
                 self.told(temp)
             }
             Does::Assigns(temp) => {
-                if let Some(set) = self.entered.get_mut(step.block) {
-                    take_out(set, temp.number());
+                if let Some(block) = self.known.get_mut(step.block)
+                    && temp.number() < block.entered.len()
+                {
+                    block.entered.remove(temp.number());
                 }
                 None
             }
@@ -152,28 +155,16 @@ impl<'a> Paths<'a> {
 
     /// Whether some path through the block of a label leaves a temporary unassigned.
     fn is_left(&self, label: Label, number: usize) -> bool {
-        self.place(label).is_some_and(|place| {
-            has(self.entered.as_slice(), place, number)
-                && !has(self.assigned.as_slice(), place, number)
+        let block = self.place(label).and_then(|place| self.known.get(place));
+        block.is_some_and(|block| {
+            is_in(&block.entered, number) && !is_in(&block.assigned, number)
         })
     }
-}
-
-fn no_temps(alloc: Global, length: usize, count: usize) -> Result<Vec<BitSet>, AllocError> {
-    let mut sets = Vec::new(alloc);
-    for _ in 0..count {
-        sets.push(BitSet::new(alloc, length)?)?;
-    }
-    Ok(sets)
 }
 
 /// Joins a set with another. Answers whether it grew.
 fn join(set: &mut BitSet, other: &BitSet) -> bool {
     set.len() == other.len() && set.union_into(other)
-}
-
-fn has(sets: &[BitSet], place: usize, number: usize) -> bool {
-    sets.get(place).is_some_and(|set| is_in(set, number))
 }
 
 fn is_in(set: &BitSet, number: usize) -> bool {
@@ -183,11 +174,5 @@ fn is_in(set: &BitSet, number: usize) -> bool {
 fn put_in(set: &mut BitSet, number: usize) {
     if number < set.len() {
         set.insert(number);
-    }
-}
-
-fn take_out(set: &mut BitSet, number: usize) {
-    if number < set.len() {
-        set.remove(number);
     }
 }

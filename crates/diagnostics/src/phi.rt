@@ -42,16 +42,13 @@ fn add_wrong_phi(words: &mut TextMaker, function: &Func, block: &Block, phi: &Ph
 /// The line of another phi of the block that assigns the same.
 fn other_phi(block: &Block, phi: &Phi) -> Option<usize> {
     let mut phis = block.phis.as_slice().iter();
-    Some(
-        phis.find(|other| other.to.temp == phi.to.temp && other.line != phi.line)?
-            .line,
-    )
+    let other = phis.find(|other| other.to.temp == phi.to.temp && other.line != phi.line)?;
+    Some(other.line)
 }
 
 /// Whether a block's jump names a label.
 fn leads_to(block: &Block, label: Label) -> bool {
-    let (one, other) = targets(block);
-    one == Some(label) || other == Some(label)
+    targets(block).contains(&Some(label))
 }
 
 /// A predecessor that the phi leaves out.
@@ -79,9 +76,6 @@ fn is_led(blocks: &[Block], block: &Block, from: Label) -> bool {
 
 /// How often the phi has a label.
 fn times(phi: &Phi, label: Label) -> usize {
-    phi.args
-        .as_slice()
-        .iter()
-        .filter(|arg| arg.from == label)
-        .count()
+    let labels = phi.args.as_slice().iter().map(|arg| arg.from);
+    labels.filter(|from| *from == label).count()
 }

@@ -1,6 +1,6 @@
 //! What the lines of a function do: which values they read, and which temporaries they assign.
 use crate::note::Gathered;
-use il_ast::{Block, Class, Dest, Func, Inst, Jump, Label, Lined, Phi, Temp, Val};
+use il_ast::{Class, Dest, Func, Inst, Jump, Label, Lined, Phi, Temp, Val};
 use il_types::classes::{left_class, operand_class, right_class, stored_class};
 use std::alloc::{AllocError, Global};
 
@@ -45,11 +45,9 @@ impl Step {
 
     /// The temporary that is read, or returned.
     pub fn temp_read(&self) -> Option<Temp> {
-        match self.does {
-            Does::Reads(Val::Temp(temp))
-            | Does::Takes(_, Val::Temp(temp))
-            | Does::Returns(Val::Temp(temp)) => Some(temp),
-            _ => None,
+        match self.read()? {
+            Val::Temp(temp) => Some(temp),
+            Val::Int(_) | Val::Global(_) => None,
         }
     }
 
@@ -82,18 +80,6 @@ impl StepList {
             class,
             does,
         }));
-    }
-
-    fn add_block(&mut self, block: &Block) {
-        for phi in block.phis.as_slice() {
-            self.add_phi(phi);
-        }
-        for inst in block.insts.as_slice() {
-            self.add_inst(inst);
-        }
-        if let Some(jump) = &block.jump {
-            self.add_jump(jump);
-        }
     }
 
     /// Adds what a phi does.
@@ -164,7 +150,15 @@ pub fn steps(alloc: Global, function: &Func) -> Result<Vec<Step>, AllocError> {
     }
     for (number, block) in function.blocks.as_slice().iter().enumerate() {
         steps.block = number;
-        steps.add_block(block);
+        for phi in block.phis.as_slice() {
+            steps.add_phi(phi);
+        }
+        for inst in block.insts.as_slice() {
+            steps.add_inst(inst);
+        }
+        if let Some(jump) = &block.jump {
+            steps.add_jump(jump);
+        }
     }
     steps.finish()
 }

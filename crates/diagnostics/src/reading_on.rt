@@ -10,7 +10,8 @@ use text_maker::TextMaker;
 /// The first mistakes against the grammar in the functions and data of a text behind the place where the reading of it ended.
 pub fn behind_stop(alloc: Global, number: usize, bytes: &[u8]) -> Result<Vec<Remark>, AllocError> {
     let mut remarks = Gathered::new(alloc);
-    let mut place = Place { at: 0, line: 1 };
+    let mut at = 0;
+    let mut line: usize = 1;
     let mut head = next_head(bytes, stop(alloc, bytes));
     for _ in 0..usize::MAX {
         let Some(start) = head else {
@@ -22,41 +23,17 @@ pub fn behind_stop(alloc: Global, number: usize, bytes: &[u8]) -> Result<Vec<Rem
             Ok(_) => {}
             Err(ReadError::Memory) => remarks.add(Err(AllocError)),
             Err(ReadError::Syntax { .. }) => {
-                place.go_to(bytes, start.saturating_add(stop(alloc, part)));
-                remarks.add(mistake_at(alloc, number, bytes, &place));
+                let stopped = start.saturating_add(stop(alloc, part));
+                let between = bytes.get(at..stopped).unwrap_or(&[]);
+                line = line.saturating_add(between.iter().filter(|byte| **byte == b'\n').count());
+                at = stopped;
+                let mut words = TextMaker::new(alloc);
+                add_unexpected(&mut words, bytes.get(at..).unwrap_or(&[]));
+                remarks.add(make_remark(None, number, line, words));
             }
         }
     }
     remarks.finish()
-}
-
-/// A place in a text, with its line.
-#[derive(Drop)]
-struct Place {
-    at: usize,
-    line: usize,
-}
-
-impl Place {
-    /// Goes on to a later place.
-    fn go_to(&mut self, bytes: &[u8], at: usize) {
-        let between = bytes.get(self.at..at).unwrap_or(&[]);
-        let lines = between.iter().filter(|byte| **byte == b'\n').count();
-        self.line = self.line.saturating_add(lines);
-        self.at = at;
-    }
-}
-
-/// What is said of the mistake at a place of the text with this number.
-fn mistake_at(
-    alloc: Global,
-    number: usize,
-    bytes: &[u8],
-    place: &Place,
-) -> Result<Remark, AllocError> {
-    let mut words = TextMaker::new(alloc);
-    add_unexpected(&mut words, bytes.get(place.at..).unwrap_or(&[]));
-    make_remark(None, number, place.line, words)
 }
 
 /// The first place from here on that a function or a datum begins at: here, or at the first word of a later line.
@@ -64,7 +41,7 @@ fn next_head(bytes: &[u8], from: usize) -> Option<usize> {
     let mut is_first = true;
     for (number, byte) in bytes.get(from..).unwrap_or(&[]).iter().enumerate() {
         let at = from.saturating_add(number);
-        if is_first && is_head(bytes, at) {
+        if is_first && (begins_body(bytes, at) || is_word(bytes, at, b"export")) {
             return Some(at);
         }
         is_first = *byte == b'\n' || is_first && (*byte == b' ' || *byte == b'\t');
@@ -78,21 +55,16 @@ fn behind_head(bytes: &[u8], start: usize) -> usize {
     if !is_word(bytes, start, b"export") {
         return behind;
     }
-    for (number, byte) in bytes.get(behind..).unwrap_or(&[]).iter().enumerate() {
-        let at = behind.saturating_add(number);
-        if is_word(bytes, at, b"function") || is_word(bytes, at, b"data") {
-            return at.saturating_add(1);
-        }
-        if *byte == b'{' {
-            return behind;
-        }
+    let mut places = behind..bytes.len();
+    match places.find(|at| begins_body(bytes, *at) || bytes.get(*at) == Some(&b'{')) {
+        Some(at) if begins_body(bytes, at) => at.saturating_add(1),
+        _ => behind,
     }
-    behind
 }
 
-/// Whether a word stands at a place that begins a function or a datum.
-fn is_head(bytes: &[u8], at: usize) -> bool {
-    is_word(bytes, at, b"function") || is_word(bytes, at, b"data") || is_word(bytes, at, b"export")
+/// Whether `function` or `data` stands at a place.
+fn begins_body(bytes: &[u8], at: usize) -> bool {
+    is_word(bytes, at, b"function") || is_word(bytes, at, b"data")
 }
 
 /// Whether this word stands at a place, and no longer one.

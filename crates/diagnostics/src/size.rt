@@ -12,10 +12,7 @@ fn instruction_at(block: &Block, line: usize) -> Option<&Inst> {
 
 /// Whether an instruction is an `alloc` outside the first block, or of a size that it may not have.
 pub fn is_wrong_alloc(inst: &Inst, is_entry: bool) -> bool {
-    match inst {
-        Inst::Alloc { size, .. } => !is_entry || *size == 0 || *size > ALLOC_BYTES,
-        _ => false,
-    }
+    matches!(inst, Inst::Alloc { size, .. } if !is_entry || *size == 0 || *size > ALLOC_BYTES)
 }
 
 /// Whether an instruction is a `blit` of too many bytes.

@@ -25,11 +25,8 @@ fn add_token(words: &mut TextMaker, token: &[u8]) {
         Some(start) => (start, ".."),
         None => (token, ""),
     };
-    say!(words; "`{}{dots}` has no place here{}", shown(start), hint(token));
-}
-
-fn shown(bytes: &[u8]) -> &str {
-    str::from_utf8(bytes).unwrap_or("\"..\"")
+    let start = str::from_utf8(start).unwrap_or("\"..\"");
+    say!(words; "`{start}{dots}` has no place here{}", hint(token));
 }
 
 /// Words that other dialects of the language have, or that stand elsewhere, and what to know of each.

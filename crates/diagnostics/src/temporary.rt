@@ -1,30 +1,23 @@
 //! What is wrong with the temporaries of a function.
 use crate::name::{class_word, global, temp};
 use crate::place::{Does, Step, class_of};
-use il_ast::{Class, Func, Temp, Text, Val};
+use il_ast::{Class, Func, Text, Val};
 use text_maker::{TextMaker, say};
 
 /// A temporary of two classes.
 pub fn add_two_classes(words: &mut TextMaker, function: &Func, steps: &[Step], line: usize) {
-    for step in steps {
-        if let Does::Assigns(assigned) = step.does
-            && step.line == line
-            && let Some(other) = other_class(steps, assigned, step.class)
-        {
-            let name = temp(function, assigned);
-            let (here, there) = (class_word(step.class), class_word(other.class));
-            let at = other.line;
-            say!(words; "{name} has class {here} here and class {there} at line {at}");
-            return;
+    for step in steps.iter().filter(|step| step.line == line) {
+        if let Does::Assigns(assigned) = step.does {
+            let mut others = steps.iter().filter(|other| other.assigns(assigned));
+            if let Some(other) = others.find(|other| other.class != step.class) {
+                let name = temp(function, assigned);
+                let (here, there) = (class_word(step.class), class_word(other.class));
+                let at = other.line;
+                say!(words; "{name} has class {here} here and class {there} at line {at}");
+                return;
+            }
         }
     }
-}
-
-/// Another step that assigns the temporary, with another class.
-fn other_class(steps: &[Step], temp: Temp, class: Class) -> Option<&Step> {
-    steps
-        .iter()
-        .find(|step| step.assigns(temp) && step.class != class)
 }
 
 /// An operand that doesn't fit its place, or a result of a class that its operation hasn't.
@@ -35,36 +28,21 @@ pub fn add_misfit(
     steps: &[Step],
     line: usize,
 ) {
-    for step in steps {
-        if step.line == line && add_wrong_use(words, text, function, steps, step) {
-            return;
+    for step in steps.iter().filter(|step| step.line == line) {
+        match step.read_within() {
+            Some(Val::Temp(read))
+                if step.class == Class::L && class_of(steps, read) == Some(Class::W) => {
+                let name = temp(function, read);
+                return say!(words; "{name} has class w and stands in an l place");
+            }
+            Some(Val::Global(symbol)) if step.class == Class::W => {
+                let name = global(text, symbol);
+                return say!(words; "{name} is an address and stands in a w place");
+            }
+            _ => {}
         }
     }
     words.add("the result of this operation has class l, and not w");
-}
-
-/// Says of a value that doesn't fit its place what it is. Answers whether it doesn't.
-fn add_wrong_use(
-    words: &mut TextMaker,
-    text: &Text,
-    function: &Func,
-    steps: &[Step],
-    step: &Step,
-) -> bool {
-    let Some(value) = step.read_within() else {
-        return false;
-    };
-    match value {
-        Val::Temp(read) if step.class == Class::L && class_of(steps, read) == Some(Class::W) => {
-            say!(words; "{} has class w and stands in an l place", temp(function, read));
-            true
-        }
-        Val::Global(symbol) if step.class == Class::W => {
-            say!(words; "{} is an address and stands in a w place", global(text, symbol));
-            true
-        }
-        _ => false,
-    }
 }
 
 /// A value that is returned from a function of another class, or of none.
@@ -77,18 +55,13 @@ pub fn add_wrong_return(words: &mut TextMaker, function: &Func) {
     }
 }
 
-/// A temporary that is used and assigned nowhere.
+/// A temporary that is used and assigned nowhere: the first such one in a line.
 pub fn add_undefined(words: &mut TextMaker, function: &Func, steps: &[Step], line: usize) {
-    match undefined(steps, line) {
+    let of_line = steps.iter().filter(|step| step.line == line);
+    let mut read = of_line.filter_map(|step| step.temp_read());
+    match read.find(|temp| class_of(steps, *temp).is_none()) {
         Some(used) => say!(words; "{}", temp(function, used)),
         None => words.add("a temporary"),
     }
     words.add(" is used, and assigned nowhere in the function");
-}
-
-/// The first temporary in a line that nothing assigns.
-fn undefined(steps: &[Step], line: usize) -> Option<Temp> {
-    let of_line = steps.iter().filter(|step| step.line == line);
-    let mut read = of_line.filter_map(|step| step.temp_read());
-    read.find(|temp| class_of(steps, *temp).is_none())
 }

@@ -5,15 +5,15 @@ use crate::broken::{all_broken, is_same};
 use crate::data::{add_repeated_global, add_wrong_alignment, add_wrong_fields};
 use crate::definition::function_at;
 use crate::label::{add_jump_to_entry, add_open_end, add_repeated_local, add_unknown_label};
-use crate::limit::text_limit;
-use crate::note::{Gathered, Note};
+use crate::limit::add_text_limit;
+use crate::note::{Gathered, Note, make_note};
 use crate::phi::add_uncovered;
-use crate::place::{Step, steps};
+use crate::place::steps;
 use crate::remark::{Remark, make_remark};
 use crate::size::{add_long_blit, add_wrong_alloc};
 use crate::syntax::add_unexpected;
 use crate::temporary::{add_misfit, add_two_classes, add_undefined, add_wrong_return};
-use il_ast::{Func, Text};
+use il_ast::Text;
 use il_reader::read::{read, stop};
 use il_types::{BrokenRule, Rule};
 use std::alloc::{AllocError, Global};
@@ -29,10 +29,7 @@ pub fn syntax(alloc: Global, bytes: &[u8]) -> Result<String, AllocError> {
 
 /// Which names break a rule at a line.
 pub fn rule(alloc: Global, bytes: &[u8], fault: BrokenRule) -> Result<String, AllocError> {
-    let text = text_of(alloc, bytes)?;
-    let mut words = TextMaker::new(alloc);
-    add_rule(alloc, &mut words, &text, fault)?;
-    words.finish()
+    rule_words(alloc, &text_of(alloc, bytes)?, fault)?.finish()
 }
 
 /// A text that was read before.
@@ -57,7 +54,8 @@ pub fn other_rules(
     let mut last = fault;
     for other in others.as_slice() {
         if left > 0 && !is_same(*other, fault) && !is_same(*other, last) {
-            remarks.add(remark_of(alloc, number, &text, *other));
+            let words = rule_words(alloc, &text, *other)?;
+            remarks.add(make_remark(Some(other.rule), number, other.line, words));
             left -= 1;
             last = *other;
         }
@@ -65,65 +63,57 @@ pub fn other_rules(
     remarks.finish()
 }
 
-/// What is said of one of a text's broken rules.
-fn remark_of(
-    alloc: Global,
-    number: usize,
-    text: &Text,
-    fault: BrokenRule,
-) -> Result<Remark, AllocError> {
-    let mut words = TextMaker::new(alloc);
-    add_rule(alloc, &mut words, text, fault)?;
-    make_remark(Some(fault.rule), number, fault.line, words)
-}
-
 /// Which limit the text with this number passes, and where.
 pub fn limit(alloc: Global, number: usize, bytes: &[u8]) -> Result<Note, AllocError>
     ensures { IfOk result (λ note. note.text ≡ number) }
 {
-    text_limit(alloc, number, &text_of(alloc, bytes)?)
+    let mut words = TextMaker::new(alloc);
+    let line = add_text_limit(&mut words, &text_of(alloc, bytes)?);
+    make_note(number, line, words)
 }
 
 /// Says which names break a rule.
-fn add_rule(
-    alloc: Global,
-    words: &mut TextMaker,
-    text: &Text,
-    fault: BrokenRule,
-) -> Result<(), AllocError> {
+fn rule_words(alloc: Global, text: &Text, fault: BrokenRule) -> Result<TextMaker, AllocError> {
+    let mut words = TextMaker::new(alloc);
     let line = fault.line;
     match (fault.rule, function_at(text, line)) {
-        (Rule::DistinctGlobals, _) => add_repeated_global(words, text, line),
-        (Rule::DataFields, _) => add_wrong_fields(words, text, line),
-        (Rule::Alignment, _) => add_wrong_alignment(words, text, line),
+        (Rule::DistinctGlobals, _) => add_repeated_global(&mut words, text, line),
+        (Rule::DataFields, _) => add_wrong_fields(&mut words, text, line),
+        (Rule::Alignment, _) => add_wrong_alignment(&mut words, text, line),
         (_, None) => {}
-        (Rule::DistinctLocals, Some(function)) => add_repeated_local(words, function, line),
-        (Rule::KnownLabels, Some(function)) => add_unknown_label(words, function, line),
-        (Rule::EntryNotTarget, Some(function)) => add_jump_to_entry(words, function),
-        (Rule::LastBlockEnds, Some(function)) => add_open_end(words, function, line),
-        (Rule::PhiCoversPredecessors, Some(function)) => add_uncovered(words, function, line),
-        (Rule::AllocInEntry, Some(function)) => add_wrong_alloc(words, function, line),
-        (Rule::ReturnFits, Some(function)) => add_wrong_return(words, function),
-        (Rule::BlitSize, Some(function)) => add_long_blit(words, function, line),
-        (Rule::OneType | Rule::OperandFits | Rule::DefinedTemporaries, Some(function)) => {
-            let steps = steps(alloc, function)?;
-            add_rule_of_steps(words, text, function, steps.as_slice(), fault);
+        (Rule::DistinctLocals, Some(function)) => add_repeated_local(&mut words, function, line),
+        (Rule::KnownLabels, Some(function)) => add_unknown_label(&mut words, function, line),
+        (Rule::EntryNotTarget, Some(function)) => add_jump_to_entry(&mut words, function),
+        (Rule::LastBlockEnds, Some(function)) => add_open_end(&mut words, function, line),
+        (Rule::PhiCoversPredecessors, Some(function)) => add_uncovered(&mut words, function, line),
+        (Rule::AllocInEntry, Some(function)) => add_wrong_alloc(&mut words, function, line),
+        (Rule::ReturnFits, Some(function)) => add_wrong_return(&mut words, function),
+        (Rule::BlitSize, Some(function)) => add_long_blit(&mut words, function, line),
+        (Rule::OneType, Some(function)) => {
+            add_two_classes(
+                &mut words,
+                function,
+                steps(alloc, function)?.as_slice(),
+                line,
+            )
+        }
+        (Rule::OperandFits, Some(function)) => {
+            add_misfit(
+                &mut words,
+                text,
+                function,
+                steps(alloc, function)?.as_slice(),
+                line,
+            )
+        }
+        (Rule::DefinedTemporaries, Some(function)) => {
+            add_undefined(
+                &mut words,
+                function,
+                steps(alloc, function)?.as_slice(),
+                line,
+            )
         }
     }
-    Ok(())
-}
-
-/// Says which temporaries of a function break a rule.
-fn add_rule_of_steps(
-    words: &mut TextMaker,
-    text: &Text,
-    function: &Func,
-    steps: &[Step],
-    fault: BrokenRule,
-) {
-    match fault.rule {
-        Rule::OneType => add_two_classes(words, function, steps, fault.line),
-        Rule::OperandFits => add_misfit(words, text, function, steps, fault.line),
-        _ => add_undefined(words, function, steps, fault.line),
-    }
+    Ok(words)
 }

@@ -4,7 +4,6 @@
 //! many bytes it has, and where it was made), why it has no meaning or there is too little stack for it, and which calls it stands in.
 
 mod access;
-mod calls;
 mod cause;
 mod needs;
 mod operation;

@@ -1,11 +1,10 @@
 //! What is likely a mistake in a program.
-use crate::call::add_wrong_calls;
+use crate::call::{add_wrong_calls, wanted};
 use crate::comparison::add_wrong_comparisons;
 use crate::name::{label, name_in, temp};
 use crate::note::{Gathered, Note, make_note};
 use crate::paths::Paths;
 use crate::place::{Step, steps};
-use crate::wanted::wanted;
 use il_ast::{Func, InText, Jump};
 use obj_link::Linked;
 use std::alloc::{AllocError, Global};

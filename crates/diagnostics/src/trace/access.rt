@@ -5,26 +5,26 @@ use text_maker::say;
 
 /// Says why so many bytes at an address are none that can be accessed. Answers whether they are none.
 pub fn add_no_access(story: &mut Story<'_>, at: Option<Value>, count: u64) -> bool {
-    match at {
-        Some(Value::Integer(_)) => story.words.add("the address is a number, and no pointer"),
-        Some(Value::Function(_)) => story.words.add("the address is a function"),
-        Some(Value::Pointer { block, offset }) => return add_outside(story, block, offset, count),
-        None => return false,
-    }
-    true
-}
-
-/// The same of bytes from an offset of a block on.
-fn add_outside(story: &mut Story<'_>, block: u128, offset: u64, count: u64) -> bool {
     let words = &mut story.words;
-    let from = offset.cast_signed();
-    match story.running.block_size(block) {
-        None => words.add("the block is dead, since its function has returned"),
-        Some(size) if offset <= size as u64 && count <= size as u64 - offset => return false,
-        Some(_) if count == 1 => say!(words; "the byte at offset {from} is outside its block"),
-        Some(_) => {
-            say!(words; "the {count} bytes from offset {from} on are outside its block");
+    match at {
+        Some(Value::Integer(_)) => words.add("the address is a number, and no pointer"),
+        Some(Value::Function(_)) => words.add("the address is a function"),
+        Some(Value::Pointer { block, offset }) => {
+            let from = offset.cast_signed();
+            match story.running.block_size(block) {
+                None => words.add("the block is dead, since its function has returned"),
+                Some(size) if offset <= size as u64 && count <= size as u64 - offset => {
+                    return false;
+                }
+                Some(_) if count == 1 => {
+                    say!(words; "the byte at offset {from} is outside its block")
+                }
+                Some(_) => {
+                    say!(words; "the {count} bytes from offset {from} on are outside its block")
+                }
+            }
         }
+        None => return false,
     }
     true
 }

@@ -2,7 +2,6 @@
 use crate::call::{Call, add_difference};
 use crate::label::targets;
 use crate::name::add_operand;
-use crate::place::Step;
 use crate::trace::access::{add_blank, add_no_access};
 use crate::trace::operation::add_no_value;
 use crate::trace::source::{Story, function_at};
@@ -16,17 +15,25 @@ use text_maker::say;
 /// What is said where no more is known.
 const NO_MEANING: &str = "this has no meaning";
 
-/// Adds a line that says why a turn has no meaning.
+/// Adds a line that says why a turn has no meaning: which is the first operand that has no value, or none for its place, or else the reason.
 pub fn add_cause(alloc: Global, story: &mut Story<'_>, place: Place) -> Result<(), AllocError> {
     if let Some(function) = function_at(story.source, place.function)
         && let Some(block) = place.in_block(story.source.linked)
     {
-        let target = taken_target(story, function.text, block);
-        let steps = steps_of(alloc, function.item, block, place.next, [target, None])?;
+        let target = [taken_target(story, function.text, block), None];
+        let steps = steps_of(alloc, function.item, block, place.next, target)?;
         story.words.add("    ");
-        if !add_unfit_operand(story, function, block.label, steps.as_slice()) {
-            add_reason(story, function, place, block);
+        for step in steps.as_slice() {
+            if let Some(operand) = value_read(step, block.label)
+                && let Some(reason) = unfit(value_of(story, function.text, &operand), step.class)
+            {
+                add_operand(&mut story.words, story.source.linked, function, operand);
+                story.words.add(reason);
+                story.words.add("\n");
+                return Ok(());
+            }
         }
+        add_reason(story, function, place, block);
         story.words.add("\n");
     }
     Ok(())
@@ -34,35 +41,15 @@ pub fn add_cause(alloc: Global, story: &mut Story<'_>, place: Place) -> Result<(
 
 /// The label that a block's jump leads to.
 fn taken_target(story: &Story<'_>, text: usize, block: &Block) -> Option<Label> {
-    let (one, other) = targets(block);
+    let targets = targets(block);
     if let Some(jump) = &block.jump
         && let Jump::Branch { on, .. } = jump.item
         && let Some(Value::Integer(number)) = value_of(story, text, &on)
         && number % 0x1_0000_0000 == 0
     {
-        return other;
+        return targets[1];
     }
-    one
-}
-
-/// Says of the first operand that has no value, or none for its place, what it is. Answers whether there is one.
-fn add_unfit_operand(
-    story: &mut Story<'_>,
-    function: &InText<&Func>,
-    label: Label,
-    steps: &[Step],
-) -> bool {
-    for step in steps {
-        if let Some(operand) = value_read(step, label) {
-            let value = value_of(story, function.text, &operand);
-            if let Some(reason) = unfit(value, step.class) {
-                add_operand(&mut story.words, story.source.linked, function, operand);
-                story.words.add(reason);
-                return true;
-            }
-        }
-    }
-    false
+    targets[0]
 }
 
 /// Why a value can't be read in a place of a class.
@@ -174,21 +161,17 @@ fn add_of_write(story: &mut Story<'_>, text: usize, call: &Call<'_>) {
 /// Why a jump has no meaning whose condition and phis have values.
 fn add_of_jump(story: &mut Story<'_>, function: &InText<&Func>, block: &Block) {
     let Some(jump) = &block.jump else {
-        story.words.add(NO_MEANING);
-        return;
+        return story.words.add(NO_MEANING);
     };
-    match jump.item {
-        Jump::Return(None) => story
-            .words
-            .add("no value is returned, and the call wants one"),
+    let reason = match jump.item {
+        Jump::Return(None) => "no value is returned, and the call wants one",
         Jump::Return(Some(operand)) => {
+            add_operand(&mut story.words, story.source.linked, function, operand);
             let value = value_of(story, function.text, &operand);
             let class = function.item.result.unwrap_or(Class::L);
-            add_operand(&mut story.words, story.source.linked, function, operand);
-            story
-                .words
-                .add(unfit(value, class).unwrap_or(" can't be returned"));
+            unfit(value, class).unwrap_or(" can't be returned")
         }
-        Jump::Goto(_) | Jump::Branch { .. } | Jump::Halt => story.words.add(NO_MEANING),
-    }
+        Jump::Goto(_) | Jump::Branch { .. } | Jump::Halt => NO_MEANING,
+    };
+    story.words.add(reason);
 }

@@ -3,7 +3,6 @@ use crate::trace::source::{Source, Story, function_at, function_name};
 use crate::trace::turn::value_of;
 use il_ast::limits::STACK_ROOM;
 use il_ast::{Callee, Inst, Value};
-use il_interp::pieces::Running;
 use il_interp::trace::Place;
 use il_types::cost::capped_need;
 use std::alloc::{AllocError, Global};
@@ -32,9 +31,18 @@ pub fn add_need_of_main(words: &mut TextMaker, source: &Source<'_>) {
 /// Adds what the call of a turn needs, and what each function has of the stack that the turn stands in.
 pub fn add_needs(alloc: Global, story: &mut Story<'_>, place: Place) -> Result<(), AllocError> {
     let source = story.source;
-    let calls = calls_of(alloc, source, story.running, place)?;
+    let mut calls = vec![in alloc; 0u64; source.linked.functions.len()]?;
+    count(&mut calls, place.function);
+    for number in 0..story.running.callers() {
+        if let Some(caller) = story.running.caller(number) {
+            count(&mut calls, caller.function);
+        }
+    }
     if let Some(number) = called(story, place) {
-        let left = u64::from(STACK_ROOM).saturating_sub(taken(source, calls.as_slice()));
+        let mut left = u64::from(STACK_ROOM);
+        for (number, count) in calls.as_slice().iter().enumerate() {
+            left = left.saturating_sub(count.saturating_mul(need_of(source, number)));
+        }
         add_need(&mut story.words, source, number, left);
     }
     add_shares(&mut story.words, source, calls.as_slice());
@@ -53,47 +61,19 @@ fn called(story: &Story<'_>, place: Place) -> Option<usize> {
     }
 }
 
-/// For each function how many calls of it a turn stands in.
-fn calls_of(
-    alloc: Global,
-    source: &Source<'_>,
-    running: &Running<'_>,
-    place: Place,
-) -> Result<Vec<u64>, AllocError> {
-    let mut calls = vec![in alloc; 0u64; source.linked.functions.len()]?;
-    count(&mut calls, place.function);
-    for number in 0..running.callers() {
-        if let Some(caller) = running.caller(number) {
-            count(&mut calls, caller.function);
-        }
-    }
-    Ok(calls)
-}
-
 fn count(calls: &mut Vec<u64>, number: usize) {
     if let Some(count) = calls.get_mut(number) {
         *count = count.saturating_add(1);
     }
 }
 
-/// How much stack so many calls take.
-fn taken(source: &Source<'_>, calls: &[u64]) -> u64 {
-    calls
-        .iter()
-        .enumerate()
-        .fold(0, |sum: u64, (number, count)| {
-            sum.saturating_add(count.saturating_mul(need_of(source, number)))
-        })
-}
-
 /// Adds a line for each function that is called, as far as they are told.
 fn add_shares(words: &mut TextMaker, source: &Source<'_>, calls: &[u64]) {
     let called = calls.iter().enumerate().filter(|(_, count)| **count > 0);
     for (number, count) in called.take(MOST_FUNCTIONS) {
-        let (plural, each) = if *count == 1 {
-            ("", "")
-        } else {
-            ("s", " each")
+        let (plural, each) = match count {
+            1 => ("", ""),
+            _ => ("s", " each"),
         };
         let name = function_name(source, number);
         let need = need_of(source, number);

@@ -4,24 +4,34 @@ use il_ast::{BinaryOp, Condition, Value};
 
 /// Says why an operation on these values has none.
 pub fn add_no_value(story: &mut Story<'_>, op: BinaryOp, left: Value, right: Value) {
-    let reason = match (left, right) {
-        (Value::Integer(_), Value::Integer(divisor)) => of_quotient(divisor),
-        (Value::Function(_), _) | (_, Value::Function(_)) => of_function(op),
-        _ => match op {
-            BinaryOp::Compare(on, _) => of_order(story, on, left, right),
-            BinaryOp::Sub => of_difference(left),
-            _ => of_pointer(op),
-        },
-    };
+    let reason = why_none(story, op, left, right);
     story.words.add(reason);
 }
 
-/// Only divisions of numbers have no value.
-fn of_quotient(divisor: u64) -> &'static str {
-    if divisor % 0x1_0000_0000 == 0 {
-        "a division by 0"
-    } else {
-        "the least number divided by -1, whose quotient is none"
+/// Why an operation on these values has none. Of numbers only divisions have no value.
+fn why_none(story: &Story<'_>, op: BinaryOp, left: Value, right: Value) -> &'static str {
+    match (left, right) {
+        (Value::Integer(_), Value::Integer(divisor)) if divisor % 0x1_0000_0000 == 0 => {
+            "a division by 0"
+        }
+        (Value::Integer(_), Value::Integer(_)) => {
+            "the least number divided by -1, whose quotient is none"
+        }
+        (Value::Function(_), _) | (_, Value::Function(_)) => of_function(op),
+        (Value::Pointer { .. }, _) if matches!(op, BinaryOp::Sub) => {
+            "pointers into two blocks have no difference"
+        }
+        _ => match op {
+            BinaryOp::Compare(on, _) => of_order(story, on, left, right),
+            BinaryOp::Add => "two pointers have no sum",
+            BinaryOp::Sub => "a pointer can't be subtracted from a number",
+            BinaryOp::And | BinaryOp::Or | BinaryOp::Xor => "a pointer can't be masked",
+            BinaryOp::Mul => "a pointer can't be multiplied",
+            BinaryOp::Div | BinaryOp::Rem | BinaryOp::Udiv | BinaryOp::Urem => {
+                "a pointer can't be divided, and nothing by it"
+            }
+            BinaryOp::Sar | BinaryOp::Shr | BinaryOp::Shl => "a pointer can't be shifted",
+        },
     }
 }
 
@@ -32,29 +42,6 @@ fn of_function(op: BinaryOp) -> &'static str {
         }
         BinaryOp::Compare(..) => "functions have no order",
         _ => "there is no arithmetic on functions",
-    }
-}
-
-/// Why an operation that has a pointer among its operands has no value.
-fn of_pointer(op: BinaryOp) -> &'static str {
-    match op {
-        BinaryOp::Add => "two pointers have no sum",
-        BinaryOp::Sub => "pointers have no difference",
-        BinaryOp::And | BinaryOp::Or | BinaryOp::Xor => "a pointer can't be masked",
-        BinaryOp::Mul => "a pointer can't be multiplied",
-        BinaryOp::Div | BinaryOp::Rem | BinaryOp::Udiv | BinaryOp::Urem => {
-            "a pointer can't be divided, and nothing by it"
-        }
-        BinaryOp::Sar | BinaryOp::Shr | BinaryOp::Shl => "a pointer can't be shifted",
-        BinaryOp::Compare(..) => "a pointer can't be compared so",
-    }
-}
-
-/// Why this less a pointer has no value.
-fn of_difference(left: Value) -> &'static str {
-    match left {
-        Value::Pointer { .. } => "pointers into two blocks have no difference",
-        Value::Integer(_) | Value::Function(_) => "a pointer can't be subtracted from a number",
     }
 }
 

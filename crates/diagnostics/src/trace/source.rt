@@ -40,8 +40,8 @@ pub fn function_name<'a>(source: &'a Source<'_>, number: usize) -> Named<'a> {
 /// Adds where a turn is due: how it stands there, and what is written in its line.
 pub fn add_turn(words: &mut TextMaker, source: &Source<'_>, place: Place, how: &str) {
     add_place(words, source, place);
-    let written = written(source, place);
-    say!(words; ": {how} {}: {written}", function_name(source, place.function));
+    let name = function_name(source, place.function);
+    say!(words; ": {how} {name}: {}", written(source, place));
 }
 
 /// Adds the file and the line of a turn.

@@ -1,5 +1,4 @@
 //! All that is told of a run.
-use crate::trace::calls::add_calls;
 use crate::trace::cause::add_cause;
 use crate::trace::needs::{add_need_of_main, add_needs};
 use crate::trace::source::{Source, Story, add_turn};
@@ -9,7 +8,10 @@ use il_ast::End;
 use il_interp::pieces::Running;
 use il_interp::trace::Place;
 use std::alloc::{AllocError, Global};
-use text_maker::TextMaker;
+use text_maker::{TextMaker, say};
+
+/// So many calls are told, the innermost ones.
+const MOST_CALLS: usize = 20;
 
 /// The lines that tell of a run that was watched and ended so: the last turns, as many as are remembered; where the last one was due, or the next one where the run
 /// goes on; what its operands hold; the cause, where it is undefined or runs out of stack; and the calls that it stands in. No line, where memory for them was refused.
@@ -60,5 +62,21 @@ fn add_done(story: &mut Story<'_>, number: usize) {
             add_value(story, turn.assigned);
         }
         story.words.add("\n");
+    }
+}
+
+/// Adds a line for each call that the last turn stands in, the innermost first.
+fn add_calls(story: &mut Story<'_>) {
+    for number in 0..MOST_CALLS {
+        let Some(place) = story.running.caller(number) else {
+            return;
+        };
+        add_turn(&mut story.words, story.source, place, "called by");
+        story.words.add("\n");
+    }
+    match story.running.callers().saturating_sub(MOST_CALLS) {
+        0 => {}
+        1 => story.words.add("    and 1 more call\n"),
+        left => say!(story.words; "    and {left} more calls\n"),
     }
 }

@@ -9,14 +9,20 @@ use il_ast::{Block, Func, InText, Label, Target, Val, Value};
 use il_interp::trace::Place;
 use std::alloc::{AllocError, Global};
 
-/// Adds a line for each temporary and each datum that the turn reads, with what it holds.
+/// Adds a line for each temporary and each datum that the turn reads, once, with what it holds.
 pub fn add_operands(alloc: Global, story: &mut Story<'_>, place: Place) -> Result<(), AllocError> {
     if let Some(function) = function_at(story.source, place.function)
         && let Some(block) = place.in_block(story.source.linked)
     {
-        let (one, other) = targets(block);
-        let steps = steps_of(alloc, function.item, block, place.next, [one, other])?;
-        add_each(story, function, block.label, steps.as_slice());
+        let steps = steps_of(alloc, function.item, block, place.next, targets(block))?;
+        for (number, step) in steps.as_slice().iter().enumerate() {
+            let mut before = steps.as_slice().iter().take(number);
+            if let Some(operand) = value_read(step, block.label)
+                && !before.any(|step| value_read(step, block.label) == Some(operand))
+            {
+                add_operand(story, function, operand);
+            }
+        }
     }
     Ok(())
 }
@@ -36,34 +42,16 @@ pub fn steps_of(
             if let Some(jump) = &block.jump {
                 steps.add_jump(jump);
             }
-            let blocks = function.blocks.as_slice();
-            add_phis(&mut steps, blocks, behind[0]);
-            add_phis(&mut steps, blocks, behind[1]);
+            for label in behind.into_iter().flatten() {
+                let blocks = function.blocks.as_slice().iter();
+                let led_to = blocks.filter(|block| block.label == label);
+                for phi in led_to.flat_map(|block| block.phis.as_slice()) {
+                    steps.add_phi(phi);
+                }
+            }
         }
     }
     steps.finish()
-}
-
-/// Adds what the phis of the block of a label take.
-fn add_phis(steps: &mut StepList, blocks: &[Block], label: Option<Label>) {
-    let led_to = blocks.iter().filter(|block| label == Some(block.label));
-    for phi in led_to.flat_map(|block| block.phis.as_slice()) {
-        steps.add_phi(phi);
-    }
-}
-
-/// Adds a line for each value that a turn of the block of a label reads, once.
-fn add_each(story: &mut Story<'_>, function: &InText<&Func>, label: Label, steps: &[Step]) {
-    for (number, step) in steps.iter().enumerate() {
-        let before = steps.get(..number).unwrap_or(&[]);
-        if let Some(operand) = value_read(step, label)
-            && !before
-                .iter()
-                .any(|step| value_read(step, label) == Some(operand))
-        {
-            add_operand(story, function, operand);
-        }
-    }
 }
 
 /// The value that a step reads in the block of a label, or behind it.

@@ -4,15 +4,6 @@ use crate::trace::source::{Source, Story, add_place, function_name};
 use il_ast::{Callee, Value};
 use text_maker::{TextMaker, say};
 
-/// The least number that is told also as a negative one of 32 bits.
-const NEGATIVE_WORDS: u64 = 0x8000_0000;
-
-/// The least number that no word holds.
-const NO_WORDS: u64 = 0x1_0000_0000;
-
-/// The least number that is told also as a negative one of 64 bits.
-const NEGATIVE_LONGS: u64 = 0x8000_0000_0000_0000;
-
 /// Adds what a temporary holds.
 pub fn add_value(story: &mut Story<'_>, value: Option<Value>) {
     match value {
@@ -23,12 +14,16 @@ pub fn add_value(story: &mut Story<'_>, value: Option<Value>) {
     }
 }
 
+/// Adds a number, and the negative one of 64 or of 32 bits that it is too.
 fn add_integer(words: &mut TextMaker, number: u64) {
     say!(words; "{number}");
-    if number >= NEGATIVE_LONGS {
-        say!(words; " (-{})", 0u64.wrapping_sub(number));
-    } else if number >= NEGATIVE_WORDS && number < NO_WORDS {
-        say!(words; " (as a word -{})", NO_WORDS - number);
+    let signed = number.cast_signed();
+    if signed < 0 {
+        say!(words; " ({signed})");
+    } else if let Ok(word) = u32::try_from(number)
+        && word.cast_signed() < 0
+    {
+        say!(words; " (as a word {})", word.cast_signed());
     }
 }
 
@@ -41,8 +36,12 @@ pub fn callee_name<'a>(source: &'a Source<'_>, callee: Callee) -> Named<'a> {
     }
 }
 
-/// Adds a pointer: its offset, and the block.
+/// Adds a pointer: its offset, its block, and where that comes from.
 fn add_pointer(story: &mut Story<'_>, block: u128, offset: u64) {
+    let linked = story.source.linked;
+    let objects = linked.objects.as_slice();
+    let count = objects.len() as u128;
+    let start = story.running.start_blocks();
     let words = &mut story.words;
     say!(words; "offset {}", offset.cast_signed());
     match story.running.block_size(block) {
@@ -50,16 +49,6 @@ fn add_pointer(story: &mut Story<'_>, block: u128, offset: u64) {
         Some(size) => say!(words; " of the {size} bytes"),
         None => words.add(" of the dead block"),
     }
-    add_maker(story, block);
-}
-
-/// Adds where a block comes from.
-fn add_maker(story: &mut Story<'_>, block: u128) {
-    let linked = story.source.linked;
-    let objects = linked.objects.as_slice();
-    let count = objects.len() as u128;
-    let start = story.running.start_blocks();
-    let words = &mut story.words;
     if block < count {
         match objects.get(number_of(block)) {
             Some(object) => say!(words; " of {}", name_in(linked, object.text, object.item.name)),
