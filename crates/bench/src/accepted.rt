@@ -60,17 +60,6 @@ fn slots_of(blocks: &[Block<Location>]) -> u64 {
 }
 
 impl Counted {
-    fn new(alloc: Global) -> Counted {
-        Counted {
-            alloc,
-            scan: LinearScan::new(alloc),
-            functions: 0,
-            unanswered: 0,
-            refused: 0,
-            slots: 0,
-        }
-    }
-
     fn count(&mut self, function: &VFunc, certificate: &Certificate) {
         match accept(self.alloc, function, certificate) {
             Ok(located) => {
@@ -97,7 +86,14 @@ impl Strategy for Counted {
 
 /// What the checker says of linear scan's answers for the functions of a text.
 pub fn accepted(alloc: Global, text: &[u8]) -> Result<String, AllocError> {
-    let mut counted = Counted::new(alloc);
+    let mut counted = Counted {
+        alloc,
+        scan: LinearScan::new(alloc),
+        functions: 0,
+        unanswered: 0,
+        refused: 0,
+        slots: 0,
+    };
     if let Err(error) = compile(alloc, &[text], &mut counted) {
         return format!(in alloc; "{error:?}");
     }

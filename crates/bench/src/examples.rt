@@ -1,10 +1,8 @@
 //! How many instructions the executables of the examples take, and how many turns their programs.
+use crate::interpreter::end_of;
 use elf_file::read_image;
 use il_ast::End;
-use il_interp::interpret::interpret;
-use obj_link::linking::resolve::resolve;
 use qbec::compile::compile;
-use qbec::texts::checked_texts;
 use regalloc::linear_scan::LinearScan;
 use rv_machine::{FlatRam, Machine, Stop};
 use std::alloc::{AllocError, Global};
@@ -40,27 +38,17 @@ enum Run<'x> {
 /// No run is followed for longer: 2^24 instructions or turns.
 const STEPS: u32 = 24;
 
-// Whether the executable has ended within so many instructions; none where it can't be run.
-fn file_ends(alloc: Global, file: &[u8], words: &[&[u8]], limit: u64) -> Option<bool> {
-    let loaded = read_image(alloc, file).ok()?;
-    let machine: Machine<FlatRam> = Machine::start(alloc, &loaded, words).ok()?;
-    let (_, stop) = machine.run(alloc, limit);
-    Some(stop != Stop::Limit)
-}
-
-// Whether the program of the texts has ended within so many turns; none where it can't be run.
-fn texts_end(alloc: Global, texts: &[&[u8]], words: &[&[u8]], limit: u64) -> Option<bool> {
-    let checked = checked_texts(alloc, texts).ok()?;
-    let linked = resolve(alloc, checked.as_slice()).ok()?;
-    let (_, end) = interpret(alloc, &linked, words, limit).ok()?;
-    Some(end != End::Turns)
-}
-
 impl Run<'_> {
+    // Whether it has ended within so many instructions or turns; none where it can't be run.
     fn ends(&self, alloc: Global, words: &[&[u8]], limit: u64) -> Option<bool> {
         match self {
-            Run::File(file) => file_ends(alloc, file, words, limit),
-            Run::Texts(texts) => texts_end(alloc, texts, words, limit),
+            Run::File(file) => {
+                let loaded = read_image(alloc, file).ok()?;
+                let machine: Machine<FlatRam> = Machine::start(alloc, &loaded, words).ok()?;
+                let (_, stop) = machine.run(alloc, limit);
+                Some(stop != Stop::Limit)
+            }
+            Run::Texts(texts) => Some(end_of(alloc, texts, words, limit)? != End::Turns),
         }
     }
 

@@ -43,29 +43,9 @@ fn next_blocks(shape: Shape, blocks: u32, block: u32) -> (u32, Option<u32>) {
     }
 }
 
-fn push_start(
-    next: &mut Few<usize>,
-    shape: Shape,
-    blocks: u32,
-    block: u32,
-) -> Result<(), AllocError> {
-    next.push(place(shape, blocks, block).wrapping_mul(POINTS) as usize)
-}
-
-/// The points that come after the last one of a block.
-fn next_of_last(
-    alloc: Global,
-    shape: Shape,
-    blocks: u32,
-    block: u32,
-) -> Result<Few<usize>, AllocError> {
-    let (ahead, other) = next_blocks(shape, blocks, block);
-    let mut next = Few::new(alloc);
-    push_start(&mut next, shape, blocks, ahead)?;
-    if let Some(other) = other {
-        push_start(&mut next, shape, blocks, other)?;
-    }
-    Ok(next)
+/// The first point of a block.
+fn start(shape: Shape, blocks: u32, block: u32) -> usize {
+    place(shape, blocks, block).wrapping_mul(POINTS) as usize
 }
 
 /// The register that a point of a block reads, if any, and the one that it writes.
@@ -81,22 +61,7 @@ fn registers(shape: Shape, block: u32, point: u32) -> (Option<u32>, Option<u32>)
     }
 }
 
-/// What a point of a block reads and writes.
-fn uses(alloc: Global, shape: Shape, block: u32, point: u32) -> Result<Uses, AllocError> {
-    let (read, writes) = registers(shape, block, point);
-    let mut reads = Few::new(alloc);
-    if let Some(register) = read {
-        reads.push(register)?;
-    }
-    Ok(Uses { reads, writes })
-}
-
-fn one(alloc: Global, point: usize) -> Result<Few<usize>, AllocError> {
-    let mut next = Few::new(alloc);
-    next.push(point)?;
-    Ok(next)
-}
-
+/// Adds a point of a block: what it reads and writes, and what comes after it.
 fn push_point(
     alloc: Global,
     graph: &mut Graph,
@@ -105,12 +70,22 @@ fn push_point(
     block: u32,
     point: u32,
 ) -> Result<(), AllocError> {
-    graph.uses.push(uses(alloc, shape, block, point)?)?;
-    let next = if point < POINTS - 1 {
-        one(alloc, graph.nexts.len().saturating_add(1))?
+    let (read, writes) = registers(shape, block, point);
+    let mut reads = Few::new(alloc);
+    if let Some(register) = read {
+        reads.push(register)?;
+    }
+    graph.uses.push(Uses { reads, writes })?;
+    let mut next = Few::new(alloc);
+    if point < POINTS - 1 {
+        next.push(graph.nexts.len().saturating_add(1))?;
     } else {
-        next_of_last(alloc, shape, blocks, block)?
-    };
+        let (ahead, other) = next_blocks(shape, blocks, block);
+        next.push(start(shape, blocks, ahead))?;
+        if let Some(other) = other {
+            next.push(start(shape, blocks, other))?;
+        }
+    }
     graph.nexts.push(next)
 }
 

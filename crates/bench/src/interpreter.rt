@@ -2,9 +2,8 @@
 use crate::texts::text_of;
 use il_ast::End;
 use il_interp::interpret::interpret;
-use il_reader::read::read;
-use il_types::check::check;
 use obj_link::linking::resolve::resolve;
+use qbec::texts::checked_texts;
 use std::alloc::{AllocError, Global};
 
 const ALU: &str = "export function w $main() {
@@ -57,28 +56,23 @@ ret %x
 }
 ";
 
-// The end of the program that one text is, or none where it is none or memory is refused.
-fn end_of(alloc: Global, text: &[u8], turns: u64) -> Option<End> {
-    let checked = check(alloc, read(alloc, text).ok()?).ok()?;
-    let texts = vec![in alloc; checked].ok()?;
-    let linked = resolve(alloc, texts.as_slice()).ok()?;
-    let (_, end) = interpret(alloc, &linked, &[], turns).ok()?;
+/// How the program of the texts ends within so many turns, or none where it is none or memory is refused.
+pub fn end_of(alloc: Global, texts: &[&[u8]], words: &[&[u8]], turns: u64) -> Option<End> {
+    let checked = checked_texts(alloc, texts).ok()?;
+    let linked = resolve(alloc, checked.as_slice()).ok()?;
+    let (_, end) = interpret(alloc, &linked, words, turns).ok()?;
     Some(end)
-}
-
-// The end of the program of a kind.
-fn measured(alloc: Global, kind: &str, turns: u64) -> Option<End> {
-    match kind {
-        "memory" => end_of(alloc, MEMORY.as_bytes(), turns),
-        "calls" => end_of(alloc, CALLS.as_bytes(), turns),
-        "phis" => end_of(alloc, text_of(alloc, "phis", 195).ok()?.as_bytes(), turns),
-        _ => end_of(alloc, ALU.as_bytes(), turns),
-    }
 }
 
 /// How the program of a kind ends after so many turns.
 pub fn interpret_turns(alloc: Global, kind: &str, turns: u64) -> Result<String, AllocError> {
-    match measured(alloc, kind, turns) {
+    let text = match kind {
+        "memory" => String::from_str(alloc, MEMORY)?,
+        "calls" => String::from_str(alloc, CALLS)?,
+        "phis" => text_of(alloc, "phis", 195)?,
+        _ => String::from_str(alloc, ALU)?,
+    };
+    match end_of(alloc, &[text.as_bytes()], &[], turns) {
         Some(end) => format!(in alloc; "{end:?} after at most {turns} turns"),
         None => String::from_str(alloc, "no program, or no memory"),
     }

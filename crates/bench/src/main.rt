@@ -29,7 +29,6 @@ mod interpreter;
 mod liveness;
 mod machine;
 mod moves;
-mod phis;
 mod texts;
 
 use crate::accepted::accepted;
@@ -131,20 +130,6 @@ fn text_for(alloc: Global, measure: &str, kind: &str, size: u64) -> Result<Strin
     }
 }
 
-/// What comes of a measure, and its milliseconds.
-fn timed(
-    rt: &HostRuntime,
-    measure: &str,
-    kind: &str,
-    size: u64,
-    text: &[u8],
-) -> io::Result<(String, u128)> {
-    let start = Instant::now(rt)?;
-    let said = done(rt.alloc(), measure, kind, size, text)?;
-    let time = start.elapsed(rt)?.as_millis();
-    Ok((said, time))
-}
-
 /// Prints what comes of a measure, with its time where that is asked for.
 fn print_row(
     rt: &HostRuntime,
@@ -154,7 +139,9 @@ fn print_row(
     is_timed: bool,
 ) -> io::Result<()> {
     let text = text_for(rt.alloc(), measure, kind, size)?;
-    let (said, time) = timed(rt, measure, kind, size, text.as_bytes())?;
+    let start = Instant::now(rt)?;
+    let said = done(rt.alloc(), measure, kind, size, text.as_bytes())?;
+    let time = start.elapsed(rt)?.as_millis();
     if !is_timed {
         println!(rt; "{measure} {kind} {size}: {said}")
     } else if matches!(measure, "machine" | "interpreter") {

@@ -1,5 +1,5 @@
 //! Texts of any size.
-use crate::phis::push_phis;
+use end_to_end::texts::made::phis;
 use std::alloc::{AllocError, Global};
 use text_maker::{TextMaker, say};
 
@@ -13,7 +13,8 @@ pub fn text_of(alloc: Global, kind: &str, size: u64) -> Result<String, AllocErro
         "lines" => lines(&mut text, size),
         "locals" => locals(&mut text, size),
         "phi" => phi(&mut text, size),
-        "phis" => push_phis(&mut text, size),
+        // with more than 195 the function passes the limit of weight
+        "phis" => phis(&mut text, size, u64::from(u32::MAX)),
         "wide" => wide(&mut text, size),
         "bytes" => bytes(&mut text, size),
         "strings" => strings(&mut text, size),
@@ -96,34 +97,25 @@ fn strings(text: &mut TextMaker, characters: u64) {
     text.add("\tb 0 }\n");
 }
 
-// A temporary of those that live throughout, another one for each number.
-fn kept(number: u64) -> u64 {
-    number % KEPT
-}
-
+// Each block reads three of the temporaries that live throughout, writes a fourth one, and goes on at the next block or at the one behind it.
 fn wide(text: &mut TextMaker, count: u64) {
     text.add("export function w $main() {\n@start\n\t%x =w copy 0\n");
     for number in 0..KEPT {
         say!(text; "\t%t{number} =w copy {number}\n");
     }
     for number in 0..count {
-        push_wide_block(text, number, count);
+        let to = number % KEPT;
+        let one = number.wrapping_mul(7) % KEPT;
+        let other = number.wrapping_mul(31) % KEPT;
+        let next = number.saturating_add(1);
+        let second = next.saturating_add(1).min(count);
+        say!(text; "@b{number}\n\t%y =w add %x, %t{one}\n\t%z =w xor %y, %t{other}\n");
+        say!(text; "\t%t{to} =w sub %t{to}, %z\n\t%x =w add %z, {number}\n");
+        say!(text; "\tjnz %y, @b{next}, @b{second}\n");
     }
     say!(text; "@b{count}\n");
     for number in 0..KEPT {
         say!(text; "\t%x =w add %x, %t{number}\n");
     }
     text.add("\tret %x\n}\n");
-}
-
-// Each block reads three of them, writes a fourth one, and goes on at the next block or at the one behind it.
-fn push_wide_block(text: &mut TextMaker, number: u64, count: u64) {
-    let to = kept(number);
-    let one = kept(number.wrapping_mul(7));
-    let other = kept(number.wrapping_mul(31));
-    let next = number.saturating_add(1);
-    let second = next.saturating_add(1).min(count);
-    say!(text; "@b{number}\n\t%y =w add %x, %t{one}\n\t%z =w xor %y, %t{other}\n");
-    say!(text; "\t%t{to} =w sub %t{to}, %z\n\t%x =w add %z, {number}\n");
-    say!(text; "\tjnz %y, @b{next}, @b{second}\n");
 }

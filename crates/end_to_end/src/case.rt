@@ -92,16 +92,19 @@ impl Case {
 #[derive(Drop)]
 pub struct Program<'p> {
     pub case: &'p Case,
-    pub texts: &'p [&'p [u8]],
-    pub words: &'p [&'p [u8]],
+    pub texts: Vec<&'p [u8]>,
+    pub words: Vec<&'p [u8]>,
 }
 
-/// The texts, as slices.
-pub fn slices(alloc: Global, texts: &[Vec<u8>]) -> Result<Vec<&[u8]>, AllocError> {
-    texts.iter().map(|text| text.as_slice()).collect(alloc)
-}
-
-/// The words, as bytes.
-pub fn words_as_bytes(alloc: Global, words: &[String]) -> Result<Vec<&[u8]>, AllocError> {
-    words.iter().map(|word| word.as_bytes()).collect(alloc)
+impl<'p> Program<'p> {
+    /// The program of a case.
+    pub fn of(alloc: Global, case: &'p Case) -> Result<Program<'p>, AllocError> {
+        let texts = case.texts.iter().map(|text| text.as_slice());
+        let words = case.words.iter().map(|word| word.as_bytes());
+        Ok(Program {
+            case,
+            texts: texts.collect(alloc)?,
+            words: words.collect(alloc)?,
+        })
+    }
 }

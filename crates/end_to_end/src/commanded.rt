@@ -66,15 +66,3 @@ pub fn line_of_words(
 ) -> Result<String, AllocError> {
     perform_words(alloc, disk, words)?.line(alloc)
 }
-
-/// Does what words between spaces ask for, with these streams.
-pub fn perform_words_with(
-    alloc: Global,
-    disk: &mut BrokenDisk,
-    words: &str,
-    out: MemorySink,
-    err: MemorySink,
-) -> Result<Done, AllocError> {
-    let words: Vec<&str> = words.split(' ').collect(alloc)?;
-    perform_with(alloc, disk, words.as_slice(), out, err)
-}

@@ -1,7 +1,7 @@
 //! Programs compiled, and the machine's runs of their files.
 use crate::interpreted::refusal_told;
 use crate::told::stop_told;
-use elf_file::{Loaded, read_image};
+use elf_file::read_image;
 use qbec::compile::compile;
 use regalloc::strategy::Strategy;
 use rv_machine::{Machine, Ram, StartError};
@@ -9,22 +9,15 @@ use std::alloc::{AllocError, Global};
 use test_report::report::Report;
 use test_report::told::Told;
 
-/// The executable of texts, or why there is none.
-#[derive(Drop)]
-pub enum Compiled {
-    File(Vec<u8>),
-    Refused(String),
-}
-
-/// Compiles texts with this strategy.
+/// The executable of texts by this strategy, or why there is none.
 pub fn compile_with(
     alloc: Global,
     texts: &[&[u8]],
     allocator: &mut dyn Strategy,
-) -> Result<Compiled, AllocError> {
+) -> Result<Result<Vec<u8>, String>, AllocError> {
     match compile(alloc, texts, allocator) {
-        Ok(file) => Ok(Compiled::File(file)),
-        Err(error) => Ok(Compiled::Refused(refusal_told(alloc, error)?)),
+        Ok(file) => Ok(Ok(file)),
+        Err(error) => Ok(Err(refusal_told(alloc, error)?)),
     }
 }
 
@@ -36,32 +29,11 @@ pub fn file_by(
     report: &mut Report,
 ) -> Result<Vec<u8>, AllocError> {
     match compile_with(report.alloc, texts, allocator)? {
-        Compiled::File(file) => Ok(file),
-        Compiled::Refused(why) => {
+        Ok(file) => Ok(file),
+        Err(why) => {
             report.fail(what, "a file", why.as_str())?;
             Ok(Vec::new(report.alloc))
         }
-    }
-}
-
-fn finished<R: Ram>(alloc: Global, machine: Machine<R>, limit: u64) -> Result<Told, AllocError> {
-    let (output, stop) = machine.run(alloc, limit);
-    Ok(Told {
-        end: stop_told(alloc, stop)?,
-        output,
-    })
-}
-
-fn ran_loaded<R: Ram>(
-    alloc: Global,
-    loaded: &Loaded,
-    words: &[&[u8]],
-    limit: u64,
-) -> Result<Told, AllocError> {
-    let started: Result<Machine<R>, StartError> = Machine::start(alloc, loaded, words);
-    match started {
-        Ok(machine) => finished(alloc, machine, limit),
-        Err(_) => Told::unrun(alloc, "E8"),
     }
 }
 
@@ -72,11 +44,17 @@ pub fn ran<R: Ram>(
     words: &[&[u8]],
     limit: u64,
 ) -> Result<Told, AllocError> {
-    match read_image(alloc, file) {
-        Ok(loaded) => ran_loaded::<R>(alloc, &loaded, words, limit),
-        Err(error) => Ok(Told {
-            end: format!(in alloc; "{error}")?,
-            output: Vec::new(alloc),
-        }),
-    }
+    let loaded = match read_image(alloc, file) {
+        Ok(loaded) => loaded,
+        Err(error) => return Told::unrun(alloc, format!(in alloc; "{error}")?.as_str()),
+    };
+    let started: Result<Machine<R>, StartError> = Machine::start(alloc, &loaded, words);
+    let Ok(machine) = started else {
+        return Told::unrun(alloc, "E8");
+    };
+    let (output, stop) = machine.run(alloc, limit);
+    Ok(Told {
+        end: stop_told(alloc, stop)?,
+        output,
+    })
 }

@@ -1,6 +1,6 @@
 //! Disks and streams that fail, and lines for want of memory.
 use crate::broken_disk::BrokenDisk;
-use crate::commanded::{Done, line_of_words, perform_words, perform_words_with};
+use crate::commanded::{Done, line_of_words, perform_with, perform_words};
 use crate::told::begin;
 use commands::failure::Failure;
 use commands::refusal::Refusal;
@@ -87,54 +87,39 @@ pub fn disk_of(alloc: Global) -> Result<BrokenDisk, AllocError> {
     Ok(disk)
 }
 
-fn check_disk(
-    words: &str,
-    wanted: &str,
-    fault: FileFault,
-    report: &mut Report,
-) -> Result<(), AllocError> {
-    begin(report, format_args!("{words} where the fault is {fault}"))?;
-    let mut disk = disk_of(report.alloc)?;
-    disk.fault = fault;
-    let before = disk.kept();
-    let line = line_of_words(report.alloc, &mut disk, words)?;
-    report.compare("line", wanted, line.as_str())?;
-    report.holds("no file is written", disk.kept() == before)
-}
-
 fn check_disks(
     rows: &[(&str, &str)],
     fault: FileFault,
     report: &mut Report,
 ) -> Result<(), AllocError> {
     for (words, wanted) in rows {
-        check_disk(*words, *wanted, fault, report)?;
+        begin(report, format_args!("{words} where the fault is {fault}"))?;
+        let mut disk = disk_of(report.alloc)?;
+        disk.fault = fault;
+        let before = disk.kept();
+        let line = line_of_words(report.alloc, &mut disk, *words)?;
+        report.compare("line", *wanted, line.as_str())?;
+        report.holds("no file is written", disk.kept() == before)?;
     }
     Ok(())
 }
 
-// What the words do on a disk of their own, with these streams.
+// What the words do on a disk of their own, with streams that take so many bytes a call, and fail at that call, or never where that is 0.
 fn done_with(
     alloc: Global,
     words: &str,
-    out: MemorySink,
-    err: MemorySink,
+    out: (usize, u64),
+    err: (usize, u64),
 ) -> Result<Done, AllocError> {
-    let mut disk = disk_of(alloc)?;
-    perform_words_with(alloc, &mut disk, words, out, err)
+    let words: Vec<&str> = words.split(' ').collect(alloc)?;
+    let out = MemorySink::new(alloc, out.0, out.1);
+    let err = MemorySink::new(alloc, err.0, err.1);
+    perform_with(alloc, &mut disk_of(alloc)?, words.as_slice(), out, err)
 }
 
 // What they do where nothing fails.
 fn done_whole(alloc: Global, words: &str) -> Result<Done, AllocError> {
-    let out = MemorySink::new(alloc, 1 << 30, 0);
-    let err = MemorySink::new(alloc, 1, 0);
-    done_with(alloc, words, out, err)
-}
-
-fn compare_lines(wanted: &Done, said: &Done, report: &mut Report) -> Result<(), AllocError> {
-    let wanted = wanted.line(report.alloc)?;
-    let said = said.line(report.alloc)?;
-    report.compare("line", wanted.as_str(), said.as_str())
+    done_with(alloc, words, (1 << 30, 0), (1, 0))
 }
 
 fn check_cannot_write(said: &Done, report: &mut Report) -> Result<(), AllocError> {
@@ -143,26 +128,7 @@ fn check_cannot_write(said: &Done, report: &mut Report) -> Result<(), AllocError
     report.compare("line", wanted, line.as_str())
 }
 
-// A beginning of the whole output, of a byte for each call where a call takes one byte.
-fn check_beginning(
-    whole: &Done,
-    said: &Done,
-    most: usize,
-    fails_at: u64,
-    report: &mut Report,
-) -> Result<(), AllocError> {
-    let all = whole.output.as_slice();
-    let length = said.output.len();
-    report.holds("a beginning", all.starts_with(said.output.as_slice()))?;
-    if length == all.len() {
-        return compare_lines(whole, said, report);
-    }
-    check_cannot_write(said, report)?;
-    let is_each_call = length as u64 == fails_at.saturating_sub(1);
-    report.holds("as many bytes as calls", most > 1 || is_each_call)
-}
-
-// The output and the line with an output that takes so many bytes a call, and fails at that call.
+// With an output that takes so many bytes a call, and fails at that call: a beginning of the whole output, of a byte for each call where a call takes one byte.
 fn check_output(
     words: &str,
     whole: &Done,
@@ -170,10 +136,16 @@ fn check_output(
     fails_at: u64,
     report: &mut Report,
 ) -> Result<(), AllocError> {
-    let out = MemorySink::new(report.alloc, most, fails_at);
-    let err = MemorySink::new(report.alloc, 1, 0);
-    let said = done_with(report.alloc, words, out, err)?;
-    check_beginning(whole, &said, most, fails_at, report)
+    let said = done_with(report.alloc, words, (most, fails_at), (1, 0))?;
+    let (all, length) = (whole.output.as_slice(), said.output.len());
+    report.holds("a beginning", all.starts_with(said.output.as_slice()))?;
+    if length == all.len() {
+        let (wanted, line) = (whole.line(report.alloc)?, said.line(report.alloc)?);
+        return report.compare("line", wanted.as_str(), line.as_str());
+    }
+    check_cannot_write(&said, report)?;
+    let is_each_call = length as u64 == fails_at.saturating_sub(1);
+    report.holds("as many bytes as calls", most > 1 || is_each_call)
 }
 
 fn check_outputs(words: &str, report: &mut Report) -> Result<(), AllocError> {
@@ -196,26 +168,9 @@ fn check_closed(words: &str, report: &mut Report) -> Result<(), AllocError> {
         report,
         format_args!("{words} to an output that takes nothing"),
     )?;
-    let out = MemorySink::new(report.alloc, 0, 0);
-    let err = MemorySink::new(report.alloc, 1, 0);
-    let said = done_with(report.alloc, words, out, err)?;
+    let said = done_with(report.alloc, words, (0, 0), (1, 0))?;
     check_cannot_write(&said, report)?;
     report.holds("nothing goes out", said.output.is_empty())
-}
-
-fn check_message_at(
-    words: &str,
-    whole: &Done,
-    fails_at: u64,
-    report: &mut Report,
-) -> Result<(), AllocError> {
-    let out = MemorySink::new(report.alloc, 1, 0);
-    let err = MemorySink::new(report.alloc, 2, fails_at);
-    let said = done_with(report.alloc, words, out, err)?;
-    report.holds("status", said.status == whole.status)?;
-    report.holds("output", said.output.as_slice() == whole.output.as_slice())?;
-    let message = said.message.as_str();
-    report.holds("message", whole.message.as_str().starts_with(message))
 }
 
 // A standard error that fails changes neither status nor output.
@@ -223,7 +178,11 @@ fn check_message(words: &str, report: &mut Report) -> Result<(), AllocError> {
     begin(report, format_args!("{words} where standard error fails"))?;
     let whole = done_whole(report.alloc, words)?;
     for fails_at in 1..9 {
-        check_message_at(words, &whole, fails_at, report)?;
+        let said = done_with(report.alloc, words, (1, 0), (2, fails_at))?;
+        report.holds("status", said.status == whole.status)?;
+        report.holds("output", said.output.as_slice() == whole.output.as_slice())?;
+        let message = said.message.as_str();
+        report.holds("message", whole.message.as_str().starts_with(message))?;
     }
     Ok(())
 }

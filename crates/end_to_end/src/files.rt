@@ -2,7 +2,7 @@
 //!
 //! A line of `files.cases` is an offset, the bytes that are put there in hexadecimal, and the refusals that are true of the file then, with `|` between.
 use crate::broken_disk::BrokenDisk;
-use crate::case::{Case, slices};
+use crate::case::{Case, Program};
 use crate::commanded::line_of_words;
 use crate::compiled::file_by;
 use crate::table::bytes_of;
@@ -66,23 +66,19 @@ fn check_change(file: &[u8], line: &str, report: &mut Report) -> Result<(), Allo
     check_refused("dis", other.as_slice(), numbers, report)
 }
 
-fn check_file(file: &[u8], changes: &str, report: &mut Report) -> Result<(), AllocError> {
-    check_cuts(file, report)?;
+fn check_case(case: &Case, changes: &str, report: &mut Report) -> Result<(), AllocError> {
+    report.begin("the head of a file")?;
+    let program = Program::of(report.alloc, case)?;
+    let mut allocator = SpillAll::new(report.alloc);
+    let file = file_by("compile", program.texts.as_slice(), &mut allocator, report)?;
+    report.holds("head", file.as_slice().starts_with(HEAD))?;
+    check_cuts(file.as_slice(), report)?;
     for line in changes.lines() {
         if !line.is_empty() && !line.starts_with("//") {
-            check_change(file, line, report)?;
+            check_change(file.as_slice(), line, report)?;
         }
     }
     Ok(())
-}
-
-fn check_case(case: &Case, changes: &str, report: &mut Report) -> Result<(), AllocError> {
-    report.begin("the head of a file")?;
-    let texts = slices(report.alloc, &case.texts)?;
-    let mut allocator = SpillAll::new(report.alloc);
-    let file = file_by("compile", texts.as_slice(), &mut allocator, report)?;
-    report.holds("head", file.as_slice().starts_with(HEAD))?;
-    check_file(file.as_slice(), changes, report)
 }
 
 /// The first 64 bytes of the file of a program without data.

@@ -1,5 +1,5 @@
 //! Programs compiled with strategies of every kind: each executable does the same.
-use crate::case::{Case, Program, slices, words_as_bytes};
+use crate::case::{Case, Program};
 use crate::compiled::{file_by, ran};
 use crate::strategies::{Answer, Cut, Fixed, List};
 use crate::told::begin;
@@ -8,33 +8,14 @@ use std::alloc::AllocError;
 use test_report::report::Report;
 use vcode::Location;
 
-/// What the strategies answer.
-const ANSWERS: [Answer; 40] = [
+/// What the strategies answer, beside a place for each register and a list cut.
+const ANSWERS: [Answer; 21] = [
     Answer::Nothing,
     Answer::Blank,
-    Answer::Everywhere(Location::Register(0)),
-    Answer::Everywhere(Location::Register(2)),
-    Answer::Everywhere(Location::Register(5)),
-    Answer::Everywhere(Location::Register(10)),
-    Answer::Everywhere(Location::Register(18)),
-    Answer::Everywhere(Location::Register(31)),
-    Answer::Everywhere(Location::Register(255)),
     Answer::Everywhere(Location::Slot(0)),
     Answer::Everywhere(Location::Slot(4294967295)),
     Answer::Slots { more: false },
     Answer::Slots { more: true },
-    Answer::OneList(List::Params, Cut::Shorter),
-    Answer::OneList(List::Params, Cut::Longer),
-    Answer::OneList(List::Params, Cut::Empty),
-    Answer::OneList(List::Starts, Cut::Shorter),
-    Answer::OneList(List::Starts, Cut::Longer),
-    Answer::OneList(List::Starts, Cut::Empty),
-    Answer::OneList(List::Moves, Cut::Shorter),
-    Answer::OneList(List::Moves, Cut::Longer),
-    Answer::OneList(List::Moves, Cut::Empty),
-    Answer::OneList(List::Places, Cut::Shorter),
-    Answer::OneList(List::Places, Cut::Longer),
-    Answer::OneList(List::Places, Cut::Empty),
     Answer::OtherSlots,
     Answer::EverySecondTime,
     Answer::WrongEverySecondTime,
@@ -62,9 +43,9 @@ fn check_answer(
     begin(report, format_args!("{} by {answer:?}", case.name))?;
     let mut allocator = Fixed::new(report.alloc, answer);
     for what in ["first time", "second time"] {
-        let file = file_by(what, program.texts, &mut allocator, report)?;
-        let limit = case.instructions_given();
-        let said = ran::<PageRam>(report.alloc, file.as_slice(), program.words, limit)?;
+        let file = file_by(what, program.texts.as_slice(), &mut allocator, report)?;
+        let (words, limit) = (program.words.as_slice(), case.instructions_given());
+        let said = ran::<PageRam>(report.alloc, file.as_slice(), words, limit)?;
         report.compare_runs(what, &case.wanted, &said)?;
     }
     Ok(())
@@ -74,25 +55,23 @@ fn check_answers(program: &Program<'_>, report: &mut Report) -> Result<(), Alloc
     for answer in ANSWERS {
         check_answer(program, answer, report)?;
     }
+    for register in [0, 2, 5, 10, 18, 31, 255] {
+        let place = Location::Register(register);
+        check_answer(program, Answer::Everywhere(place), report)?;
+    }
+    for list in [List::Params, List::Starts, List::Moves, List::Places] {
+        for cut in [Cut::Shorter, Cut::Longer, Cut::Empty] {
+            check_answer(program, Answer::OneList(list, cut), report)?;
+        }
+    }
     Ok(())
-}
-
-fn check_case(case: &Case, report: &mut Report) -> Result<(), AllocError> {
-    let texts = slices(report.alloc, &case.texts)?;
-    let words = words_as_bytes(report.alloc, &case.words)?;
-    let program = Program {
-        case,
-        texts: texts.as_slice(),
-        words: words.as_slice(),
-    };
-    check_answers(&program, report)
 }
 
 /// Checks the programs that the strategies are tried on.
 pub fn check(cases: &[Case], report: &mut Report) -> Result<(), AllocError> {
     for case in cases {
         if case.marks.is_tried {
-            check_case(case, report)?;
+            check_answers(&Program::of(report.alloc, case)?, report)?;
         }
     }
     Ok(())

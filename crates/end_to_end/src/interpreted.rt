@@ -1,9 +1,6 @@
 //! Programs, interpreted.
-use crate::measures::measures_of;
 use crate::told::end_told;
 use il_interp::interpret::interpret;
-use il_types::Checked;
-use obj_link::Linked;
 use obj_link::linking::resolve::resolve;
 use qbec::CompileError;
 use qbec::error::link_refusal;
@@ -42,13 +39,22 @@ fn refused(alloc: Global, error: CompileError) -> Result<Told, AllocError> {
     })
 }
 
-fn run_told(
+/// How the program of the texts ends within so many turns, or why they are none.
+pub fn interpreted(
     alloc: Global,
-    linked: &Linked,
+    texts: &[&[u8]],
     words: &[&[u8]],
     turns: u64,
 ) -> Result<Told, AllocError> {
-    match interpret(alloc, linked, words, turns) {
+    let checked = match checked_texts(alloc, texts) {
+        Ok(checked) => checked,
+        Err(error) => return refused(alloc, error),
+    };
+    let linked = match resolve(alloc, checked.as_slice()) {
+        Ok(linked) => linked,
+        Err(error) => return refused(alloc, link_refusal(alloc, error)),
+    };
+    match interpret(alloc, &linked, words, turns) {
         Ok((output, end)) => Ok(Told {
             end: end_told(alloc, end)?,
             output,
@@ -57,38 +63,5 @@ fn run_told(
             end: format!(in alloc; "{error}")?,
             output: Vec::new(alloc),
         }),
-    }
-}
-
-fn linked_told(
-    alloc: Global,
-    texts: &[Checked],
-    words: &[&[u8]],
-    turns: u64,
-) -> Result<Told, AllocError> {
-    match resolve(alloc, texts) {
-        Ok(linked) => run_told(alloc, &linked, words, turns),
-        Err(error) => refused(alloc, link_refusal(alloc, error)),
-    }
-}
-
-/// How the program of the texts ends within so many turns, or why they are none.
-pub fn interpreted(
-    alloc: Global,
-    texts: &[&[u8]],
-    words: &[&[u8]],
-    turns: u64,
-) -> Result<Told, AllocError> {
-    match checked_texts(alloc, texts) {
-        Ok(checked) => linked_told(alloc, checked.as_slice(), words, turns),
-        Err(error) => refused(alloc, error),
-    }
-}
-
-/// What the functions of the texts need and weigh.
-pub fn measured(alloc: Global, texts: &[&[u8]]) -> Result<(String, String), AllocError> {
-    match checked_texts(alloc, texts) {
-        Ok(checked) => measures_of(alloc, checked.as_slice()),
-        Err(_) => Ok((String::new(alloc), String::new(alloc))),
     }
 }

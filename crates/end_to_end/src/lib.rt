@@ -24,7 +24,7 @@ mod sizes;
 mod stack_uses;
 mod strategies;
 mod table;
-mod texts;
+pub mod texts;
 mod told;
 mod watched;
 
@@ -82,31 +82,8 @@ fn table_of<R: Files + AllocGlobal>(rt: &R) -> io::Result<CaseTable> {
     Ok(table)
 }
 
-fn check_table(
-    table: &CaseTable,
-    asked: &Asked<'_>,
-    report: &mut Report,
-) -> Result<(), AllocError> {
-    for case in &table.cases {
-        if asked.has(case.group.as_str()) {
-            report.enter(case.group.as_str())?;
-            programs::check(case, report)?;
-        }
-    }
-    Ok(())
-}
-
 /// The groups beside those of the table.
-const GROUPS: [&str; 8] = [
-    "files",
-    "lines",
-    "strategies",
-    "prefixes",
-    "devices",
-    "sizes",
-    "random",
-    "small_functions",
-];
+const GROUPS: &str = "files lines strategies prefixes devices sizes random small_functions";
 
 fn check_group<R: Files + AllocGlobal>(
     rt: &R,
@@ -139,8 +116,13 @@ pub fn programs_told<R: Files + AllocGlobal>(rt: &R, words: &[String]) -> io::Re
     let asked = words_asked(rt.alloc(), words)?;
     let table = table_of(rt)?;
     let mut report = Report::new(rt.alloc());
-    check_table(&table, &asked, &mut report)?;
-    for group in GROUPS {
+    for case in &table.cases {
+        if asked.has(case.group.as_str()) {
+            report.enter(case.group.as_str())?;
+            programs::check(case, &mut report)?;
+        }
+    }
+    for group in GROUPS.split(' ') {
         if asked.has(group) {
             report.enter(group)?;
             check_group(rt, group, table.cases.as_slice(), &asked, &mut report)?;

@@ -5,17 +5,6 @@ use crate::told::begin;
 use std::alloc::AllocError;
 use test_report::report::Report;
 
-// How the text begins that is cut after so many bytes, by the first row.
-fn wanted_of_zero(length: usize, whole: usize) -> &'static str {
-    if length == 0 {
-        "E5"
-    } else if length.saturating_add(1) < whole {
-        "E1"
-    } else {
-        "exit 0"
-    }
-}
-
 // The number of a refusal, or how a run ended.
 fn number(end: &str) -> &str {
     match end.split_once(' ') {
@@ -24,18 +13,21 @@ fn number(end: &str) -> &str {
     }
 }
 
+// The beginnings of the first row: nothing is no program, and only the last byte may be missing.
 fn check_prefixes_of_zero(text: &[u8], report: &mut Report) -> Result<(), AllocError> {
     report.begin("each beginning of a text of one line")?;
     for length in 0..text.len() {
-        let wanted = wanted_of_zero(length, text.len());
+        let wanted = if length == 0 {
+            "E5"
+        } else if length.saturating_add(1) < text.len() {
+            "E1"
+        } else {
+            "exit 0"
+        };
         let said = interpreted(report.alloc, &[&text[..length]], &[], 9)?;
         report.compare("beginning", wanted, number(said.end.as_str()))?;
     }
     Ok(())
-}
-
-fn is_possible(number: &str) -> bool {
-    number == "E1" || number == "E5" || !number.starts_with("E")
 }
 
 // Each is refused as no text of the grammar or for want of a `main`, or accepted.
@@ -43,28 +35,21 @@ fn check_prefixes(name: &str, text: &[u8], report: &mut Report) -> Result<(), Al
     begin(report, format_args!("each beginning of {name}"))?;
     for length in 0..text.len() {
         let said = interpreted(report.alloc, &[&text[..length]], &[], 100_000)?;
-        report.holds("beginning", is_possible(number(said.end.as_str())))?;
+        let number = number(said.end.as_str());
+        let is_possible = number == "E1" || number == "E5" || !number.starts_with("E");
+        report.holds("beginning", is_possible)?;
     }
     Ok(())
-}
-
-fn check_byte_between(
-    front: &[u8],
-    byte: u8,
-    back: &[u8],
-    report: &mut Report,
-) -> Result<(), AllocError> {
-    let mut changed = Vec::from_slice(report.alloc, front)?;
-    changed.push(byte)?;
-    changed.extend_from_slice(back)?;
-    let said = interpreted(report.alloc, &[changed.as_slice()], &[], 9)?;
-    report.compare("byte", "E1", number(said.end.as_str()))
 }
 
 fn check_byte(text: &[u8], byte: u8, report: &mut Report) -> Result<(), AllocError> {
     begin(report, format_args!("byte {byte} at each place"))?;
     for place in 0..text.len() {
-        check_byte_between(&text[..place], byte, &text[place..], report)?;
+        let mut changed = Vec::from_slice(report.alloc, &text[..place])?;
+        changed.push(byte)?;
+        changed.extend_from_slice(&text[place..])?;
+        let said = interpreted(report.alloc, &[changed.as_slice()], &[], 9)?;
+        report.compare("byte", "E1", number(said.end.as_str()))?;
     }
     Ok(())
 }

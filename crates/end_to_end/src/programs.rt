@@ -1,9 +1,10 @@
 //! A program of the table, in every way.
 use crate::broken_disk::BrokenDisk;
-use crate::case::{Case, Program, slices, words_as_bytes};
+use crate::case::{Case, Program};
 use crate::commanded::{Done, perform, perform_words};
-use crate::compiled::{Compiled, compile_with, file_by, ran};
-use crate::interpreted::{interpreted, measured};
+use crate::compiled::{compile_with, file_by, ran};
+use crate::interpreted::interpreted;
+use crate::measures::measured;
 use crate::told::is_stop;
 use crate::watched::Watched;
 use regalloc::spill_all::SpillAll;
@@ -17,29 +18,21 @@ use text_maker::{TextMaker, say};
 /// Checks a case in every way that it can be.
 pub fn check(case: &Case, report: &mut Report) -> Result<(), AllocError> {
     report.begin(case.name.as_str())?;
-    let texts = slices(report.alloc, &case.texts)?;
-    let words = words_as_bytes(report.alloc, &case.words)?;
-    let program = Program {
-        case,
-        texts: texts.as_slice(),
-        words: words.as_slice(),
-    };
-    check_ways(&program, report)?;
-    check_commands(case, report)
-}
-
-fn check_ways(program: &Program<'_>, report: &mut Report) -> Result<(), AllocError> {
-    check_interpreted(program, report)?;
-    check_measures(program, report)?;
-    if program.case.is_refused() {
-        return check_refused(program, report);
+    let program = Program::of(report.alloc, case)?;
+    check_interpreted(&program, report)?;
+    check_measures(&program, report)?;
+    if case.is_refused() {
+        check_refused(&program, report)?;
+    } else {
+        check_compiled(&program, report)?;
     }
-    check_compiled(program, report)
+    check_commands(&program, report)
 }
 
 // With a turn less than is known it isn't over.
 fn check_interpreted(program: &Program<'_>, report: &mut Report) -> Result<(), AllocError> {
-    let (case, texts, words) = (program.case, program.texts, program.words);
+    let (case, texts) = (program.case, program.texts.as_slice());
+    let words = program.words.as_slice();
     let said = interpreted(report.alloc, texts, words, case.turns_given())?;
     report.compare_runs("interpreter", &case.wanted, &said)?;
     if let Some(turns) = case.bounds.turns {
@@ -49,75 +42,58 @@ fn check_interpreted(program: &Program<'_>, report: &mut Report) -> Result<(), A
     Ok(())
 }
 
+// What isn't told may be anything.
 fn check_measures(program: &Program<'_>, report: &mut Report) -> Result<(), AllocError> {
     let case = program.case;
     if case.needs.is_empty() && case.weights.is_empty() {
         return Ok(());
     }
-    let (needs, weights) = measured(report.alloc, program.texts)?;
-    compare_told("needs", case.needs.as_str(), needs.as_str(), report)?;
-    compare_told("weights", case.weights.as_str(), weights.as_str(), report)
-}
-
-// What isn't told may be anything.
-fn compare_told(
-    what: &str,
-    wanted: &str,
-    said: &str,
-    report: &mut Report,
-) -> Result<(), AllocError> {
-    if wanted.is_empty() {
-        return Ok(());
+    let (needs, weights) = measured(report.alloc, program.texts.as_slice())?;
+    if !case.needs.is_empty() {
+        report.compare("needs", case.needs.as_str(), needs.as_str())?;
     }
-    report.compare(what, wanted, said)
+    if !case.weights.is_empty() {
+        report.compare("weights", case.weights.as_str(), weights.as_str())?;
+    }
+    Ok(())
 }
 
 fn check_refused(program: &Program<'_>, report: &mut Report) -> Result<(), AllocError> {
     let mut allocator = SpillAll::new(report.alloc);
-    let compiled = compile_with(report.alloc, program.texts, &mut allocator)?;
+    let compiled = compile_with(report.alloc, program.texts.as_slice(), &mut allocator)?;
     let wanted = program.case.wanted.end.as_str();
     match &compiled {
-        Compiled::File(_) => report.fail("compile", wanted, "a file"),
-        Compiled::Refused(why) => report.compare("compile", wanted, why.as_str()),
+        Ok(_) => report.fail("compile", wanted, "a file"),
+        Err(why) => report.compare("compile", wanted, why.as_str()),
     }
 }
 
 // After what has no meaning only the output before it counts; but the machine ran, and ended as a machine can.
-fn check_run(case: &Case, what: &str, said: &Told, report: &mut Report) -> Result<(), AllocError> {
-    if case.wanted.is_lost() {
-        let end = said.end.as_str();
-        if !is_stop(end) {
-            return report.fail(what, "an end of the machine", end);
-        }
-        let before = case.wanted.output.as_slice();
-        report.holds(what, said.output.as_slice().starts_with(before))
-    } else {
-        report.compare_runs(what, &case.wanted, said)
-    }
-}
-
-fn check_run_over<R: Ram>(
+fn check_run<R: Ram>(
     program: &Program<'_>,
     what: &str,
     file: &[u8],
     report: &mut Report,
 ) -> Result<(), AllocError> {
-    let limit = program.case.instructions_given();
-    let said = ran::<R>(report.alloc, file, program.words, limit)?;
-    check_run(program.case, what, &said, report)
+    let (case, words) = (program.case, program.words.as_slice());
+    let said = ran::<R>(report.alloc, file, words, case.instructions_given())?;
+    if !case.wanted.is_lost() {
+        return report.compare_runs(what, &case.wanted, &said);
+    }
+    let end = said.end.as_str();
+    if !is_stop(end) {
+        return report.fail(what, "an end of the machine", end);
+    }
+    let before = case.wanted.output.as_slice();
+    report.holds(what, said.output.as_slice().starts_with(before))
 }
 
 fn check_file(program: &Program<'_>, file: &[u8], report: &mut Report) -> Result<(), AllocError> {
-    check_run_over::<PageRam>(program, "run over pages", file, report)?;
+    check_run::<PageRam>(program, "run over pages", file, report)?;
     if program.case.marks.is_large {
         return Ok(());
     }
-    check_run_over::<FlatRam>(program, "run over flat memory", file, report)
-}
-
-fn functions_of(alloc: Global, texts: &[&[u8]]) -> Result<u64, AllocError> {
-    let (_, weights) = measured(alloc, texts)?;
-    Ok(weights.as_str().split_whitespace().count() as u64)
+    check_run::<FlatRam>(program, "run over flat memory", file, report)
 }
 
 // With every register in a slot, and by linear scan; a large program by that alone.
@@ -126,7 +102,8 @@ fn check_compiled(program: &Program<'_>, report: &mut Report) -> Result<(), Allo
         return check_scanned(program, &[], report);
     }
     let mut allocator = SpillAll::new(report.alloc);
-    let spilled = file_by("compile in slots", program.texts, &mut allocator, report)?;
+    let texts = program.texts.as_slice();
+    let spilled = file_by("compile in slots", texts, &mut allocator, report)?;
     check_file(program, spilled.as_slice(), report)?;
     check_scanned(program, spilled.as_slice(), report)
 }
@@ -137,13 +114,14 @@ fn check_scanned(
     spilled: &[u8],
     report: &mut Report,
 ) -> Result<(), AllocError> {
-    let case = program.case;
+    let (case, texts) = (program.case, program.texts.as_slice());
     let mut allocator = Watched::new(report.alloc);
-    let file = file_by("compile", program.texts, &mut allocator, report)?;
+    let file = file_by("compile", texts, &mut allocator, report)?;
     let differs = spilled != file.as_slice();
     report.holds("bytes differ", differs || !case.marks.differs)?;
     check_file(program, file.as_slice(), report)?;
-    let functions = functions_of(report.alloc, program.texts)?;
+    let (_, weights) = measured(report.alloc, texts)?;
+    let functions = weights.as_str().split_whitespace().count() as u64;
     check_watched(case, &allocator, functions, report)
 }
 
@@ -190,24 +168,19 @@ fn check_done(case: &Case, what: &str, done: &Done, report: &mut Report) -> Resu
     report.holds(what, is_put_out)
 }
 
-fn check_commands(case: &Case, report: &mut Report) -> Result<(), AllocError> {
+fn check_commands(program: &Program<'_>, report: &mut Report) -> Result<(), AllocError> {
+    let case = program.case;
     let mut disk = BrokenDisk::new(report.alloc);
     for (number, text) in case.texts.iter().enumerate() {
         let path = format!(in report.alloc; "text{number}")?;
         disk.store(path.as_str(), text.as_slice())?;
     }
     if case.texts.len() > 0 {
-        check_build(case, &mut disk, report)?;
+        check_build(program, &mut disk, report)?;
     }
     if case.texts.len() == 1 {
-        check_words(
-            case,
-            &mut disk,
-            "interp",
-            case.turns_given(),
-            "text0",
-            report,
-        )?;
+        let limit = case.turns_given();
+        check_words(case, &mut disk, "interp", limit, "text0", report)?;
     }
     Ok(())
 }
@@ -234,19 +207,8 @@ fn said_of(
     alloc: Global,
 ) -> Result<Done, AllocError> {
     let limit = format!(in alloc; "{limit}")?;
-    said_within(case, disk, verb, limit.as_str(), path, alloc)
-}
-
-fn said_within<'x>(
-    case: &'x Case,
-    disk: &mut BrokenDisk,
-    verb: &'x str,
-    limit: &'x str,
-    path: &'x str,
-    alloc: Global,
-) -> Result<Done, AllocError> {
     let mut words = Vec::new(alloc);
-    words.extend_from_slice(&[verb, "--limit", limit, path, "--"])?;
+    words.extend_from_slice(&[verb, "--limit", limit.as_str(), path, "--"])?;
     for word in &case.words {
         words.push(word.as_str())?;
     }
@@ -278,21 +240,6 @@ fn build(case: &Case, disk: &mut BrokenDisk, alloc: Global) -> Result<Done, Allo
     perform_words(alloc, disk, words.finish()?.as_str())
 }
 
-fn check_built(case: &Case, built: &Done, report: &mut Report) -> Result<(), AllocError> {
-    if case.is_refused() {
-        return check_done(case, "build", built, report);
-    }
-    let line = built.line(report.alloc)?;
-    report.compare("build", "0 ", line.as_str())
-}
-
-// How the machine ends with the file that was built.
-fn built_ran(case: &Case, disk: &BrokenDisk, alloc: Global) -> Result<Told, AllocError> {
-    let words = words_as_bytes(alloc, &case.words)?;
-    let file = disk.find("out").unwrap_or(&[]);
-    ran::<PageRam>(alloc, file, words.as_slice(), case.instructions_given())
-}
-
 // Whether `run` says so of a run of the machine that ended so; of a fault, whichever it is.
 fn tells_stop(alloc: Global, end: &str, line: &str) -> Result<bool, AllocError> {
     match end {
@@ -313,24 +260,37 @@ fn compare_stops(wanted: &Told, said: &Done, report: &mut Report) -> Result<(), 
 }
 
 // What a program puts out before it has no meaning any more, `run` puts out first; it ends as the machine does, whatever that is.
-fn check_lost(case: &Case, disk: &mut BrokenDisk, report: &mut Report) -> Result<(), AllocError> {
-    let wanted = built_ran(case, disk, report.alloc)?;
+fn check_lost(
+    program: &Program<'_>,
+    disk: &mut BrokenDisk,
+    report: &mut Report,
+) -> Result<(), AllocError> {
+    let case = program.case;
     let limit = case.instructions_given();
+    let file = disk.find("out").unwrap_or(&[]);
+    let wanted = ran::<PageRam>(report.alloc, file, program.words.as_slice(), limit)?;
     let said = said_of(case, disk, "run", limit, "out", report.alloc)?;
     compare_stops(&wanted, &said, report)?;
     let before = case.wanted.output.as_slice();
     report.holds("run", said.output.as_slice().starts_with(before))
 }
 
-fn check_build(case: &Case, disk: &mut BrokenDisk, report: &mut Report) -> Result<(), AllocError> {
+fn check_build(
+    program: &Program<'_>,
+    disk: &mut BrokenDisk,
+    report: &mut Report,
+) -> Result<(), AllocError> {
+    let case = program.case;
     let built = build(case, disk, report.alloc)?;
-    check_built(case, &built, report)?;
     if case.is_refused() {
+        check_done(case, "build", &built, report)?;
         return report.holds("no file is written", disk.find("out").is_none());
     }
+    let line = built.line(report.alloc)?;
+    report.compare("build", "0 ", line.as_str())?;
     check_additions(case, disk, report)?;
     if case.wanted.is_lost() {
-        return check_lost(case, disk, report);
+        return check_lost(program, disk, report);
     }
     check_words(case, disk, "run", case.instructions_given(), "out", report)
 }

@@ -16,18 +16,14 @@ use test_report::told::Told;
 /// More turns than any of the programs takes.
 const PLENTY: u64 = 1 << 20;
 
-fn is_cut_off(alloc: Global, text: &[u8], turns: u64) -> Result<bool, AllocError> {
-    let said = interpreted(alloc, &[text], &[], turns)?;
-    Ok(said.end.as_str() == "limit")
-}
-
 // With how many turns the program is over: the least number.
 fn turns_of(alloc: Global, text: &[u8]) -> Result<u64, AllocError> {
     let mut below = 0u64;
     let mut enough = PLENTY;
     for _ in 0..21 {
         let middle = below / 2 + enough / 2;
-        if is_cut_off(alloc, text, middle)? {
+        let said = interpreted(alloc, &[text], &[], middle)?;
+        if said.end.as_str() == "limit" {
             below = middle;
         } else {
             enough = middle;

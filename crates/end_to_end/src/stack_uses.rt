@@ -10,15 +10,6 @@ use std::alloc::{AllocError, Global};
 /// So many turns of a run are looked at.
 const TURNS: u64 = 20_000;
 
-fn needs_of(alloc: Global, linked: &Linked<'_>) -> Result<Vec<u64>, AllocError> {
-    linked
-        .functions
-        .as_slice()
-        .iter()
-        .map(|function| capped_need(function.item))
-        .collect(alloc)
-}
-
 fn need_at(needs: &[u64], place: Option<Place>) -> u64 {
     place.map_or(0, |place| needs.get(place.function).copied().unwrap_or(0))
 }
@@ -32,26 +23,23 @@ fn used(running: &Running<'_>, needs: &[u64]) -> u64 {
     sum
 }
 
-fn greatest(alloc: Global, running: &mut Running<'_>, needs: &[u64]) -> Result<u64, AllocError> {
-    let mut greatest = used(running, needs);
+fn greatest_of(alloc: Global, linked: &Linked<'_>) -> Result<u64, AllocError> {
+    let functions = linked.functions.as_slice().iter();
+    let needs: Vec<u64> = functions
+        .map(|function| capped_need(function.item))
+        .collect(alloc)?;
+    let Ok(Ok(mut running)) = begin_to_run(alloc, linked, &[]) else {
+        return Ok(0);
+    };
+    running.watch(alloc, 0);
+    let mut greatest = used(&running, needs.as_slice());
     for _done in 0..TURNS {
         if running.go_on(alloc, 1)?.is_some() {
             break;
         }
-        greatest = greatest.max(used(running, needs));
+        greatest = greatest.max(used(&running, needs.as_slice()));
     }
     Ok(greatest)
-}
-
-fn greatest_of(alloc: Global, linked: &Linked<'_>) -> Result<u64, AllocError> {
-    let needs = needs_of(alloc, linked)?;
-    match begin_to_run(alloc, linked, &[]) {
-        Ok(Ok(mut running)) => {
-            running.watch(alloc, 0);
-            greatest(alloc, &mut running, needs.as_slice())
-        }
-        _ => Ok(0),
-    }
 }
 
 /// The greatest use of the stack in the first turns of a run without argument words, in bytes: 0 where the texts are no program.

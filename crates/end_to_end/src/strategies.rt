@@ -87,12 +87,6 @@ fn place(answer: Answer, register: u32) -> Location {
     }
 }
 
-fn list_of(alloc: Global, answer: Answer, length: u32) -> Result<Vec<Location>, AllocError> {
-    (0..length)
-        .map(|register| place(answer, register))
-        .collect(alloc)
-}
-
 // Slots from 1 on, round to 0.
 fn other_slots(alloc: Global, registers: u32) -> Result<Vec<Location>, AllocError> {
     let mut list = Vec::new(alloc);
@@ -169,14 +163,6 @@ fn cut_list(
     Ok(())
 }
 
-fn moves_of(alloc: Global, transfer: Transfer, count: u32) -> Result<Seq<Transfer>, AllocError> {
-    let mut moves = Seq::new(alloc);
-    for _ in 0..count {
-        moves.push(transfer)?;
-    }
-    Ok(moves)
-}
-
 // So many moves before each of so many points.
 fn all_moves(
     alloc: Global,
@@ -186,18 +172,10 @@ fn all_moves(
 ) -> Result<Seq<Seq<Transfer>>, AllocError> {
     let mut all = Seq::new(alloc);
     for _ in 0..points {
-        all.push(moves_of(alloc, transfer, count)?)?;
+        let moves = vec![in alloc; transfer; count as usize]?;
+        all.push(Seq::from_vec(moves))?;
     }
     Ok(all)
-}
-
-// How long the list of places is.
-fn length(answer: Answer, registers: u32) -> u32 {
-    match answer {
-        Answer::Slots { more: true } => registers.saturating_add(1),
-        Answer::Slots { more: false } => registers.saturating_sub(1),
-        _ => registers,
-    }
 }
 
 // The certificate of the answer's list, with what the answer asks for done to it.
@@ -208,7 +186,13 @@ fn certificate(
     live: &Live,
 ) -> Result<Certificate, AllocError> {
     let registers = function.registers;
-    let list = list_of(alloc, answer, length(answer, registers))?;
+    let length = match answer {
+        Answer::Slots { more: true } => registers.saturating_add(1),
+        Answer::Slots { more: false } => registers.saturating_sub(1),
+        _ => registers,
+    };
+    let places = (0..length).map(|register| place(answer, register));
+    let list: Vec<Location> = places.collect(alloc)?;
     let mut certificate = certificate_of(alloc, function, live, &list)?;
     match answer {
         Answer::Blank => certificate = blank(alloc),

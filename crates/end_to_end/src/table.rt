@@ -16,7 +16,7 @@
 //! | `additions N` | at least so many instructions of its file add |
 //! | `registers N` | at least so often linear scan names a register of the machine for a line or a jump |
 //! | `tried`, `differs`, `cut`, `large` | strategies of every kind are tried; the bytes by both strategies differ; linear scan moves a value; it is compiled once |
-use crate::case::{Bounds, Case, Marks};
+use crate::case::Case;
 use crate::texts::made::push_made;
 use std::alloc::{AllocError, Global};
 use std::rt::Files;
@@ -73,7 +73,11 @@ impl CaseTable {
             "text" => self.begin(Lines::Text, "")?,
             "main" => self.begin(Lines::Main, "export function w $main() {\n@s\n")?,
             "prints" => self.begin(Lines::Printed, "")?,
-            _ => self.take_key(key, rest)?,
+            _ => {
+                if let Some(case) = self.cases.last_mut() {
+                    take_of(self.alloc, case, key, rest)?
+                }
+            }
         }
         Ok(())
     }
@@ -85,14 +89,10 @@ impl CaseTable {
     }
 
     fn take_block_line(&mut self, line: &str) -> Result<(), AllocError> {
-        if line == "." {
-            return self.end_block();
+        if line != "." {
+            self.block.push_str(line)?;
+            return self.block.push('\n');
         }
-        self.block.push_str(line)?;
-        self.block.push('\n')
-    }
-
-    fn end_block(&mut self) -> Result<(), AllocError> {
         let lines = self.lines;
         self.lines = Lines::Keys;
         if lines == Lines::Main {
@@ -112,14 +112,6 @@ impl CaseTable {
         }
         Ok(())
     }
-
-    fn take_key(&mut self, key: &str, rest: &str) -> Result<(), AllocError> {
-        let alloc = self.alloc;
-        if let Some(case) = self.cases.last_mut() {
-            take_of(alloc, case, key, rest)?;
-        }
-        Ok(())
-    }
 }
 
 // The number that a line has.
@@ -127,47 +119,46 @@ fn number(text: &str) -> u64 {
     text.parse::<u64>().unwrap_or(0)
 }
 
+// Whether it is the key of a mark or of a bound, which is set then, a bound to this number.
+fn takes_bound(case: &mut Case, key: &str, number: u64) -> bool {
+    match key {
+        "tried" => case.marks.is_tried = true,
+        "differs" => case.marks.differs = true,
+        "cut" => case.marks.is_cut = true,
+        "large" => case.marks.is_large = true,
+        "limit" => case.bounds.limit = Some(number),
+        "turns" => case.bounds.turns = Some(number),
+        "price" => case.bounds.price = Some(number),
+        "additions" => case.bounds.additions = number as usize,
+        "registers" => case.bounds.registers = number,
+        _ => return false,
+    }
+    true
+}
+
 fn take_of(alloc: Global, case: &mut Case, key: &str, rest: &str) -> Result<(), AllocError> {
-    if takes_mark(&mut case.marks, key) || takes_bound(&mut case.bounds, key, number(rest)) {
+    if takes_bound(case, key, number(rest)) {
         return Ok(());
     }
     match key {
         "made" => {
             let (word, count) = rest.split_once(' ').unwrap_or((rest, "0"));
-            push_made(alloc, &mut case.texts, word, number(count))
+            push_made(alloc, &mut case.texts, word, number(count))?
         }
-        "words" | "many" | "long" | "zero" => take_words(alloc, &mut case.words, key, rest),
-        _ => take_wanted(alloc, case, key, rest),
-    }
-}
-
-// Whether it is the key of a mark, which is set then.
-fn takes_mark(marks: &mut Marks, key: &str) -> bool {
-    match key {
-        "tried" => marks.is_tried = true,
-        "differs" => marks.differs = true,
-        "cut" => marks.is_cut = true,
-        "large" => marks.is_large = true,
-        _ => return false,
-    }
-    true
-}
-
-// Whether it is the key of a bound, which has this number then.
-fn takes_bound(bounds: &mut Bounds, key: &str, number: u64) -> bool {
-    match key {
-        "limit" => bounds.limit = Some(number),
-        "turns" => bounds.turns = Some(number),
-        "price" => bounds.price = Some(number),
-        "additions" => bounds.additions = number as usize,
-        "registers" => bounds.registers = number,
-        _ => return false,
-    }
-    true
-}
-
-fn take_wanted(alloc: Global, case: &mut Case, key: &str, rest: &str) -> Result<(), AllocError> {
-    match key {
+        "words" => {
+            for word in rest.split(' ') {
+                push_many(alloc, &mut case.words, 1, word)?;
+            }
+        }
+        "many" => {
+            let (count, word) = rest.split_once(' ').unwrap_or(("0", rest));
+            push_many(alloc, &mut case.words, number(count), word)?
+        }
+        "long" => {
+            let word = "p".repeat(alloc, number(rest) as usize)?;
+            push_many(alloc, &mut case.words, 1, word.as_str())?
+        }
+        "zero" => push_many(alloc, &mut case.words, 1, "a\0b")?,
         "end" => case.wanted.end = String::from_str(alloc, rest)?,
         "output" => case.wanted.output = bytes_of(alloc, rest)?,
         "zeros" => case.wanted.output.resize(number(rest) as usize, 0)?,
@@ -175,33 +166,6 @@ fn take_wanted(alloc: Global, case: &mut Case, key: &str, rest: &str) -> Result<
         "weighs" => case.weights = String::from_str(alloc, rest)?,
         // A key that there isn't must not go unseen.
         _ => case.wanted.end = format!(in alloc; "no key {key}")?,
-    }
-    Ok(())
-}
-
-fn take_words(
-    alloc: Global,
-    words: &mut Vec<String>,
-    key: &str,
-    rest: &str,
-) -> Result<(), AllocError> {
-    match key {
-        "words" => push_words(alloc, words, rest),
-        "many" => {
-            let (count, word) = rest.split_once(' ').unwrap_or(("0", rest));
-            push_many(alloc, words, number(count), word)
-        }
-        "long" => {
-            let word = "p".repeat(alloc, number(rest) as usize)?;
-            push_many(alloc, words, 1, word.as_str())
-        }
-        _ => push_many(alloc, words, 1, "a\0b"),
-    }
-}
-
-fn push_words(alloc: Global, words: &mut Vec<String>, text: &str) -> Result<(), AllocError> {
-    for word in text.split(' ') {
-        words.push(String::from_str(alloc, word)?)?;
     }
     Ok(())
 }

@@ -2,7 +2,7 @@
 //! of many small functions ([`small_functions`]).
 
 mod branches;
-pub(crate) mod made;
+pub mod made;
 mod random_body;
 pub(crate) mod random_text;
 pub(crate) mod small_functions;

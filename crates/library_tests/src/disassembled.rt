@@ -24,8 +24,15 @@ fn file_of(alloc: Global, flags: u8, bytes: &[u8], size: u8) -> Result<Vec<u8>, 
     Ok(file)
 }
 
-/// The lines of such a file, one after another.
-fn shown(alloc: Global, flags: u8, bytes: &[u8], size: u8) -> Result<String, AllocError> {
+/// Stops the test where the lines of such a file, one after another, are others.
+fn is_shown(
+    rt: &(impl Abort + AllocGlobal),
+    flags: u8,
+    bytes: &[u8],
+    size: u8,
+    expected: &str,
+) -> Result<(), AllocError> {
+    let alloc = rt.alloc();
     let file = file_of(alloc, flags, bytes, size)?;
     let mut all = String::new(alloc);
     match read_image(alloc, file.as_slice()) {
@@ -36,33 +43,20 @@ fn shown(alloc: Global, flags: u8, bytes: &[u8], size: u8) -> Result<String, All
         }
         Err(error) => write!(all, "{error}")?,
     }
-    Ok(all)
-}
-
-fn is_shown(
-    rt: &impl Abort,
-    alloc: Global,
-    flags: u8,
-    bytes: &[u8],
-    size: u8,
-    expected: &str,
-) -> Result<(), AllocError> {
-    let text = shown(alloc, flags, bytes, size)?;
-    assert_eq!(rt; text.as_str(), expected);
+    assert_eq!(rt; all.as_str(), expected);
     Ok(())
 }
 
 #[test]
 fn lines_of_code(rt: HostRuntime) -> Result<(), AllocError> {
-    let alloc = rt.alloc();
     let code = b"\x13\x05\0\0\xef\xf0\xdf\xff\x1b\x15\x05\x02\x13\x01";
     let expected = "00010000  00000513  addi x10, x0, 0
 00010004  ffdff0ef  jal x1, -4
 00010008  0205151b  ?
 ";
-    is_shown(&rt, alloc, 1, code, 14, expected)?;
-    is_shown(&rt, alloc, 5, code, 100, expected)?;
-    is_shown(&rt, alloc, 1, b"\0\0\0\0", 4, "00010000  00000000  ?\n")?;
-    is_shown(&rt, alloc, 1, b"\x13", 4, "")?;
-    is_shown(&rt, alloc, 1, b"\x13", 3, "L5")
+    is_shown(&rt, 1, code, 14, expected)?;
+    is_shown(&rt, 5, code, 100, expected)?;
+    is_shown(&rt, 1, b"\0\0\0\0", 4, "00010000  00000000  ?\n")?;
+    is_shown(&rt, 1, b"\x13", 4, "")?;
+    is_shown(&rt, 1, b"\x13", 3, "L5")
 }

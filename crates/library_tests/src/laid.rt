@@ -157,13 +157,8 @@ fn jumps(rt: HostRuntime) -> Result<(), AllocError> {
 #[test]
 fn branches(rt: HostRuntime) -> Result<(), AllocError> {
     ahead(&rt, BRANCH, 1023, 1024, &[0x0005_1463, 0x7fd0_006f])?;
-    ahead(
-        &rt,
-        BRANCH_BELOW,
-        299_998,
-        300_000,
-        &[0x0005_7663, 0x0012_5f97, 0xf7cf_8067],
-    )
+    let words = [0x0005_7663, 0x0012_5f97, 0xf7cf_8067];
+    ahead(&rt, BRANCH_BELOW, 299_998, 300_000, &words)
 }
 
 #[test]
@@ -171,13 +166,8 @@ fn branches_ahead_grow_at_the_ends_of_their_ranges(rt: HostRuntime) -> Result<()
     ahead(&rt, BRANCH, 1021, 1021, &[0x7e05_0ae3, NOP_WORD])?;
     ahead(&rt, BRANCH, 1022, 1023, &[0x0005_1463, 0x7f90_006f])?;
     ahead(&rt, BRANCH, 262_141, 262_142, &[0x0005_1463, 0x7f5f_f06f])?;
-    ahead(
-        &rt,
-        BRANCH,
-        262_142,
-        262_144,
-        &[0x0005_1663, 0x0010_0f97, 0xffcf_8067],
-    )
+    let words = [0x0005_1663, 0x0010_0f97, 0xffcf_8067];
+    ahead(&rt, BRANCH, 262_142, 262_144, &words)
 }
 
 #[test]
@@ -185,13 +175,8 @@ fn branches_back_grow_at_the_ends_of_their_ranges(rt: HostRuntime) -> Result<(),
     back(&rt, BRANCH, 1025, 1025, &[NOP_WORD, 0x8005_0063])?;
     back(&rt, BRANCH, 1026, 1027, &[0x0005_1463, 0xff9f_e06f])?;
     back(&rt, BRANCH, 262_144, 262_145, &[0x0005_1463, 0x8000_006f])?;
-    back(
-        &rt,
-        BRANCH,
-        262_145,
-        262_147,
-        &[0x0005_1663, 0xfff0_0f97, 0xffcf_8067],
-    )
+    let words = [0x0005_1663, 0xfff0_0f97, 0xffcf_8067];
+    back(&rt, BRANCH, 262_145, 262_147, &words)
 }
 
 // One word further than each form reaches.
@@ -199,20 +184,10 @@ fn branches_back_grow_at_the_ends_of_their_ranges(rt: HostRuntime) -> Result<(),
 fn branches_and_jumps_past_the_ends_of_their_ranges(rt: HostRuntime) -> Result<(), AllocError> {
     ahead(&rt, BRANCH, 1024, 1025, &[0x0005_1463, 0x0000_106f])?;
     ahead(&rt, JUMP, 262_144, 262_145, &[0x0010_0f97, 0x004f_8067])?;
-    ahead(
-        &rt,
-        BRANCH_UNEQUAL,
-        262_143,
-        262_145,
-        &[0x0005_0663, 0x0010_0f97, 0x000f_8067],
-    )?;
-    ahead(
-        &rt,
-        BRANCH_UNEQUAL,
-        262_144,
-        262_146,
-        &[0x0005_0663, 0x0010_0f97, 0x004f_8067],
-    )
+    let words = [0x0005_0663, 0x0010_0f97, 0x000f_8067];
+    ahead(&rt, BRANCH_UNEQUAL, 262_143, 262_145, &words)?;
+    let words = [0x0005_0663, 0x0010_0f97, 0x004f_8067];
+    ahead(&rt, BRANCH_UNEQUAL, 262_144, 262_146, &words)
 }
 
 // A loop that is left by a branch, with the address of a global.

@@ -12,8 +12,6 @@ mod addresses;
 #[cfg(test)]
 mod disassembled;
 #[cfg(test)]
-mod few;
-#[cfg(test)]
 mod halves;
 #[cfg(test)]
 mod laid;

@@ -23,16 +23,12 @@ const DATA: [u8; 16] = [
     0x48, 0x69, 0x0a, 0x81, 0xf2, 0xf3, 0xf4, 0xf5, 0xf6, 0xf7, 0xf8, 0xf9, 0xfa, 0xfb, 0xfc, 0xfd,
 ];
 
-// The file of a program of these words.
-fn file_of(rt: &impl Abort, alloc: Global, code: &[u32]) -> Result<Vec<u8>, AllocError> {
+// The file of a program of these words, read.
+fn loaded(rt: &impl Abort, alloc: Global, code: &[u32]) -> Result<Loaded, Fail> {
     let code = code.to_vec(alloc)?;
     let data = DATA.to_vec(alloc)?;
     assert!(rt; !code.is_empty() && code.len() <= 1024 && data.len() == 16);
-    write_image(alloc, &Image::new(code, data))
-}
-
-fn loaded(rt: &impl Abort, alloc: Global, code: &[u32]) -> Result<Loaded, Fail> {
-    let file = file_of(rt, alloc, code)?;
+    let file = write_image(alloc, &Image::new(code, data))?;
     Ok(read_image(alloc, &file)?)
 }
 
@@ -219,15 +215,11 @@ fn has_double<R: Ram>(rt: &impl Abort, machine: &Machine<R>, at: u64, wanted: u6
     assert!(rt; found == Some(wanted), "{found:?} at {at:x}");
 }
 
-fn with_words(rt: &impl Abort, alloc: Global, words: &[&[u8]]) -> Result<Machine<FlatRam>, Fail> {
-    let file = loaded(rt, alloc, &HELLO)?;
-    Ok(Machine::start(alloc, &file, words)?)
-}
-
 // The stack pointer, and from there the count, two pointers, zeros and the words.
 #[test]
 fn arguments(rt: HostRuntime) -> Result<(), Fail> {
-    let machine = with_words(&rt, rt.alloc(), &[b"p", b"abc"])?;
+    let file = loaded(&rt, rt.alloc(), &HELLO)?;
+    let machine: Machine<FlatRam> = Machine::start(rt.alloc(), &file, &[b"p", b"abc"])?;
     stands_at(&rt, &machine, 0x10000);
     register_has(&rt, &machine, X2, 0x1000_0000);
     register_has(&rt, &machine, X1, 0);

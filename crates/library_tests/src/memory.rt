@@ -14,24 +14,19 @@ fn loads(rt: &impl Abort, memory: &BlockMemory, from: Value, size: Size, wanted:
     assert!(rt; loaded == wanted, "{size:?} from {from:?}: {loaded:?}");
 }
 
-/// What stands in a block of 9 bytes in which a long of the bytes from 0x11 to 0x88 stands from the second one on.
-fn has_number(rt: &impl Abort, memory: &BlockMemory, block: BlockId) {
-    let long = Some(Value::Integer(0x8877665544332211));
-    loads(rt, memory, pointer(block, 1), Size::Long, long);
-    let half = Some(Value::Integer(0x3322));
-    loads(rt, memory, pointer(block, 2), Size::Half, half);
-    // blank, and past the end
-    loads(rt, memory, pointer(block, 0), Size::Byte, None);
-    loads(rt, memory, pointer(block, 2), Size::Long, None);
-}
-
+// A long of the bytes from 0x11 to 0x88 in a block of 9 bytes, from the second one on.
 #[test]
 fn numbers_go_by_their_bytes(rt: HostRuntime) -> Result<(), AllocError> {
     let mut memory = BlockMemory::new(rt.alloc());
     let block = memory.fresh(9)?;
     let number = Value::Integer(0x8877665544332211);
     let _ = memory.store(pointer(block, 1), number, Size::Long);
-    has_number(&rt, &memory, block);
+    loads(&rt, &memory, pointer(block, 1), Size::Long, Some(number));
+    let half = Some(Value::Integer(0x3322));
+    loads(&rt, &memory, pointer(block, 2), Size::Half, half);
+    // blank, and past the end
+    loads(&rt, &memory, pointer(block, 0), Size::Byte, None);
+    loads(&rt, &memory, pointer(block, 2), Size::Long, None);
     Ok(())
 }
 

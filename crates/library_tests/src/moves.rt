@@ -7,6 +7,7 @@ use crate::same::is_number;
 use phi_copies::moves::Move;
 use phi_copies::sequence::sequence;
 use std::alloc::{AllocError, Global};
+use std::fmt::Write;
 use std::process::Abort;
 
 fn goes_elsewhere(place: usize, moves: &[Move]) -> bool
@@ -45,24 +46,32 @@ fn move_in(places: &mut [usize], moves: &[Move]) {
     }
 }
 
-/// What nine places that held their numbers hold after the moves.
-fn left_by(moves: &[Move]) -> [usize; 10] {
+/// The place that a digit stands for.
+fn place_of(digit: u8) -> usize {
+    usize::from(digit.wrapping_sub(b'0'))
+}
+
+/// The moves of a text: of each the digits of where it goes to and where it comes from.
+fn moves_of(alloc: Global, pairs: &str) -> Result<Vec<Move>, AllocError> {
+    let mut moves = Vec::new(alloc);
+    for pair in pairs.split_whitespace() {
+        if let [to, from] = pair.as_bytes() {
+            let (to, from) = (place_of(*to), place_of(*from));
+            moves.push(Move { to, from })?;
+        }
+    }
+    Ok(moves)
+}
+
+/// What nine places that held their numbers hold after the moves, a digit for each.
+fn left_by(alloc: Global, moves: &[Move]) -> Result<String, AllocError> {
     let mut places = [0, 1, 2, 3, 4, 5, 6, 7, 8, 9];
     move_in(&mut places, moves);
-    places
-}
-
-/// So many places, which hold their numbers.
-fn numbered(alloc: Global, count: usize) -> Result<Vec<usize>, AllocError> {
-    (0..count).collect(alloc)
-}
-
-fn moves_of(alloc: Global, pairs: &[(usize, usize)]) -> Result<Vec<Move>, AllocError> {
-    let moves = pairs.iter().map(|(to, from)| Move {
-        to: *to,
-        from: *from,
-    });
-    moves.collect(alloc)
+    let mut left = String::new(alloc);
+    for place in places.iter().take(9) {
+        write!(left, "{place}")?;
+    }
+    Ok(left)
 }
 
 fn in_order(
@@ -76,96 +85,42 @@ fn in_order(
     sequence(alloc, moves, scratch)
 }
 
-fn leaves(rt: &impl Abort, out: &[Move], want: [usize; 9], count: usize) {
-    let left = left_by(out);
-    assert_eq!(rt; &left[..9], want.as_slice(), "{out:?}");
-    is_number(rt, out.len(), count);
-}
-
 fn makes(
-    pairs: &[(usize, usize)],
-    want: [usize; 9],
+    pairs: &str,
+    want: &str,
     count: usize,
     rt: &(impl Abort + AllocGlobal),
 ) -> Result<(), AllocError> {
     let moves = moves_of(rt.alloc(), pairs)?;
     let out = in_order(rt, rt.alloc(), moves.as_slice(), SCRATCH)?;
-    leaves(rt, out.as_slice(), want, count);
+    let left = left_by(rt.alloc(), out.as_slice())?;
+    assert_eq!(rt; left.as_str(), want, "{out:?}");
+    is_number(rt, out.len(), count);
     Ok(())
 }
 
 #[test]
 fn small(rt: HostRuntime) -> Result<(), AllocError> {
-    makes(&[], [0, 1, 2, 3, 4, 5, 6, 7, 8], 0, &rt)?;
-    makes(&[(3, 3)], [0, 1, 2, 3, 4, 5, 6, 7, 8], 0, &rt)?;
-    makes(&[(1, 2)], [0, 2, 2, 3, 4, 5, 6, 7, 8], 1, &rt)
+    makes("", "012345678", 0, &rt)?;
+    makes("33", "012345678", 0, &rt)?;
+    makes("12", "022345678", 1, &rt)
 }
 
 #[test]
 fn chains_and_trees(rt: HostRuntime) -> Result<(), AllocError> {
-    makes(
-        &[(1, 0), (2, 1), (3, 2)],
-        [0, 0, 1, 2, 4, 5, 6, 7, 8],
-        3,
-        &rt,
-    )?;
-    makes(
-        &[(3, 2), (2, 1), (1, 0)],
-        [0, 0, 1, 2, 4, 5, 6, 7, 8],
-        3,
-        &rt,
-    )?;
-    makes(
-        &[(2, 1), (3, 1), (1, 0), (4, 1)],
-        [0, 0, 1, 1, 1, 5, 6, 7, 8],
-        4,
-        &rt,
-    )?;
-    makes(
-        &[(1, 0), (2, 1), (3, 3), (4, 3)],
-        [0, 0, 1, 3, 3, 5, 6, 7, 8],
-        3,
-        &rt,
-    )
+    makes("10 21 32", "001245678", 3, &rt)?;
+    makes("32 21 10", "001245678", 3, &rt)?;
+    makes("21 31 10 41", "001115678", 4, &rt)?;
+    makes("10 21 33 43", "001335678", 3, &rt)
 }
 
 #[test]
 fn cycles(rt: HostRuntime) -> Result<(), AllocError> {
-    makes(&[(0, 1), (1, 0)], [1, 0, 2, 3, 4, 5, 6, 7, 8], 3, &rt)?;
-    makes(
-        &[(0, 1), (1, 2), (2, 0), (4, 1), (5, 4)],
-        [1, 2, 0, 3, 1, 4, 6, 7, 8],
-        6,
-        &rt,
-    )?;
-    makes(
-        &[(4, 1), (1, 2), (5, 4), (2, 0), (0, 1)],
-        [1, 2, 0, 3, 1, 4, 6, 7, 8],
-        6,
-        &rt,
-    )?;
-    makes(
-        &[(0, 1), (1, 0), (2, 3), (3, 2), (4, 4)],
-        [1, 0, 3, 2, 4, 5, 6, 7, 8],
-        6,
-        &rt,
-    )?;
-    makes(
-        &[
-            (0, 1),
-            (1, 2),
-            (2, 3),
-            (3, 4),
-            (4, 5),
-            (5, 6),
-            (6, 7),
-            (7, 8),
-            (8, 0),
-        ],
-        [1, 2, 3, 4, 5, 6, 7, 8, 0],
-        10,
-        &rt,
-    )
+    makes("01 10", "102345678", 3, &rt)?;
+    makes("01 12 20 41 54", "120314678", 6, &rt)?;
+    makes("41 12 54 20 01", "120314678", 6, &rt)?;
+    makes("01 10 23 32 44", "103245678", 6, &rt)?;
+    makes("01 12 23 34 45 56 67 78 80", "123456780", 10, &rt)
 }
 
 /// Four thousand moves, each from the place before it, and the first from this place.
@@ -185,20 +140,7 @@ fn shifted(places: &[usize], first: usize) -> usize {
         .count()
 }
 
-/// What these moves of five thousand and one places leave, and how many they are.
-fn leaves_shifted(
-    rt: &(impl Abort + AllocGlobal),
-    out: &[Move],
-    first: usize,
-    count: usize,
-) -> Result<(), AllocError> {
-    let mut places = numbered(rt.alloc(), 5001)?;
-    move_in(places.as_mut_slice(), out);
-    is_number(rt, shifted(places.as_slice(), first), 4000);
-    is_number(rt, out.len(), count);
-    Ok(())
-}
-
+/// What the moves of such a chain leave in five thousand and one places, and how many they become.
 fn makes_long(
     first: usize,
     count: usize,
@@ -206,7 +148,11 @@ fn makes_long(
 ) -> Result<(), AllocError> {
     let moves = long_chain(rt.alloc(), first)?;
     let out = in_order(rt, rt.alloc(), moves.as_slice(), 5000)?;
-    leaves_shifted(rt, out.as_slice(), first, count)
+    let mut places: Vec<usize> = (0..5001).collect(rt.alloc())?;
+    move_in(places.as_mut_slice(), out.as_slice());
+    is_number(rt, shifted(places.as_slice(), first), 4000);
+    is_number(rt, out.len(), count);
+    Ok(())
 }
 
 /// Four thousand moves round one cycle, and along one chain.

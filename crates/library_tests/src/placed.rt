@@ -66,27 +66,18 @@ fn words(alloc: Global, count: usize) -> Result<MachineCode, AllocError>
     Ok(MachineCode::new(words, Vec::new(alloc)))
 }
 
-fn first_codes(alloc: Global) -> Result<Vec<MachineCode>, AllocError> {
-    let mut codes = Vec::new(alloc);
-    for count in [256, 256, 1] {
-        codes.push(words(alloc, count)?)?;
-    }
-    Ok(codes)
-}
-
 // Two functions in front of `main`.
 const OTHERS: &str = "function $one() {\n@s\nret\n}\nfunction $two() {\n@s\nret\n}\n";
-
-fn first_image(alloc: Global) -> Result<Image, Fail> {
-    let texts = checked(alloc, &[OTHERS, MAIN])?;
-    let codes = first_codes(alloc)?;
-    image_of(alloc, texts.as_slice(), codes.as_slice())
-}
 
 // The start code goes to `main`, which stands 0x7d0 bytes below 0x11000, behind two functions of 256 words.
 #[test]
 fn first_words(rt: HostRuntime) -> Result<(), Fail> {
-    let image = first_image(rt.alloc())?;
+    let texts = checked(rt.alloc(), &[OTHERS, MAIN])?;
+    let mut codes = Vec::new(rt.alloc());
+    for count in [256, 256, 1] {
+        codes.push(words(rt.alloc(), count)?)?;
+    }
+    let image = image_of(rt.alloc(), texts.as_slice(), codes.as_slice())?;
     let expected: &[u32] = &[
         0x00013503, 0x00810593, 0x000112b7, 0x8302829b, 0x000280e7, 0x05d00893, 0x00000073,
         0x04000893, 0x00000073, 0x00008067, 0x05d00893, 0x00000073,
@@ -160,13 +151,6 @@ fn a_program_of_one_function(rt: HostRuntime) -> Result<(), Fail> {
     Ok(())
 }
 
-fn is_image(rt: &impl Abort, image: &Image, words: usize, start: u64) {
-    is_number(rt, image.code().len(), words);
-    assert_eq!(rt; image.code_size(), (words as u64).saturating_mul(4));
-    assert!(rt; image.data() == [7u8; 16].as_slice());
-    assert_eq!(rt; image.data_start(), start);
-}
-
 fn data_stands_at(
     rt: &impl Abort,
     alloc: Global,
@@ -177,7 +161,10 @@ fn data_stands_at(
     let slot = vec![in alloc; 7; SLOT]?;
     assert!(rt; code.len() < 2000 && !code.is_empty() && slot.len() == SLOT);
     let image = Image::new(code, slot);
-    is_image(rt, &image, words, start);
+    is_number(rt, image.code().len(), words);
+    assert_eq!(rt; image.code_size(), (words as u64).saturating_mul(4));
+    assert!(rt; image.data() == [7u8; 16].as_slice());
+    assert_eq!(rt; image.data_start(), start);
     Ok(())
 }
 

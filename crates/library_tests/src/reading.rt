@@ -1,7 +1,7 @@
 //! Texts that are cut off, texts with a byte too many, and a long text.
 
 use crate::same::is_number;
-use il_ast::{Definition, Func, Text};
+use il_ast::{Definition, Text};
 use il_reader::error::ReadError;
 use il_reader::read::read;
 use std::alloc::{AllocError, Global};
@@ -39,19 +39,13 @@ fn each_front_of_a_text(rt: HostRuntime) {
     }
 }
 
-/// The text with a byte put in.
-fn with_byte(alloc: Global, front: &[u8], byte: u8, back: &[u8]) -> Result<Vec<u8>, AllocError> {
-    let mut text = Vec::from_slice(alloc, front)?;
-    text.push(byte)?;
-    text.extend_from_slice(back)?;
-    Ok(text)
-}
-
 fn stands_nowhere(rt: &impl Abort, alloc: Global, byte: u8) -> Result<(), AllocError> {
     let mut lines: usize = 1;
     for at in 0..=LOOP_SUM.len() {
         let (front, back) = LOOP_SUM.split_at(at);
-        let text = with_byte(alloc, front, byte, back)?;
+        let mut text = Vec::from_slice(alloc, front)?;
+        text.push(byte)?;
+        text.extend_from_slice(back)?;
         let line = error_line(alloc, &text, rt);
         assert_eq!(rt; line, lines, "{byte} at {at}");
         if back.first() == Some(&b'\n') {
@@ -69,26 +63,16 @@ fn bytes_that_stand_nowhere(rt: HostRuntime) -> Result<(), AllocError> {
     Ok(())
 }
 
-fn push_long_function(text: &mut TextMaker, number: u64) {
-    say!(text; "function $f{number}(w %p) {{\n");
-    for b in 0..20 {
-        say!(text; "@b{b}\n%t{b} =w add %p, {b}\n%u{b} =w call $f{b}(w %t{b})\n");
-    }
-    text.add("ret %p\n}\n");
-}
-
 fn long_text(alloc: Global) -> Result<String, AllocError> {
     let mut text = TextMaker::new(alloc);
     for number in 0..40 {
-        push_long_function(&mut text, number);
+        say!(text; "function $f{number}(w %p) {{\n");
+        for b in 0..20 {
+            say!(text; "@b{b}\n%t{b} =w add %p, {b}\n%u{b} =w call $f{b}(w %t{b})\n");
+        }
+        text.add("ret %p\n}\n");
     }
     text.finish()
-}
-
-fn is_last(rt: &impl Abort, function: &Func) {
-    is_number(rt, function.temps.len(), 41);
-    is_number(rt, function.labels.len(), 20);
-    is_number(rt, function.name.number(), 39);
 }
 
 fn is_long_text(rt: &impl Abort, tree: &Text) {
@@ -96,7 +80,11 @@ fn is_long_text(rt: &impl Abort, tree: &Text) {
     is_number(rt, tree.symbols.len(), 40);
     is_number(rt, tree.lines, 40 * 63 + 1);
     match tree.definitions.as_slice().last() {
-        Some(Definition::Function(function)) => is_last(rt, function),
+        Some(Definition::Function(last)) => {
+            is_number(rt, last.temps.len(), 41);
+            is_number(rt, last.labels.len(), 20);
+            is_number(rt, last.name.number(), 39);
+        }
         _ => assert!(rt; false, "a function"),
     }
 }

@@ -10,12 +10,6 @@ fn holds(rt: &impl Abort, sink: &MemorySink, bytes: &[u8], faults: u64) {
     assert_eq!(rt; sink.faults, faults);
 }
 
-fn nothing_asks_for_nothing(rt: &impl Abort, alloc: Global) {
-    let mut sink = MemorySink::new(alloc, 0, 1);
-    assert_eq!(rt; write_exe(b"", &mut sink), Ok(()));
-    assert_eq!(rt; sink.calls, 0);
-}
-
 #[test]
 fn all_goes_out_or_a_beginning(rt: HostRuntime) -> Result<(), Fail> {
     let table: [(usize, u64, Result<(), WriteFault>, &[u8], u64); 6] = [
@@ -31,7 +25,10 @@ fn all_goes_out_or_a_beginning(rt: HostRuntime) -> Result<(), Fail> {
         assert_eq!(rt; write_exe(b"seven77", &mut sink), answer);
         holds(&rt, &sink, bytes, faults);
     }
-    nothing_asks_for_nothing(&rt, rt.alloc());
+    // nothing asks for nothing
+    let mut sink = MemorySink::new(rt.alloc(), 0, 1);
+    assert_eq!(rt; write_exe(b"", &mut sink), Ok(()));
+    assert_eq!(rt; sink.calls, 0);
     Ok(())
 }
 
@@ -53,14 +50,8 @@ fn parts_go_out(
 #[test]
 fn parts_go_out_one_after_another(rt: HostRuntime) -> Result<(), Fail> {
     parts_go_out(&rt, rt.alloc(), 0, Ok(()), b"number 00ff\n", 0);
-    parts_go_out(
-        &rt,
-        rt.alloc(),
-        5,
-        Err(WriteFault { written: 3 }),
-        b"number 00f",
-        1,
-    );
+    let answer = Err(WriteFault { written: 3 });
+    parts_go_out(&rt, rt.alloc(), 5, answer, b"number 00f", 1);
     Ok(())
 }
 

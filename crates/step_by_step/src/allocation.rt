@@ -6,7 +6,6 @@ use certificates::{SpillAll, Strategy, list};
 use cfg_live::live::live;
 use regalloc::linear_scan::LinearScan;
 use std::alloc::Global;
-use vcode::{LFunc, Location, VFunc};
 
 /// What a certificate makes of a function, or the line `refused`.
 pub fn accepted(alloc: Global, text: &str, certificate: &str) -> Option<String> {
@@ -44,32 +43,22 @@ pub fn scanned(alloc: Global, text: &str) -> Option<String> {
     chosen(alloc, &mut LinearScan::new(alloc), text)
 }
 
-/// A function in the places that linear scan has for it, else with each register in its slot.
-fn placed(alloc: Global, function: &VFunc) -> Option<LFunc> {
-    let live = live(alloc, function).ok()?;
-    let chosen = LinearScan::new(alloc).choose(function, &live)?;
-    match accept(alloc, function, &chosen) {
-        Ok(placed) => Some(placed),
-        Err(_) => alloc_check::spill_all::spill_all(alloc, function).ok(),
-    }
-}
-
-/// A function in location code, as the compiler makes it by linear scan.
+/// A function in location code, as the compiler makes it: in the places that linear scan has for it, else with each register in its slot.
 pub fn allocated(alloc: Global, text: &str) -> Option<String> {
     let function = virtual_function(alloc, text)?;
-    let placed = placed(alloc, &function)?;
-    located_text(alloc, &placed).ok()
-}
-
-fn listed_in(alloc: Global, text: &str, places: &[Location]) -> Option<String> {
-    let function = virtual_function(alloc, text)?;
     let live = live(alloc, &function).ok()?;
-    let certificate = list::certificate_of(alloc, &function, &live, places).ok()?;
-    certificate_text(alloc, &certificate).ok()
+    let chosen = LinearScan::new(alloc).choose(&function, &live)?;
+    match accept(alloc, &function, &chosen) {
+        Ok(placed) => located_text(alloc, &placed).ok(),
+        Err(_) => spilled(alloc, text),
+    }
 }
 
 /// The certificate that has the registers of a function in the places of a list.
 pub fn listed(alloc: Global, text: &str, places: &str) -> Option<String> {
     let places = places_of(alloc, places)?;
-    listed_in(alloc, text, places.as_slice())
+    let function = virtual_function(alloc, text)?;
+    let live = live(alloc, &function).ok()?;
+    let certificate = list::certificate_of(alloc, &function, &live, places.as_slice()).ok()?;
+    certificate_text(alloc, &certificate).ok()
 }

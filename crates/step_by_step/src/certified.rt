@@ -77,19 +77,6 @@ fn put_parts<T: Part>(to: &mut TextMaker, name: &str, parts: &[T]) {
     to.add("\n");
 }
 
-fn take(alloc: Global, certificate: &mut Certificate, line: &str) -> Option<()> {
-    let (name, list) = line.split_once(' ').unwrap_or((line, ""));
-    match name {
-        "params" => certificate.params = parts(alloc, list)?,
-        "everywhere" => certificate.everywhere = parts(alloc, list)?,
-        "start" => certificate.starts.push(parts(alloc, list)?).ok()?,
-        "moves" => certificate.moves.push(parts(alloc, list)?).ok()?,
-        "places" => certificate.places.push(parts(alloc, list)?).ok()?,
-        _ => return None,
-    }
-    Some(())
-}
-
 fn read(alloc: Global, text: &str) -> Option<Certificate> {
     let mut certificate = Certificate {
         params: Seq::new(alloc),
@@ -98,8 +85,16 @@ fn read(alloc: Global, text: &str) -> Option<Certificate> {
         moves: Seq::new(alloc),
         places: Seq::new(alloc),
     };
-    for line in text.trim().lines() {
-        take(alloc, &mut certificate, line.trim())?;
+    for line in text.trim().lines().map(|line| line.trim()) {
+        let (name, list) = line.split_once(' ').unwrap_or((line, ""));
+        match name {
+            "params" => certificate.params = parts(alloc, list)?,
+            "everywhere" => certificate.everywhere = parts(alloc, list)?,
+            "start" => certificate.starts.push(parts(alloc, list)?).ok()?,
+            "moves" => certificate.moves.push(parts(alloc, list)?).ok()?,
+            "places" => certificate.places.push(parts(alloc, list)?).ok()?,
+            _ => return None,
+        }
     }
     Some(certificate)
 }
@@ -112,21 +107,16 @@ pub fn certificate_text(alloc: Global, certificate: &Certificate) -> Result<Stri
     for start in certificate.starts.as_slice() {
         put_parts(&mut to, "start", start.as_slice());
     }
-    put_points(&mut to, certificate);
-    to.finish()
-}
-
-fn put_points(to: &mut TextMaker, certificate: &Certificate) {
-    let moves = certificate.moves.as_slice();
-    let places = certificate.places.as_slice();
+    let (moves, places) = (certificate.moves.as_slice(), certificate.places.as_slice());
     for point in 0..moves.len().max(places.len()) {
         if let Some(moves) = moves.get(point) {
-            put_parts(to, "moves", moves.as_slice());
+            put_parts(&mut to, "moves", moves.as_slice());
         }
         if let Some(places) = places.get(point) {
-            put_parts(to, "places", places.as_slice());
+            put_parts(&mut to, "places", places.as_slice());
         }
     }
+    to.finish()
 }
 
 /// The certificate that a text describes. None where the text isn't what is written of one, or memory is refused.

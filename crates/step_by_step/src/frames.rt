@@ -9,37 +9,11 @@ use asm_layout::layout::layout;
 use flat_code::function::flat;
 use rv_isa::decode::decode;
 use rv_isa::text::text;
-use rv_isa::{BranchOffset, BranchOp, Instr, Item, MachineCode, Register, Relocation};
+use rv_isa::{BranchOffset, Instr, Item};
 use std::alloc::{AllocError, Global};
 use text_maker::{TextMaker, say};
 
-/// A branch to a label, in the place of an offset.
-fn branch_text(
-    alloc: Global,
-    op: BranchOp,
-    rs1: Register,
-    rs2: Register,
-    label: usize,
-) -> Result<String, AllocError> {
-    let branch = Instr::Branch {
-        op,
-        rs1,
-        rs2,
-        offset: BranchOffset { value: 0 },
-    };
-    let by_offset = text(alloc, branch)?;
-    let compared = by_offset.as_str().trim_end_matches('0');
-    format!(in alloc; "{compared}@{label}")
-}
-
-/// An instruction with an immediate of 0, to which a part of an address is added.
-fn relocated_text(alloc: Global, relocated: Relocation) -> Result<String, AllocError> {
-    let instruction = text(alloc, relocated.instruction.completed(0))?;
-    let global = relocated.global;
-    let offset = relocated.offset.value;
-    format!(in alloc; "{instruction} + ${global} + {offset}")
-}
-
+/// An item: a branch with a label in the place of its offset, and a part of an address behind the instruction with an immediate of 0 to which it is added.
 fn item_text(alloc: Global, item: Item) -> Result<String, AllocError> {
     match item {
         Item::Plain(instruction) => text(alloc, instruction),
@@ -49,45 +23,51 @@ fn item_text(alloc: Global, item: Item) -> Result<String, AllocError> {
             rs1,
             rs2,
             label,
-        } => branch_text(alloc, op, rs1, rs2, label),
+        } => {
+            let branch = Instr::Branch {
+                op,
+                rs1,
+                rs2,
+                offset: BranchOffset { value: 0 },
+            };
+            let by_offset = text(alloc, branch)?;
+            let compared = by_offset.as_str().trim_end_matches('0');
+            format!(in alloc; "{compared}@{label}")
+        }
         Item::Goto(label) => format!(in alloc; "goto @{label}"),
         Item::Call(global) => format!(in alloc; "call ${global}"),
-        Item::Relocated(relocated) => relocated_text(alloc, relocated),
+        Item::Relocated(relocated) => {
+            let instruction = text(alloc, relocated.instruction.completed(0))?;
+            let (global, offset) = (relocated.global, relocated.offset.value);
+            format!(in alloc; "{instruction} + ${global} + {offset}")
+        }
     }
-}
-
-fn items_text(alloc: Global, items: &[Item]) -> Result<String, AllocError> {
-    let mut to = TextMaker::new(alloc);
-    for item in items {
-        say!(to; "{}\n", item_text(alloc, *item)?);
-    }
-    to.finish()
 }
 
 fn code_of(alloc: Global, text: &str) -> Option<String> {
     let function = located_function(alloc, text)?;
     let code = frame(alloc, &flat(function)).ok()?;
-    items_text(alloc, code.items()).ok()
+    let mut to = TextMaker::new(alloc);
+    for item in code.items() {
+        say!(to; "{}\n", item_text(alloc, *item).ok()?);
+    }
+    to.finish().ok()
 }
 
-fn words_text(alloc: Global, code: &MachineCode) -> Result<String, AllocError> {
+/// The words of a function: each with its offset from the first and its instruction.
+pub fn words(alloc: Global, function: &str) -> Option<String> {
+    let function = located_function(alloc, function)?;
+    let labelled = frame(alloc, &flat(function)).ok()?;
+    let code = layout(alloc, CallForm::Near, labelled).ok()?;
     let mut to = TextMaker::new(alloc);
     for (at, word) in code.words().iter().enumerate() {
         say!(to; "{:4} {word:08x} ", at.wrapping_mul(4));
         if let Some(instruction) = decode(*word) {
-            say!(to; "{}", text(alloc, instruction)?);
+            say!(to; "{}", text(alloc, instruction).ok()?);
         }
         to.add("\n");
     }
-    to.finish()
-}
-
-/// The words of a function: each with its offset from the first and its instruction.
-pub fn words(alloc: Global, text: &str) -> Option<String> {
-    let function = located_function(alloc, text)?;
-    let labelled = frame(alloc, &flat(function)).ok()?;
-    let code = layout(alloc, CallForm::Near, labelled).ok()?;
-    words_text(alloc, &code).ok()
+    to.finish().ok()
 }
 
 /// How often a line stands there, and the line: `times N LINE` is a line that stands there N times.
@@ -100,18 +80,6 @@ fn counted(line: &str) -> (u64, &str) {
     }
 }
 
-/// The text with each line as often as it stands there.
-fn expanded(alloc: Global, text: &str) -> Option<String> {
-    let mut to = TextMaker::new(alloc);
-    for line in text.lines() {
-        let (count, line) = counted(line);
-        for _ in 0..count {
-            say!(to; "{line}\n");
-        }
-    }
-    to.finish().ok()
-}
-
 /// A function that was taken over to be read on bytes.
 pub fn flattened(alloc: Global, text: &str) -> Option<String> {
     let function = flat(located_function(alloc, text)?);
@@ -120,8 +88,14 @@ pub fn flattened(alloc: Global, text: &str) -> Option<String> {
 
 /// The code of a function. A line `times N LINE` stands for N such lines.
 pub fn code(alloc: Global, text: &str) -> Option<String> {
-    let function = expanded(alloc, text)?;
-    code_of(alloc, function.as_str())
+    let mut function = TextMaker::new(alloc);
+    for line in text.lines() {
+        let (count, line) = counted(line);
+        for _ in 0..count {
+            say!(function; "{line}\n");
+        }
+    }
+    code_of(alloc, function.finish().ok()?.as_str())
 }
 
 /// A function of two blocks. The second makes a call and writes all registers that callees keep, so that the frame begins with thirteen saved registers, and its slots

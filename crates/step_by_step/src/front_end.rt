@@ -1,7 +1,7 @@
 //! The steps of the front end.
 use crate::hexadecimal::bytes_of;
 use crate::show::{show, show_alone};
-use il_ast::{Definition, Func, Text};
+use il_ast::{Definition, Text};
 use il_reader::read::read;
 use il_types::CheckError;
 use il_types::check::check;
@@ -44,28 +44,21 @@ fn refusal(alloc: Global, error: CheckError) -> Result<String, AllocError> {
     }
 }
 
-fn checked_tree(alloc: Global, tree: Text) -> Result<String, AllocError> {
-    match check(alloc, tree) {
-        Ok(checked) => measures(alloc, &checked.text),
-        Err(error) => refusal(alloc, error),
-    }
-}
-
 /// The measures of a text that keeps the rules, or why it is refused.
 pub fn checked(alloc: Global, text: &str) -> Option<String> {
-    checked_tree(alloc, read(alloc, text.as_bytes()).ok()?).ok()
-}
-
-fn only_function(text: &Text) -> Option<&Func> {
-    match text.definitions.as_slice() {
-        [Definition::Function(function)] => Some(function),
-        _ => None,
+    let tree = read(alloc, text.as_bytes()).ok()?;
+    match check(alloc, tree) {
+        Ok(checked) => measures(alloc, &checked.text).ok(),
+        Err(error) => refusal(alloc, error).ok(),
     }
 }
 
 /// The tree of a text's only function once its locals are promoted.
 pub fn promoted(alloc: Global, text: &str) -> Option<String> {
     let tree = read(alloc, text.as_bytes()).ok()?;
-    let function = promote(alloc, only_function(&tree)?).ok()?;
+    let [Definition::Function(function)] = tree.definitions.as_slice() else {
+        return None;
+    };
+    let function = promote(alloc, function).ok()?;
     show_alone(alloc, &function).ok()
 }

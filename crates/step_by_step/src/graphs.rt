@@ -4,21 +4,10 @@
 use crate::code_text::function::virtual_function;
 use crate::lists::{add_numbers, numbers, registers};
 use cfg_live::live::live_in;
-use cfg_live::{Graph, Live, Uses, points};
+use cfg_live::{Graph, Uses, points};
 use il_ast::Seq;
 use std::alloc::Global;
 use text_maker::{TextMaker, say};
-
-fn take(alloc: Global, graph: &mut Graph, line: &str) -> Option<()> {
-    let (reads, rest) = line.split_once('|')?;
-    let (writes, next) = rest.split_once('|')?;
-    let uses = Uses {
-        writes: writes.trim().parse::<u32>().ok(),
-        reads: registers(alloc, reads)?,
-    };
-    graph.uses.push(uses).ok()?;
-    graph.nexts.push(numbers(alloc, next)?).ok()
-}
 
 /// The graph of a text.
 fn graph(alloc: Global, text: &str) -> Option<Graph> {
@@ -27,30 +16,32 @@ fn graph(alloc: Global, text: &str) -> Option<Graph> {
         nexts: Seq::new(alloc),
     };
     for line in text.lines() {
-        take(alloc, &mut graph, line)?;
+        let (reads, rest) = line.split_once('|')?;
+        let (writes, next) = rest.split_once('|')?;
+        let uses = Uses {
+            writes: writes.trim().parse::<u32>().ok(),
+            reads: registers(alloc, reads)?,
+        };
+        graph.uses.push(uses).ok()?;
+        graph.nexts.push(numbers(alloc, next)?).ok()?;
     }
     Some(graph)
 }
 
-/// Adds the line of a point: which registers are live there, looked for up to the number behind the last.
-fn add_live(text: &mut TextMaker, live: &Live, point: usize, registers: u32) {
-    say!(text; "{point}:");
-    for register in 0..registers.saturating_add(1) {
-        if live.holds(point, register) {
-            say!(text; " {register}");
-        }
-    }
-    text.add("\n");
-}
-
-/// Which of so many registers are live at each point of a graph.
+/// Which of so many registers are live at each point of a graph, looked for up to the number behind the last.
 pub fn live_registers(alloc: Global, text: &str, count: &str) -> Option<String> {
     let registers = count.parse::<u32>().ok()?;
     let graph = graph(alloc, text)?;
     let live = live_in(alloc, &graph, registers).ok()?;
     let mut text = TextMaker::new(alloc);
     for point in 0..graph.uses.len().saturating_add(1) {
-        add_live(&mut text, &live, point, registers);
+        say!(text; "{point}:");
+        for register in 0..registers.saturating_add(1) {
+            if live.holds(point, register) {
+                say!(text; " {register}");
+            }
+        }
+        text.add("\n");
     }
     text.finish().ok()
 }

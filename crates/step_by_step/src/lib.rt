@@ -31,10 +31,9 @@ mod watch;
 
 use crate::case::{Case, case_of};
 use crate::code_text::function::is_same;
-use crate::step::{BACK_END, FRONT_END, PARTS_OF_PASSES, made};
+use crate::step::{made, step_names};
 use crate::watch::watched;
-use qbec::passes::PASSES;
-use std::alloc::{AllocError, Global};
+use std::alloc::AllocError;
 use std::rt::Files;
 use std::{fs, io, str};
 use test_report::report::Report;
@@ -63,23 +62,6 @@ fn check_table(step: &str, table: &str, report: &mut Report) -> Result<(), Alloc
     Ok(())
 }
 
-/// Checks the tables of those of these steps that are named, or of all of them where none is.
-fn check_steps<R: Files + AllocGlobal>(
-    rt: &R,
-    steps: &[&str],
-    names: &[String],
-    report: &mut Report,
-) -> io::Result<()> {
-    for step in steps {
-        if names.is_empty() || names.iter().any(|name| name.as_str() == *step) {
-            let path = format!(in rt.alloc(); "steps/{step}.cases")?;
-            let bytes = fs::read(rt, path.as_str())?;
-            check_table(step, str::from_utf8(bytes.as_slice()).unwrap_or(""), report)?;
-        }
-    }
-    Ok(())
-}
-
 /// What each step makes of a text's only function.
 fn watched_file<R: Files + AllocGlobal>(rt: &R, path: &str) -> io::Result<String> {
     let bytes = fs::read(rt, path)?;
@@ -90,25 +72,18 @@ fn watched_file<R: Files + AllocGlobal>(rt: &R, path: &str) -> io::Result<String
     }
 }
 
-/// The names of the compiler's passes, each once.
-fn pass_names(alloc: Global) -> Result<Vec<&'static str>, AllocError> {
-    let mut names = Vec::new(alloc);
-    for pass in &PASSES {
-        if !names.iter().any(|name| *name == pass.name()) {
-            names.push(pass.name())?;
-        }
-    }
-    Ok(names)
-}
-
 /// Checks the tables of the steps that are named, or of all where none is. The lines of the report are answered.
 fn checked_steps<R: Files + AllocGlobal>(rt: &R, names: &[String]) -> io::Result<String> {
     let mut report = Report::new(rt.alloc());
-    check_steps(rt, &FRONT_END, names, &mut report)?;
-    let passes = pass_names(rt.alloc())?;
-    check_steps(rt, passes.as_slice(), names, &mut report)?;
-    check_steps(rt, &PARTS_OF_PASSES, names, &mut report)?;
-    check_steps(rt, &BACK_END, names, &mut report)?;
+    let steps = step_names(rt.alloc())?;
+    for step in steps.as_slice() {
+        if names.is_empty() || names.iter().any(|name| name.as_str() == *step) {
+            let path = format!(in rt.alloc(); "steps/{step}.cases")?;
+            let bytes = fs::read(rt, path.as_str())?;
+            let table = str::from_utf8(bytes.as_slice()).unwrap_or("");
+            check_table(step, table, &mut report)?;
+        }
+    }
     report.finish()?;
     Ok(report.text)
 }

@@ -2,11 +2,11 @@
 //!
 //! A line that is given has words in hexadecimal, joined by `+`, and what registers 5 and 6 hold before them. Register 7 holds 0, and 16 bytes of data stand at 0x11000. For
 //! each line stands what register 7 holds behind the words, and where the machine is then; or where it stopped, what register 5 holds then, and where the machine is.
-use elf_file::{read_image, write_image};
-use obj_link::Image;
+use crate::files::file_of;
+use elf_file::read_image;
 use rv_isa::Register;
 use rv_machine::{Machine, PageRam, Stop};
-use std::alloc::{AllocError, Global};
+use std::alloc::Global;
 use text_maker::{TextMaker, say};
 
 const X5: Register = Register { number: 5 };
@@ -21,11 +21,6 @@ const DATA: [u8; 16] = [
 /// `lui x5, 0x11`, `ld x6, 24(x5)`, `ld x5, 16(x5)` and `addi x7, x0, 0`.
 const BEFORE: [u32; 4] = [0x0001_12b7, 0x0182_b303, 0x0102_b283, 0x0000_0393];
 
-/// The number that hexadecimal digits stand for.
-fn number(digits: Option<&str>) -> Option<u64> {
-    u64::from_str_radix(digits?, 16).ok()
-}
-
 fn code_of(alloc: Global, words: &str) -> Option<Vec<u32>> {
     let mut code = BEFORE.to_vec(alloc).ok()?;
     for word in words.split('+') {
@@ -34,24 +29,12 @@ fn code_of(alloc: Global, words: &str) -> Option<Vec<u32>> {
     Some(code)
 }
 
-fn data_of(alloc: Global, x5: u64, x6: u64) -> Result<Vec<u8>, AllocError> {
-    let mut data = DATA.to_vec(alloc)?;
-    data.extend_from_slice(&x5.to_le_bytes())?;
-    data.extend_from_slice(&x6.to_le_bytes())?;
-    Ok(data)
-}
-
-fn image_of(code: Vec<u32>, data: Vec<u8>) -> Option<Image> {
-    if code.is_empty() || code.len() > 1024 || data.len() > 1024 || data.len() % 16 != 0 {
-        return None;
-    }
-    Some(Image::new(code, data))
-}
-
-/// A machine that starts at a program of these words.
-fn started(alloc: Global, code: Vec<u32>, data: Vec<u8>) -> Option<Machine<PageRam>> {
-    let file = write_image(alloc, &image_of(code, data)?).ok()?;
-    let loaded = read_image(alloc, &file).ok()?;
+/// A machine that starts at a program of these words, with the values of registers 5 and 6 behind its data.
+fn started(alloc: Global, code: Vec<u32>, x5: u64, x6: u64) -> Option<Machine<PageRam>> {
+    let mut data = DATA.to_vec(alloc).ok()?;
+    data.extend_from_slice(&x5.to_le_bytes()).ok()?;
+    data.extend_from_slice(&x6.to_le_bytes()).ok()?;
+    let loaded = read_image(alloc, &file_of(alloc, code, data)?).ok()?;
     Machine::start(alloc, &loaded, &[]).ok()
 }
 
@@ -60,29 +43,19 @@ fn stop_within(machine: &mut Machine<PageRam>, count: usize) -> Option<Stop> {
     (0..count).find_map(|_| machine.step().err())
 }
 
-fn left_by(
-    alloc: Global,
-    mut machine: Machine<PageRam>,
-    count: usize,
-) -> Result<String, AllocError> {
-    let stop = stop_within(&mut machine, count);
-    let pc = machine.pc();
-    let x5 = machine.register(X5);
-    let x7 = machine.register(X7);
-    match stop {
-        None => format!(in alloc; "{x7:x} at {pc:x}"),
-        Some(stop) => format!(in alloc; "{stop:?}: {x5:x} at {pc:x}"),
-    }
-}
-
 fn row_left(alloc: Global, line: &str) -> Option<String> {
     let mut fields = line.split_whitespace();
     let code = code_of(alloc, fields.next()?)?;
-    let x5 = number(fields.next())?;
-    let x6 = number(fields.next())?;
+    let x5 = u64::from_str_radix(fields.next()?, 16).ok()?;
+    let x6 = u64::from_str_radix(fields.next()?, 16).ok()?;
     let count = code.len();
-    let machine = started(alloc, code, data_of(alloc, x5, x6).ok()?)?;
-    left_by(alloc, machine, count).ok()
+    let mut machine = started(alloc, code, x5, x6)?;
+    let stop = stop_within(&mut machine, count);
+    let (pc, x5, x7) = (machine.pc(), machine.register(X5), machine.register(X7));
+    match stop {
+        None => format!(in alloc; "{x7:x} at {pc:x}").ok(),
+        Some(stop) => format!(in alloc; "{stop:?}: {x5:x} at {pc:x}").ok(),
+    }
 }
 
 /// What the words of each line leave.

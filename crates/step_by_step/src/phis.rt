@@ -19,15 +19,6 @@ const OWN: usize = 12;
 /// The value of the global name.
 const NAMED: u64 = 0x5000_0000_6000;
 
-/// What the temporaries hold at first.
-fn first_values() -> [u64; 24] {
-    let mut values = [0; 24];
-    for i in 0..24usize {
-        values[i] = 0x0a00_0000_0b00 + i as u64;
-    }
-    values
-}
-
 /// What is copied.
 fn read_of(values: &[u64; 24], copy: &Assignment) -> u64 {
     let value = match copy.value {
@@ -41,9 +32,12 @@ fn read_of(values: &[u64; 24], copy: &Assignment) -> u64 {
     }
 }
 
-/// What the temporaries hold after copies one after another.
+/// What the temporaries, each of which has a number of its own at first, hold after copies one after another.
 fn after_each(copies: &[Assignment]) -> [u64; 24] {
-    let mut values = first_values();
+    let mut values = [0; 24];
+    for i in 0..24usize {
+        values[i] = 0x0a00_0000_0b00 + i as u64;
+    }
     for copy in copies {
         let value = read_of(&values, copy);
         if let Some(held) = values.get_mut(copy.to.temp.number()) {
@@ -53,22 +47,18 @@ fn after_each(copies: &[Assignment]) -> [u64; 24] {
     values
 }
 
-fn shown(alloc: Global, copies: &[Assignment]) -> Option<String> {
+/// The copies at the end of the first block: how many there are, and what they leave.
+fn first_copies(alloc: Global, function: &Func) -> Option<String>
+    requires { IsGoodFunction function.now }
+{
+    let lowered = lower(alloc, function).ok()?;
+    let copies = lowered.endings.as_slice().first()?.copies.as_slice();
     let mut out = TextMaker::new(alloc);
     say!(out; "{} copies\n", copies.len());
     for value in after_each(copies).iter().take(OWN) {
         say!(out; "{value:02x}\n");
     }
     out.finish().ok()
-}
-
-/// The copies at the end of the first block.
-fn first_copies(alloc: Global, function: &Func) -> Option<String>
-    requires { IsGoodFunction function.now }
-{
-    let lowered = lower(alloc, function).ok()?;
-    let ending = lowered.endings.as_slice().first()?;
-    shown(alloc, ending.copies.as_slice())
 }
 
 /// The virtual code that is selected for a function.

@@ -19,50 +19,41 @@ fn marks(alloc: Global, words: &str) -> Option<Vec<bool>> {
         .ok()
 }
 
-/// The plan of a text for a constant: the register, the number, and for each block whether it sets and whether it holds the register.
-fn constant_plan(alloc: Global, text: &str) -> Option<Plan> {
-    let (register, rest) = text.strip_prefix("register ")?.split_once("\nnumber ")?;
+/// The function with a constant in a register, by a plan: the register, the number, and for each block whether it sets and whether it holds the register.
+pub fn with_held_constant(alloc: Global, text: &str, plan_text: &str) -> Option<String> {
+    let (register, rest) = plan_text
+        .strip_prefix("register ")?
+        .split_once("\nnumber ")?;
     let (number, rest) = rest.split_once("\nsets ")?;
     let (sets, holds) = rest.split_once("\nholds ")?;
-    Some(Plan {
+    let plan = Plan {
         register: register.parse::<u32>().ok()?,
         constant: Constant::Number(number.parse::<u64>().ok()?),
         sets: marks(alloc, sets)?,
         holds: marks(alloc, holds)?,
-    })
-}
-
-/// The function with a constant in a register, by this plan.
-pub fn with_held_constant(alloc: Global, text: &str, plan_text: &str) -> Option<String> {
-    let plan = constant_plan(alloc, plan_text)?;
+    };
     let function = virtual_function(alloc, text)?;
     shown_or_refused(alloc, with_constant(alloc, &function, &plan))
-}
-
-/// The operation of a line, as a computation at the end of a block.
-fn computation(block: usize, line: &Line<u32>) -> Option<Computation> {
-    match line {
-        Line::Operate {
-            to,
-            operation,
-            left,
-            right,
-        } => Some(Computation {
-            block,
-            register: *to,
-            operation: *operation,
-            left: *left,
-            right: *right,
-        }),
-        _ => None,
-    }
 }
 
 /// The operations of a block's lines, as what is computed at the end of the block with this number.
 fn block_plan(alloc: Global, number: usize, block: &Block<u32>) -> Option<BlockPlan> {
     let mut behind = Vec::new(alloc);
     for line in block.lines.as_slice() {
-        if let Some(computation) = computation(number, line) {
+        if let Line::Operate {
+            to,
+            operation,
+            left,
+            right,
+        } = line
+        {
+            let computation = Computation {
+                block: number,
+                register: *to,
+                operation: *operation,
+                left: *left,
+                right: *right,
+            };
             behind.push(computation).ok()?;
         }
     }
@@ -72,23 +63,18 @@ fn block_plan(alloc: Global, number: usize, block: &Block<u32>) -> Option<BlockP
     })
 }
 
-/// The plan of a text for computations: a function whose operations are done at the ends of the blocks of the same numbers, and which has as many registers as there are
-/// then to be.
-fn motion_plan(alloc: Global, text: &str) -> Option<code_motion::plan::Plan> {
-    let function = virtual_function(alloc, text)?;
+/// The function with computations at the ends of its blocks, by a plan: a function whose operations are done at the ends of the blocks of the same numbers, and which has as
+/// many registers as there are then to be.
+pub fn with_computations(alloc: Global, text: &str, plan_text: &str) -> Option<String> {
+    let planned = virtual_function(alloc, plan_text)?;
     let mut blocks = Vec::new(alloc);
-    for (number, block) in function.code.blocks.as_slice().iter().enumerate() {
+    for (number, block) in planned.code.blocks.as_slice().iter().enumerate() {
         blocks.push(block_plan(alloc, number, block)?).ok()?;
     }
-    Some(code_motion::plan::Plan {
+    let plan = code_motion::plan::Plan {
         blocks,
-        registers: function.registers,
-    })
-}
-
-/// The function with these computations at the ends of its blocks.
-pub fn with_computations(alloc: Global, text: &str, plan_text: &str) -> Option<String> {
-    let plan = motion_plan(alloc, plan_text)?;
+        registers: planned.registers,
+    };
     let function = virtual_function(alloc, text)?;
     shown(alloc, code_motion::hoist::apply(alloc, &function, &plan))
 }

@@ -1,6 +1,6 @@
 //! Trees as text: each item on a line, with the number of its line, and names by number.
 use il_ast::{
-    Block, DataDef, Definition, Dest, Field, Func, Inst, Item, Jump, Lined, Name, Phi, Text, Val,
+    Block, DataDef, Definition, Dest, Field, Func, Inst, Item, Jump, Lined, Name, Text, Val,
 };
 use std::alloc::{AllocError, Global};
 use std::fmt;
@@ -9,7 +9,14 @@ use text_maker::{TextMaker, say};
 /// A text, with its numbers of lines and bytes and the names of its globals.
 pub fn show(alloc: Global, text: &Text) -> Result<String, AllocError> {
     let mut out = TextMaker::new(alloc);
-    show_text(&mut out, text);
+    say!(out; "{} lines {} bytes", text.lines, text.bytes);
+    show_names(&mut out, '$', text.symbols.as_slice());
+    for definition in text.definitions.as_slice() {
+        match definition {
+            Definition::Function(function) => show_function(&mut out, function),
+            Definition::Object(object) => show_object(&mut out, object),
+        }
+    }
     out.finish()
 }
 
@@ -18,17 +25,6 @@ pub fn show_alone(alloc: Global, function: &Func) -> Result<String, AllocError> 
     let mut out = TextMaker::new(alloc);
     show_function(&mut out, function);
     out.finish()
-}
-
-fn show_text(out: &mut TextMaker, text: &Text) {
-    say!(out; "{} lines {} bytes", text.lines, text.bytes);
-    show_names(out, '$', text.symbols.as_slice());
-    for definition in text.definitions.as_slice() {
-        match definition {
-            Definition::Function(function) => show_function(out, function),
-            Definition::Object(object) => show_object(out, object),
-        }
-    }
 }
 
 fn show_names(out: &mut TextMaker, sign: char, names: &[Name]) {
@@ -86,7 +82,13 @@ fn show_function(out: &mut TextMaker, function: &Func) {
 fn show_block(out: &mut TextMaker, block: &Block) {
     say!(out; "{} @{}\n", block.line, block.label.number());
     for phi in block.phis.as_slice() {
-        show_phi(out, phi);
+        say!(out; "{}", phi.line);
+        show_dest(out, phi.to);
+        out.add(" phi");
+        for arg in phi.args.as_slice() {
+            say!(out; " @{} {}", arg.from.number(), Shown(arg.value));
+        }
+        out.add("\n");
     }
     for inst in block.insts.as_slice() {
         say!(out; "{}", inst.line);
@@ -96,16 +98,6 @@ fn show_block(out: &mut TextMaker, block: &Block) {
     if let Some(jump) = &block.jump {
         show_jump(out, jump);
     }
-}
-
-fn show_phi(out: &mut TextMaker, phi: &Phi) {
-    say!(out; "{}", phi.line);
-    show_dest(out, phi.to);
-    out.add(" phi");
-    for arg in phi.args.as_slice() {
-        say!(out; " @{} {}", arg.from.number(), Shown(arg.value));
-    }
-    out.add("\n");
 }
 
 fn show_inst(out: &mut TextMaker, inst: &Inst) {
@@ -168,8 +160,7 @@ fn show_jump(out: &mut TextMaker, jump: &Lined<Jump>) {
 }
 
 fn show_object(out: &mut TextMaker, object: &DataDef) {
-    let name = object.name.number();
-    let alignment = object.alignment;
+    let (name, alignment) = (object.name.number(), object.alignment);
     say!(out; "{} data ${name} {:?} {alignment}", object.line, object.exported);
     for field in object.fields.as_slice() {
         match field {

@@ -6,51 +6,30 @@ use crate::{
     passes, phis, plans, schedules, tokens,
 };
 use qbec::passes::PASSES;
-use std::alloc::Global;
+use std::alloc::{AllocError, Global};
 
 /// The steps in front of the passes, in the order of the compiler.
-pub const FRONT_END: [&str; 8] = [
-    "tokens",
-    "reading",
-    "checking",
-    "linking",
-    "promoting",
-    "phis",
-    "selection",
-    "inlining",
-];
+const FRONT_END: &str = "tokens reading checking linking promoting phis selection inlining";
 
-/// What passes ask of a function, and what is done by given plans of theirs.
-pub const PARTS_OF_PASSES: [&str; 7] = [
-    "loops",
-    "code_motion_plans",
-    "constant_sinking_plans",
-    "constant_hoisting_plans",
-    "tail_duplication_plans",
-    "chosen_orders",
-    "given_orders",
-];
+/// What passes ask of a function and what is done by given plans of theirs, and then the steps behind the passes.
+const BEHIND: &str = "loops code_motion_plans constant_sinking_plans constant_hoisting_plans \
+    tail_duplication_plans chosen_orders given_orders points liveness spill_all \
+    slot_certificates list_certificates linear_scan certificates scheduling scheduling_plans \
+    flat_code frames frame_lines frame_entries words writing loading machine";
 
-/// The steps behind the passes.
-pub const BACK_END: [&str; 17] = [
-    "points",
-    "liveness",
-    "spill_all",
-    "slot_certificates",
-    "list_certificates",
-    "linear_scan",
-    "certificates",
-    "scheduling",
-    "scheduling_plans",
-    "flat_code",
-    "frames",
-    "frame_lines",
-    "frame_entries",
-    "words",
-    "writing",
-    "loading",
-    "machine",
-];
+/// The names of all steps, in order: each of the compiler's passes is one.
+pub fn step_names(alloc: Global) -> Result<Vec<&'static str>, AllocError> {
+    let mut names: Vec<&'static str> = FRONT_END.split(' ').collect(alloc)?;
+    for pass in &PASSES {
+        if !names.iter().any(|name| *name == pass.name()) {
+            names.push(pass.name())?;
+        }
+    }
+    for name in BEHIND.split(' ') {
+        names.push(name)?;
+    }
+    Ok(names)
+}
 
 /// What a step makes of a case, as a text. None where what is given isn't such a text, or memory is refused.
 pub fn made(step: &str, alloc: Global, case: Case<'_>) -> Option<String> {

@@ -3,7 +3,7 @@ use crate::hexadecimal::bytes_of;
 use il_lex::kind::Kind;
 use il_lex::quoted::string_bytes;
 use il_lex::tokens::{Span, Tokens};
-use std::alloc::{AllocError, Global};
+use std::alloc::Global;
 use text_maker::{TextMaker, say};
 
 /// What a call of `next` shows: a token with its line, an error on a line, or the end.
@@ -22,18 +22,13 @@ fn next_of(tokens: &mut Tokens<'_>) -> Seen {
     }
 }
 
-/// Whether both are the end, or both an error on the same line.
-fn is_same_end(one: Seen, other: Seen) -> bool {
-    match (one, other) {
+/// Whether six calls more show the same end, or an error on the same line.
+fn stays(tokens: &mut Tokens<'_>, last: Seen) -> bool {
+    (0..6).all(|_| match (next_of(tokens), last) {
         (Seen::Error(line), Seen::Error(own)) => line == own,
         (Seen::End, Seen::End) => true,
         _ => false,
-    }
-}
-
-/// Whether six calls more show the same end.
-fn stays(tokens: &mut Tokens<'_>, last: Seen) -> bool {
-    (0..6).all(|_| is_same_end(next_of(tokens), last))
+    })
 }
 
 /// The bytes that a string stands for.
@@ -63,23 +58,19 @@ fn add_seen(out: &mut TextMaker, alloc: Global, text: &[u8], seen: Seen) {
     out.add("\n");
 }
 
-fn shown(alloc: Global, text: &[u8]) -> Result<String, AllocError> {
+/// The tokens of a text, up to its end or to an error.
+pub fn tokens(alloc: Global, text: &str) -> Option<String> {
+    let bytes = bytes_of(alloc, text).ok()?;
     let mut out = TextMaker::new(alloc);
-    let mut tokens = Tokens::new(text);
-    for _ in 0..=text.len() {
+    let mut tokens = Tokens::new(bytes.as_slice());
+    for _ in 0..=bytes.len() {
         let seen = next_of(&mut tokens);
-        add_seen(&mut out, alloc, text, seen);
+        add_seen(&mut out, alloc, bytes.as_slice(), seen);
         if !matches!(seen, Seen::Token(..)) {
             let is_end = stays(&mut tokens, seen);
             out.add(if is_end { "" } else { "and more\n" });
             break;
         }
     }
-    out.finish()
-}
-
-/// The tokens of a text, up to its end or to an error.
-pub fn tokens(alloc: Global, text: &str) -> Option<String> {
-    let bytes = bytes_of(alloc, text).ok()?;
-    shown(alloc, bytes.as_slice()).ok()
+    out.finish().ok()
 }

@@ -23,24 +23,15 @@ pub fn push_made(
     size: u64,
 ) -> Result<(), AllocError> {
     if rule == "empties" {
-        return push_empty(alloc, texts, size);
+        for _ in 0..size {
+            texts.push(Vec::new(alloc))?;
+        }
+        return Ok(());
     }
-    let text = made(alloc, rule, size)?;
-    texts.push(text)?;
-    Ok(())
-}
-
-fn push_empty(alloc: Global, texts: &mut Vec<Vec<u8>>, count: u64) -> Result<(), AllocError> {
-    for _ in 0..count {
-        texts.push(Vec::new(alloc))?;
-    }
-    Ok(())
-}
-
-fn made(alloc: Global, rule: &str, size: u64) -> Result<Vec<u8>, AllocError> {
     let mut text = TextMaker::new(alloc);
     push_rule(&mut text, rule, size);
-    text.finish()?.as_bytes().to_vec(alloc)
+    texts.push(text.finish()?.as_bytes().to_vec(alloc)?)?;
+    Ok(())
 }
 
 fn push_rule(text: &mut TextMaker, rule: &str, size: u64) {
@@ -53,7 +44,7 @@ fn push_rule(text: &mut TextMaker, rule: &str, size: u64) {
         "functions" => functions(text, size),
         "blocks" => blocks(text, size),
         "heavy" => heavy(text, size),
-        "phis" => phis(text, size),
+        "phis" => phis(text, size, 300),
         "bytes" => bytes(text, size),
         "branches" => push_branches(text, size),
         "chain" => chain(text, size),
@@ -142,29 +133,25 @@ fn heavy(text: &mut TextMaker, count: u64) {
     text.add("ret %x\n}\n");
 }
 
-// A block of so many phis and as many predecessors, entered again and again from the last of them, a hundred times.
-fn phis(text: &mut TextMaker, count: u64) {
+/// Adds a program with a block of so many phis and as many predecessors, entered again and again from the last of them, until the last phi has reached this number.
+pub fn phis(text: &mut TextMaker, count: u64, most: u64) {
     say!(text; "{MAIN}%one =w copy 1\n");
     for number in 2..count {
         let next = number.saturating_add(1);
         say!(text; "@before{number}\njnz %one, @phis, @before{next}\n");
     }
     say!(text; "@before{count}\njmp @phis\n@again\njmp @phis\n@phis\n");
+    // each takes its number from each block before the loop, and the next number from the loop
     for number in 0..count {
-        push_phi(text, number, count);
+        say!(text; "%i{number} =w phi");
+        for before in 2..count.saturating_add(1) {
+            say!(text; " @before{before} {number},");
+        }
+        text.add(" @again %next\n");
     }
     let last = count.saturating_sub(1);
-    say!(text; "%next =w add %i{last}, 1\n%less =w cultw %next, 300\n");
+    say!(text; "%next =w add %i{last}, 1\n%less =w cultw %next, {most}\n");
     text.add("jnz %less, @again, @end\n@end\nret %next\n}\n");
-}
-
-// A phi that takes its number from each block before the loop, and the next number from the loop.
-fn push_phi(text: &mut TextMaker, number: u64, count: u64) {
-    say!(text; "%i{number} =w phi");
-    for before in 2..count.saturating_add(1) {
-        say!(text; " @before{before} {number},");
-    }
-    text.add(" @again %next\n");
 }
 
 // A text of so many bytes, most of them a comment.
@@ -195,33 +182,21 @@ fn far(text: &mut TextMaker, count: u64) {
     text.add("%k =w copy 1\njmp @t\n@e\nret %x\n}\n");
 }
 
-// So many blocks, gone round twice, each of which adds 1 to one number and its own number to one of many. All are added in the end.
+// So many blocks, gone round twice, each of which adds 1 to one number and its own number to one of many. All are added in the end. Each block goes on at the next one; it
+// would leave the loop early if `%one` were 0.
 fn wide(text: &mut TextMaker, count: u64) {
     say!(text; "{MAIN}%sum =l copy 0\n%one =w copy 1\n%again =w copy 1\n");
     for number in 0..KEPT {
         say!(text; "%t{number} =l copy {number}\n");
     }
-    push_wide_blocks(text, count);
-    push_wide_sum(text);
-}
-
-// Each block goes on at the next one; it would leave the loop early if `%one` were 0.
-fn push_wide_blocks(text: &mut TextMaker, count: u64) {
     for number in 0..count {
-        push_wide_block(text, number);
+        let to = number % KEPT;
+        let next = number.saturating_add(1);
+        say!(text; "@b{number}\n%sum =l add %sum, 1\n%t{to} =l add %t{to}, {number}\n");
+        say!(text; "jnz %one, @b{next}, @end\n");
     }
     say!(text; "@b{count}\n%more =w copy %again\n%again =w copy 0\n");
     text.add("jnz %more, @b0, @end\n@end\n");
-}
-
-fn push_wide_block(text: &mut TextMaker, number: u64) {
-    let to = number % KEPT;
-    let next = number.saturating_add(1);
-    say!(text; "@b{number}\n%sum =l add %sum, 1\n%t{to} =l add %t{to}, {number}\n");
-    say!(text; "jnz %one, @b{next}, @end\n");
-}
-
-fn push_wide_sum(text: &mut TextMaker) {
     for number in 0..KEPT {
         say!(text; "%sum =l add %sum, %t{number}\n");
     }
@@ -236,23 +211,18 @@ fn calls(text: &mut TextMaker, count: u64) {
     text.add("ret %x\n}\n");
 }
 
-// A function of so many steps, gone through twice, that is called in one place, in a loop.
+// A function of so many steps, every tenth of which calls another one, gone through twice, that is called in one place, in a loop.
 fn once(text: &mut TextMaker, count: u64) {
     text.add(TRIPLED);
     text.add("function l $f(l %x) {\n@s\n%y =l copy %x\n%k =w copy 2\n@t\n");
     for number in 0..count {
-        push_once_step(text, number);
+        say!(text; "%z =l mul %y, {number}\n%x =l add %x, %z\n%y =l xor %y, %x\n");
+        if number % 10 == 9 {
+            text.add("%y =l call $g(l %y, l 2)\n");
+        }
     }
     say!(text; "%k =w sub %k, 1\njnz %k, @t, @e\n@e\n%x =l add %x, %y\nret %x\n}}\n{MAIN}");
     text.add("%x =l copy 1\n%n =w copy 3\n@t\n%x =l call $f(l %x)\n");
     text.add("%n =w sub %n, 1\njnz %n, @t, @e\n@e\n%y =l shr %x, 8\n");
     text.add("%x =l xor %x, %y\nret %x\n}\n");
-}
-
-// Every tenth step calls another function.
-fn push_once_step(text: &mut TextMaker, number: u64) {
-    say!(text; "%z =l mul %y, {number}\n%x =l add %x, %z\n%y =l xor %y, %x\n");
-    if number % 10 == 9 {
-        text.add("%y =l call $g(l %y, l 2)\n");
-    }
 }

@@ -90,11 +90,6 @@ fn push_one(text: &mut TextMaker, random: &mut Random) {
     }
 }
 
-fn push_load(text: &mut TextMaker, random: &mut Random, class: &str, words: &[&str]) {
-    let to = temporary(random, class);
-    say!(text; "\t{to} ={class} {} %a\n", random.one_of(words));
-}
-
 // A load or a store, by a pointer to eight bytes of a block or of the datum, by what a temporary holds.
 fn push_memory(text: &mut TextMaker, random: &mut Random) {
     say!(text; "\t%o =l and {}, 56\n", temporary(random, "l"));
@@ -104,7 +99,8 @@ fn push_memory(text: &mut TextMaker, random: &mut Random) {
         1 => say!(text; "\tstorel {}, %a\n", value(random, "l")),
         2 => {
             let class = random.one_of(&CLASSES);
-            push_load(text, random, class, &LOADS);
+            let to = temporary(random, class);
+            say!(text; "\t{to} ={class} {} %a\n", random.one_of(&LOADS));
         }
         _ => {
             let word = random.one_of(&STORES);
@@ -113,20 +109,12 @@ fn push_memory(text: &mut TextMaker, random: &mut Random) {
     }
 }
 
-fn push_blit(text: &mut TextMaker, random: &mut Random) {
-    let count = random.below(65);
-    say!(text; "\tblit {}, {count}\n", random.one_of(&BLITS));
-}
-
+// A call by the name or by a pointer, where there is a function.
 fn push_call(text: &mut TextMaker, random: &mut Random, known: &[Signature]) {
     let at = random.below(known.len() as u64) as usize;
-    if let Some(callee) = known.get(at) {
-        push_call_of(text, random, callee);
-    }
-}
-
-// A call by the name or by a pointer.
-fn push_call_of(text: &mut TextMaker, random: &mut Random, callee: &Signature) {
+    let Some(callee) = known.get(at) else {
+        return;
+    };
     let (number, class) = (callee.number, callee.result);
     let is_by_pointer = random.below(3) == 0;
     let to = temporary(random, class);
@@ -148,7 +136,10 @@ fn push_instruction(text: &mut TextMaker, random: &mut Random, known: &[Signatur
         1 => push_comparison(text, random),
         2 => push_one(text, random),
         3 | 4 => push_memory(text, random),
-        5 => push_blit(text, random),
+        5 => {
+            let count = random.below(65);
+            say!(text; "\tblit {}, {count}\n", random.one_of(&BLITS));
+        }
         6 => push_call(text, random, known),
         7 => push_binary(text, random, &SHIFTS, class, "w"),
         _ => push_binary(text, random, &BOTH, class, class),
@@ -161,25 +152,14 @@ fn push_instructions(text: &mut TextMaker, random: &mut Random, known: &[Signatu
     }
 }
 
-// The head of a loop: two phis that exchange values, beside the one that counts.
-fn push_loop_head(text: &mut TextMaker, n: u64, rounds: u64) {
+// A loop of a few rounds with two phis that exchange values, beside the one that counts, and a way round in it.
+fn push_loop(text: &mut TextMaker, random: &mut Random, known: &[Signature], n: u64) {
+    let rounds = random.below(5).wrapping_add(1);
+    let on = random.below(COUNT);
     say!(text; "\tjmp @in{n}\n@in{n}\n\tjmp @loop{n}\n@loop{n}\n");
     say!(text; "\t%i{n} =w phi @in{n} {rounds}, @next{n} %j{n}\n");
     say!(text; "\t%x{n} =l phi @in{n} %l1, @next{n} %y{n}\n");
     say!(text; "\t%y{n} =l phi @in{n} %l2, @next{n} %x{n}\n");
-}
-
-// The end of a loop: it goes on until the count is 0.
-fn push_loop_end(text: &mut TextMaker, n: u64) {
-    say!(text; "\t%l1 =l xor %l1, %x{n}\n@next{n}\n\t%j{n} =w sub %i{n}, 1\n");
-    say!(text; "\tjnz %j{n}, @loop{n}, @out{n}\n@out{n}\n");
-}
-
-// A loop of a few rounds with two phis that exchange values, and a way round in it.
-fn push_loop(text: &mut TextMaker, random: &mut Random, known: &[Signature], n: u64) {
-    let rounds = random.below(5).wrapping_add(1);
-    let on = random.below(COUNT);
-    push_loop_head(text, n, rounds);
     push_instructions(text, random, known);
     say!(text; "\tjnz %w{on}, @one{n}, @two{n}\n@one{n}\n");
     push_instructions(text, random, known);
@@ -187,7 +167,8 @@ fn push_loop(text: &mut TextMaker, random: &mut Random, known: &[Signature], n: 
     push_instructions(text, random, known);
     say!(text; "@join{n}\n\t%w{on} =w phi @one{n} %w3, @two{n} 7\n");
     push_instructions(text, random, known);
-    push_loop_end(text, n);
+    say!(text; "\t%l1 =l xor %l1, %x{n}\n@next{n}\n\t%j{n} =w sub %i{n}, 1\n");
+    say!(text; "\tjnz %j{n}, @loop{n}, @out{n}\n@out{n}\n");
 }
 
 // All temporaries and all bytes of the blocks.

@@ -95,39 +95,27 @@ pub(crate) fn push_head(text: &mut TextMaker, own: &Signature) {
     text.add(") {\n@start\n");
 }
 
-fn push_function(text: &mut TextMaker, random: &mut Random, known: &[Signature], own: &Signature) {
-    push_head(text, own);
-    push_body(text, random, known, own.params.as_slice());
-    say!(text; "\tret %{}0\n}}\n", own.result);
-}
-
-fn push_main(text: &mut TextMaker, random: &mut Random, known: &[Signature]) {
-    text.add("export function w $main() {\n@start\n");
-    push_body(text, random, known, &[]);
-    text.add("\tstorel %l0, $d\n\t%l1 =l call $write(w 1, l $d, l 64)\n");
-    text.add("\t%w0 =w xor %w0, %w1\n\tret %w0\n}\n");
-}
-
-fn push_functions(
-    text: &mut TextMaker,
-    random: &mut Random,
-    alloc: Global,
-) -> Result<(), AllocError> {
-    let mut known = Vec::new(alloc);
-    for number in 0..random.below(4) {
-        let own = random_signature(alloc, random, number)?;
-        push_function(text, random, known.as_slice(), &own);
-        known.push(own)?;
-    }
-    push_main(text, random, known.as_slice());
-    Ok(())
-}
-
 /// A program that ends, whatever the numbers are.
 pub fn random_text(alloc: Global, seed: u64) -> Result<String, AllocError> {
     let mut random = Random::new(seed);
     let mut text = TextMaker::new(alloc);
     text.add("data $d = align 16 { l 1 2 3 4 5 6 7 -8 }\n");
-    push_functions(&mut text, &mut random, alloc)?;
+    let mut known = Vec::new(alloc);
+    for number in 0..random.below(4) {
+        let own = random_signature(alloc, &mut random, number)?;
+        push_head(&mut text, &own);
+        push_body(
+            &mut text,
+            &mut random,
+            known.as_slice(),
+            own.params.as_slice(),
+        );
+        say!(text; "\tret %{}0\n}}\n", own.result);
+        known.push(own)?;
+    }
+    text.add("export function w $main() {\n@start\n");
+    push_body(&mut text, &mut random, known.as_slice(), &[]);
+    text.add("\tstorel %l0, $d\n\t%l1 =l call $write(w 1, l $d, l 64)\n");
+    text.add("\t%w0 =w xor %w0, %w1\n\tret %w0\n}\n");
     text.finish()
 }

@@ -46,14 +46,10 @@ fn temporary<'a>(random: &mut Random, class: &'a str) -> Value<'a> {
     Value::Temporary(class, random.below(COUNT))
 }
 
-fn number(random: &mut Random) -> &'static str {
-    random.one_of(&NUMBERS)
-}
-
 // A temporary that fits a place of this class, which a long does in each, or a number.
 fn value<'a>(random: &mut Random, class: &'a str) -> Value<'a> {
     match random.below(5) {
-        0 => Value::Word(number(random)),
+        0 => Value::Word(random.one_of(&NUMBERS)),
         1 => temporary(random, "l"),
         _ => temporary(random, class),
     }
@@ -117,41 +113,26 @@ fn push_line(text: &mut TextMaker, random: &mut Random) {
     }
 }
 
-fn push_lines(text: &mut TextMaker, random: &mut Random, most: u64) {
-    for _ in 0..random.below(most) {
-        push_line(text, random);
-    }
-}
-
 // A branch by a value to one of two blocks of this number, of which the first begins.
 fn push_branch(text: &mut TextMaker, random: &mut Random, number: u64) {
     let on = value(random, "w");
     say!(text; "jnz {on}, @one{number}, @two{number}\n@one{number}\n");
 }
 
-// The first value of a temporary: a parameter that fits its class, or is widened to it, or a number where there is none.
-fn push_first(
-    text: &mut TextMaker,
-    random: &mut Random,
-    to: Value<'_>,
-    class: &str,
-    params: &[&'static str],
-) {
-    let number = random.below(params.len() as u64);
-    match params.get(number as usize) {
-        Some(param) if class == "l" && *param == "w" => {
-            say!(text; "{to} =l extsw %p{number}\n");
-        }
-        Some(_) => say!(text; "{to} ={class} copy %p{number}\n"),
-        None => say!(text; "{to} ={class} copy {}\n", random.one_of(&NUMBERS)),
-    }
-}
-
-// The first values of all temporaries.
+// The first values of all temporaries: a parameter that fits the class, or is widened to it, or a number where there is none.
 fn push_temporaries(text: &mut TextMaker, random: &mut Random, params: &[&'static str]) {
     for number in 0..COUNT {
         for class in CLASSES {
-            push_first(text, random, Value::Temporary(class, number), class, params);
+            let from = random.below(params.len() as u64);
+            match params.get(from as usize) {
+                Some(param) if class == "l" && *param == "w" => {
+                    say!(text; "%l{number} =l extsw %p{from}\n");
+                }
+                Some(_) => say!(text; "%{class}{number} ={class} copy %p{from}\n"),
+                None => {
+                    say!(text; "%{class}{number} ={class} copy {}\n", random.one_of(&NUMBERS));
+                }
+            }
         }
     }
 }
@@ -164,11 +145,18 @@ fn push_leaf_lines(
     callees: u64,
     most: u64,
 ) {
-    push_lines(text, random, most);
+    for _ in 0..random.below(most) {
+        push_line(text, random);
+    }
     if callees > 0 {
         match random.below(4) {
             0 => push_write(text, random),
-            1 | 2 => push_leaf_call(text, random, known, callees),
+            1 | 2 => {
+                let at = random.below(callees) as usize;
+                if let Some(callee) = known.get(at) {
+                    push_call(text, random, callee);
+                }
+            }
             _ => {}
         }
     }
@@ -181,13 +169,6 @@ fn push_write(text: &mut TextMaker, random: &mut Random) {
         say!(text; "{} =l ", temporary(random, "l"));
     }
     text.add("call $write(w 1, l $byte, l 1)\n");
-}
-
-fn push_leaf_call(text: &mut TextMaker, random: &mut Random, known: &[Signature], callees: u64) {
-    let at = random.below(callees) as usize;
-    if let Some(callee) = known.get(at) {
-        push_call(text, random, callee);
-    }
 }
 
 // Two ways that meet.
@@ -225,20 +206,15 @@ fn push_start(text: &mut TextMaker, random: &mut Random, own: &Signature) {
     push_temporaries(text, random, own.params.as_slice());
 }
 
-// How many functions one of this number may call: none, those that make no calls, or those that call only these too.
-fn callees_of(number: u64) -> u64 {
-    if number < QUIET {
+// A small function, whose calls are of few functions before it: none, those that make no calls, or those that call only these too.
+fn push_leaf(text: &mut TextMaker, random: &mut Random, known: &[Signature], own: &Signature) {
+    let callees = if own.number < QUIET {
         0
-    } else if number < INNER {
+    } else if own.number < INNER {
         QUIET
     } else {
         INNER
-    }
-}
-
-// A small function, whose calls are of few functions before it.
-fn push_leaf(text: &mut TextMaker, random: &mut Random, known: &[Signature], own: &Signature) {
-    let callees = callees_of(own.number);
+    };
     push_start(text, random, own);
     push_leaf_lines(text, random, known, callees, 5);
     match random.below(4) {
@@ -269,18 +245,14 @@ fn push_call(text: &mut TextMaker, random: &mut Random, callee: &Signature) {
     text.add(")\n");
 }
 
-// Adds temporaries to the sum.
-fn push_fold(text: &mut TextMaker, random: &mut Random) {
-    let class = random.one_of(&CLASSES);
-    say!(text; "%sum =l mul %sum, 31\n%a =l extsw {}\n", temporary(random, class));
-    say!(text; "%sum =l add %sum, %a\n%sum =l xor %sum, {}\n", temporary(random, "l"));
-}
-
+// A call of one of the functions, behind which temporaries are added to the sum.
 fn push_call_of_one(text: &mut TextMaker, random: &mut Random, known: &[Signature]) {
     let at = random.below(known.len() as u64) as usize;
     if let Some(callee) = known.get(at) {
         push_call(text, random, callee);
-        push_fold(text, random);
+        let class = random.one_of(&CLASSES);
+        say!(text; "%sum =l mul %sum, 31\n%a =l extsw {}\n", temporary(random, class));
+        say!(text; "%sum =l add %sum, %a\n%sum =l xor %sum, {}\n", temporary(random, "l"));
     }
 }
 
@@ -299,17 +271,13 @@ fn push_step(text: &mut TextMaker, random: &mut Random, known: &[Signature], num
     }
 }
 
-fn push_steps(text: &mut TextMaker, random: &mut Random, known: &[Signature]) {
-    for number in 0..random.below(5).wrapping_add(4) {
-        push_step(text, random, known, number);
-    }
-}
-
 // A loop of one to three rounds of calls behind the first values; then the sum.
 fn push_rounds(text: &mut TextMaker, random: &mut Random, known: &[Signature]) {
     let rounds = random.below(3).wrapping_add(1);
     say!(text; "%sum =l copy %l0\n%n =w copy {rounds}\n@loop\n");
-    push_steps(text, random, known);
+    for number in 0..random.below(5).wrapping_add(4) {
+        push_step(text, random, known, number);
+    }
     text.add("%n =w sub %n, 1\njnz %n, @loop, @out\n@out\n");
 }
 

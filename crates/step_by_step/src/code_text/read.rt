@@ -147,16 +147,6 @@ fn line<P: Place>(alloc: Global, text: &str) -> Option<Line<P>> {
     }
 }
 
-fn comparison<P: Place>(words: &mut Words<'_>) -> Option<Comparison<P>> {
-    let (condition, class) = comparison_of(words.next())?;
-    Some(Comparison {
-        condition,
-        class,
-        left: operand(words.next())?,
-        right: operand(words.next())?,
-    })
-}
-
 fn returned<P: Place>(mut words: Words<'_>) -> Option<ReturnValue<P>> {
     let (extension, value) = extended(&mut words)?;
     Some(ReturnValue { value, extension })
@@ -166,51 +156,43 @@ fn jump<P: Place>(text: &str) -> Option<Jump<P>> {
     let mut words = Words::of(text);
     match words.next() {
         "goto" => Some(Jump::Goto(block_number(words.next())?)),
-        "branch" => Some(Jump::Branch {
-            on: comparison(&mut words)?,
-            met: block_number(words.next())?,
-            otherwise: block_number(words.next())?,
-        }),
+        "branch" => {
+            let (condition, class) = comparison_of(words.next())?;
+            let on = Comparison {
+                condition,
+                class,
+                left: operand(words.next())?,
+                right: operand(words.next())?,
+            };
+            Some(Jump::Branch {
+                on,
+                met: block_number(words.next())?,
+                otherwise: block_number(words.next())?,
+            })
+        }
         "ret" => Some(Jump::Return(returned(words))),
         "halt" => Some(Jump::Halt),
         _ => None,
     }
 }
 
-/// Blocks that are read: those that have ended, and the lines behind them.
-#[derive(Drop)]
-struct Body<P> {
-    alloc: Global,
-    ended: Seq<Block<P>>,
-    lines: Seq<Line<P>>,
-}
-
-impl<P: Place> Body<P> {
-    /// Takes a line of text.
-    fn take(&mut self, text: &str) -> Option<()> {
-        if text.starts_with('@') {
-            return Some(());
-        }
-        match jump(text) {
-            Some(jump) => {
-                let lines = mem::replace(&mut self.lines, Seq::new(self.alloc));
-                self.ended.push(Block { lines, jump }).ok()
-            }
-            None => self.lines.push(line(self.alloc, text)?).ok(),
-        }
-    }
-}
-
+/// The blocks of a text, each of which ends with its jump.
 fn blocks<P: Place>(alloc: Global, text: &str) -> Option<Seq<Block<P>>> {
-    let mut body = Body {
-        alloc,
-        ended: Seq::new(alloc),
-        lines: Seq::new(alloc),
-    };
-    for part in text.lines() {
-        body.take(part.trim())?;
+    let mut blocks = Seq::new(alloc);
+    let mut lines = Seq::new(alloc);
+    for part in text.lines().map(|part| part.trim()) {
+        if part.starts_with('@') {
+            continue;
+        }
+        match jump(part) {
+            Some(jump) => {
+                let lines = mem::replace(&mut lines, Seq::new(alloc));
+                blocks.push(Block { lines, jump }).ok()?;
+            }
+            None => lines.push(line(alloc, part)?).ok()?,
+        }
     }
-    Some(body.ended)
+    Some(blocks)
 }
 
 fn parameter<P: Place>(text: &str) -> Option<Destination<P>> {

@@ -4,7 +4,7 @@ use crate::code_text::place::{Place, Word};
 use rv_isa::text::load_name;
 use std::alloc::{AllocError, Global};
 use text_maker::{TextMaker, say};
-use vcode::{Argument, Block, Code, Extension, Jump, Line, Operand, Operation};
+use vcode::{Argument, Code, Extension, Jump, Line, Operand, Operation};
 
 fn operand<P: Place>(value: &Operand<P>) -> Word {
     match value {
@@ -100,14 +100,6 @@ fn jump<P: Place>(to: &mut TextMaker, jump: &Jump<P>) {
     }
 }
 
-fn block<P: Place>(to: &mut TextMaker, number: usize, block: &Block<P>) {
-    say!(to; "@{number}\n");
-    for from in block.lines.as_slice() {
-        line(to, from);
-    }
-    jump(to, &block.jump);
-}
-
 fn header<P: Place>(to: &mut TextMaker, count: u32, code: &Code<P>) {
     to.add("function ");
     if let Some(class) = code.result {
@@ -128,8 +120,12 @@ pub(crate) fn written<P: Place>(
 ) -> Result<String, AllocError> {
     let mut to = TextMaker::new(alloc);
     header(&mut to, count, code);
-    for (number, from) in code.blocks.as_slice().iter().enumerate() {
-        block(&mut to, number, from);
+    for (number, block) in code.blocks.as_slice().iter().enumerate() {
+        say!(to; "@{number}\n");
+        for from in block.lines.as_slice() {
+            line(&mut to, from);
+        }
+        jump(&mut to, &block.jump);
     }
     to.finish()
 }
