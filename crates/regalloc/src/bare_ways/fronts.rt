@@ -103,11 +103,12 @@ fn find_inside(alloc: Global, list: &[Location], ground: Ground) -> Result<Vec<b
 
 /// Whether a way on which nothing is called returns: by a block that is one of these, or as good as one for those that lead to it.
 fn is_worth(inside: &[bool], ground: Ground) -> bool {
-    let blocks = ground.function.code.blocks.as_slice().iter().enumerate();
-    let mut returns = blocks.filter(|(_, block)| matches!(block.jump, Jump::Return(_)));
-    returns.any(|(number, block)| {
+    let mut blocks = ground.function.code.blocks.as_slice().iter().enumerate();
+    blocks.any(|(number, block)| {
         let (some, all) = sources_inside(inside, &ground.facts.text, number);
-        is_quiet(block) && (is_inside(inside, number) || (some && !all))
+        matches!(block.jump, Jump::Return(_))
+            && is_quiet(block)
+            && (is_inside(inside, number) || (some && !all))
     })
 }
 

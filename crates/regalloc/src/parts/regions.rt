@@ -88,7 +88,7 @@ pub(crate) fn leaders(
     let mut leaders: Vec<Option<usize>> = own.collect(alloc)?;
     if !matches!(reach, Reach::Alone) {
         join_all(leaders.as_mut_slice(), text, nodes);
-        // none on the way there
+        // and none on the way there
         for number in 0..leaders.len() {
             let leader = leader_of(leaders.as_mut_slice(), number);
             set(leaders.as_mut_slice(), number, leader);
@@ -106,10 +106,12 @@ pub(crate) struct Member {
 
 /// The members of all regions, those of a region together.
 pub(crate) fn members(alloc: Global, leaders: &[Option<usize>]) -> Result<Vec<Member>, AllocError> {
-    let members = leaders.iter().enumerate().filter_map(|(node, leader)| {
-        leader.map(|leader| Member { leader, node })
-    });
-    let mut members: Vec<Member> = members.collect(alloc)?;
+    let mut members = Vec::new(alloc);
+    for (node, leader) in leaders.iter().copied().enumerate() {
+        if let Some(leader) = leader {
+            members.push(Member { leader, node })?;
+        }
+    }
     members.sort()?;
     Ok(members)
 }

@@ -162,7 +162,7 @@ impl Credit {
             if let Some(moves) = self.moves.get_mut(at)
                 && 0 < *moves
             {
-                *moves -= 1;
+                *moves = moves.saturating_sub(1);
                 return true;
             }
             let Some(before) = self.step(at) else {

@@ -69,8 +69,8 @@ fn needs_slot(standing: Standing, nodes: &Nodes) -> bool {
             })
 }
 
-/// What is done at the accesses of a part: it stands in the register of the machine there, and new values are saved at once where the slot is to have each, or behind
-/// the part the one of the access numbered `last`.
+/// What is done at the accesses of a part: the register stands in its register of the machine there. New values are saved at once, if the slot has the value too all
+/// along, or only that of the access numbered `last`.
 fn follow_accesses(
     splits: &mut Splits,
     standing: Standing,

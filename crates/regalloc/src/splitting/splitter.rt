@@ -85,7 +85,8 @@ fn split(
     splitter.nodes.fill(alloc, view)?;
     give_all(alloc, view, &mut splitter.nodes, rooms)?;
     let own = splits_of(alloc, view, &splitter.nodes)?;
-    if own.moves.iter().all(|one| splitter.credit.pay(one.point)) {
+    let credit = &mut splitter.credit;
+    if own.moves.iter().all(|one| credit.pay(one.point)) {
         splitter.splits.append(&own)?;
     }
     Ok(())
