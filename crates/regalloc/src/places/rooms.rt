@@ -92,6 +92,15 @@ impl Rooms {
         })
     }
 
+    /// Takes the k-th register at all positions of the range.
+    fn take_at(&mut self, k: usize, range: Range) {
+        for w in range.start / 64..range.end / 64 + 1 {
+            if let Some(word) = self.word_mut(k, w) {
+                *word |= mask(range, w);
+            }
+        }
+    }
+
     /// Whether the k-th register is free at all positions of the ranges.
     pub(crate) fn is_free(&self, k: usize, ranges: &[Range]) -> bool {
         ranges.iter().all(|range| self.is_free_at(k, *range))
@@ -103,11 +112,7 @@ impl Rooms {
             self.used[k] = true;
         }
         for range in ranges {
-            for w in range.start / 64..range.end / 64 + 1 {
-                if let Some(word) = self.word_mut(k, w) {
-                    *word |= mask(*range, w);
-                }
-            }
+            self.take_at(k, *range);
         }
     }
 }
