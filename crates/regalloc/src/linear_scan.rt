@@ -69,58 +69,21 @@ fn set(list: &mut [Location], registers: u32, register: u32, place: Location)
     }
 }
 
-/// Puts all the registers into the place.
-fn set_all(list: &mut [Location], registers: u32, members: &[u32], place: Location)
+/// Puts those registers into the place that have no register of the machine yet.
+fn stand(list: &mut [Location], registers: u32, members: &[u32], place: Location)
     requires place { is_place registers place ≡ true }
     requires places { list_all (is_place registers) list.old ≡ true }
     ensures places { list_all (is_place registers) list.new ≡ true }
     ensures long { length list.new ≡ length list.old }
 {
     for register in members {
-        set(list, registers, *register, place);
-    }
-}
-
-/// Gives the registers of the candidate a register of the machine, if one is chosen for it.
-fn place_candidate(
-    alloc: Global,
-    list: &mut [Location],
-    registers: u32,
-    rooms: &mut Rooms,
-    splitter: &mut Splitter,
-    ground: Ground,
-    candidate: &Candidate,
-) -> Result<(), AllocError>
-    requires { list_all (is_place registers) list.old ≡ true }
-    ensures places { list_all (is_place registers) list.new ≡ true }
-    ensures long { length list.new ≡ length list.old }
-{
-    if let Some(group) = ground.groups.get(candidate.group)
-        && let Some(k) = choice(alloc, rooms, splitter, ground, candidate, group)?
-        && k < ROOMS
-    {
-        rooms.take(k, group.ranges(ground.facts.intervals.as_slice()));
-        let place = machine_register(registers, k as u8);
-        set_all(list, registers, group.members.as_slice(), place);
-    }
-    Ok(())
-}
-
-/// Puts those registers into the slot that have no register of the machine yet.
-fn stand(list: &mut [Location], registers: u32, members: &[u32], slot: u32)
-    requires low { slot < registers }
-    requires places { list_all (is_place registers) list.old ≡ true }
-    ensures places { list_all (is_place registers) list.new ≡ true }
-    ensures long { length list.new ≡ length list.old }
-{
-    for register in members {
         if is_unplaced(list, *register) {
-            set(list, registers, *register, Location::Slot(slot));
+            set(list, registers, *register, place);
         }
     }
 }
 
-/// Gives registers of the machine to the groups, the most urgent first; answers them in this order.
+/// Gives registers of the machine to the groups that one is chosen for, the most urgent first; answers all groups in this order.
 fn place_groups(
     alloc: Global,
     list: &mut [Location],
@@ -135,7 +98,14 @@ fn place_groups(
 {
     let candidates = candidates(alloc, ground.groups, ground.facts)?;
     for candidate in candidates.iter() {
-        place_candidate(alloc, list, registers, rooms, splitter, ground, candidate)?;
+        if let Some(group) = ground.groups.get(candidate.group)
+            && let Some(k) = choice(alloc, rooms, splitter, ground, candidate, group)?
+            && k < ROOMS
+        {
+            rooms.take(k, group.ranges(ground.facts.intervals.as_slice()));
+            let place = machine_register(registers, k as u8);
+            stand(list, registers, group.members.as_slice(), place);
+        }
     }
     Ok(candidates)
 }
@@ -158,33 +128,11 @@ fn place_in_slots(
         if let Some(group) = ground.groups.get(wish.group)
             && *slot < registers as usize
         {
-            stand(list, registers, group.members.as_slice(), *slot as u32);
+            let place = Location::Slot(*slot as u32);
+            stand(list, registers, group.members.as_slice(), place);
         }
     }
     Ok(())
-}
-
-/// Gives registers of the machine to single registers of the groups that got none, and slots to what is left; the registers with slots are split where they can be.
-fn place_singles(
-    alloc: Global,
-    list: &mut [Location],
-    registers: u32,
-    rooms: &mut Rooms,
-    splitter: &mut Splitter,
-    ground: Ground,
-) -> Result<(), AllocError>
-    requires { list_all (is_place registers) list.old ≡ true }
-    ensures places { list_all (is_place registers) list.new ≡ true }
-    ensures long { length list.new ≡ length list.old }
-{
-    let singles = singles(alloc, ground.groups, list, ground.facts)?;
-    let single = Ground {
-        groups: singles.as_slice(),
-        ..ground
-    };
-    let order = place_groups(alloc, list, registers, rooms, splitter, single)?;
-    place_in_slots(alloc, list, registers, ground)?;
-    split_all(alloc, splitter, rooms, list, single, order.as_slice())
 }
 
 /// Gives registers of the machine to groups, then to single registers of those that got none, and slots to what is left, which is split where it can be; answers what is done
@@ -204,7 +152,21 @@ fn place_and_split(
     let mut splitter = Splitter::new(alloc, accesses);
     place_groups(alloc, list, registers, &mut rooms, &mut splitter, ground)?;
     if is_left_over(list, ground.facts) {
-        place_singles(alloc, list, registers, &mut rooms, &mut splitter, ground)?;
+        let singles = singles(alloc, ground.groups, list, ground.facts)?;
+        let single = Ground {
+            groups: singles.as_slice(),
+            ..ground
+        };
+        let order = place_groups(alloc, list, registers, &mut rooms, &mut splitter, single)?;
+        place_in_slots(alloc, list, registers, ground)?;
+        split_all(
+            alloc,
+            &mut splitter,
+            &mut rooms,
+            list,
+            single,
+            order.as_slice(),
+        )?;
     }
     keep_bare(alloc, &mut splitter, list, ground)?;
     splitter.finish()

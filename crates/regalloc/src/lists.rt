@@ -48,23 +48,18 @@ impl Rows {
                 *count = count.saturating_add(1);
             }
         }
-        let mut rows = Rows { firsts };
-        rows.close();
-        Ok(rows)
+        // behind one another, none of their items placed yet
+        let mut before = 0usize;
+        for count in firsts.iter_mut() {
+            before = before.saturating_add(*count);
+            *count = before;
+        }
+        Ok(Rows { firsts })
     }
 
     /// Whether there is no list yet.
     pub(crate) fn are_none(&self) -> bool {
         self.firsts.is_empty()
-    }
-
-    /// Puts the rows behind one another, when all items are counted and none is placed.
-    fn close(&mut self) {
-        let mut before = 0usize;
-        for count in self.firsts.iter_mut() {
-            before = before.saturating_add(*count);
-            *count = before;
-        }
     }
 
     /// Where one more item of the row stands in the list: in front of those of the row that are placed.

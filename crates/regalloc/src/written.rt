@@ -1,5 +1,5 @@
-//! The certificate of places and splits: `points` has the places at each point, `moves` the moves before it, `starts` the places where blocks begin, and `params` those
-//! of parameters.
+//! The certificate of places and splits: `points` has the places at each point, `moves` the moves before it, and `starts` the places of parameters and where blocks
+//! begin.
 ghost use Rattle.std.specs.Prelude.{◌≡◌, true, IfOk};
 ghost use Rattle.std.specs.List.{list_all};
 ghost use Rattle.vcode.specs.Named.{is_place};
@@ -8,15 +8,13 @@ ghost use Rattle.regalloc.specs.Scanned.{IsScanned};
 use crate::intervals::facts::Facts;
 use crate::splitting::splits::Splits;
 use crate::written::moves::all_moves;
-use crate::written::params::placed_params;
 use crate::written::points::all_places;
-use crate::written::starts::{placed_everywhere, placed_starts};
+use crate::written::starts::{placed_everywhere, placed_params, placed_starts};
 use certificates::Certificate;
 use std::alloc::{AllocError, Global};
 use vcode::{Location, VFunc};
 
 pub(crate) mod moves;
-pub(crate) mod params;
 pub(crate) mod points;
 pub(crate) mod starts;
 

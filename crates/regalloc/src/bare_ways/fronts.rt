@@ -1,6 +1,6 @@
 //! The blocks in front of all calls.
 use crate::intervals::positions::{Range, right_after, right_before};
-use crate::intervals::text::{Stretch, Text};
+use crate::intervals::text::Text;
 use crate::places::candidates::Ground;
 use crate::places::rooms::scratch_room;
 use std::alloc::{AllocError, Global};
@@ -53,12 +53,6 @@ fn sources_inside(inside: &[bool], text: &Text, block: usize) -> (bool, bool) {
     (0 < count, count == sources.len())
 }
 
-/// Whether something is live where the block begins that has its place in a frame.
-fn begins_framed(list: &[Location], ground: Ground, block: usize) -> bool {
-    let mut live = ground.facts.starts.of(block).iter();
-    live.any(|register| scratch_room(list, *register).is_none())
-}
-
 /// Takes out the blocks that lead to this one, if it is outside, others outside lead to it too, and something is live there that has its place in a frame.
 fn settle(
     inside: &mut [bool],
@@ -68,7 +62,12 @@ fn settle(
     block: usize,
 ) -> Result<(), AllocError> {
     let (some, all) = sources_inside(inside, &ground.facts.text, block);
-    if some && !all && !is_inside(inside, block) && begins_framed(list, ground, block) {
+    let mut live = ground.facts.starts.of(block).iter();
+    if some
+        && !all
+        && !is_inside(inside, block)
+        && live.any(|register| scratch_room(list, *register).is_none())
+    {
         for source in ground.facts.text.sources(block) {
             take_out(inside, due, *source)?;
         }
@@ -76,83 +75,44 @@ fn settle(
     Ok(())
 }
 
-/// What a block leads to that was taken out is taken out too.
-fn follow(
-    inside: &mut [bool],
-    due: &mut Vec<usize>,
-    list: &[Location],
-    ground: Ground,
-    block: usize,
-) -> Result<(), AllocError> {
-    let Some(stretch) = ground.facts.text.stretch(block) else {
-        return Ok(());
-    };
-    settle(inside, due, list, ground, block)?;
-    for to in [stretch.next, stretch.other] {
-        if let Some(to) = to {
-            take_out(inside, due, to)?;
-            settle(inside, due, list, ground, to)?;
-        }
-    }
-    Ok(())
-}
-
-/// Of each block whether only blocks without calls lead to it, and it makes none.
+/// Of each block whether only blocks without calls lead to it, and it makes none. What a block leads to that is taken out is taken out too.
 fn find_inside(alloc: Global, list: &[Location], ground: Ground) -> Result<Vec<bool>, AllocError> {
     let blocks = ground.function.code.blocks.as_slice();
-    let mut inside = vec![in alloc; true; blocks.len()]?;
+    let mut all = vec![in alloc; true; blocks.len()]?;
+    let inside = all.as_mut_slice();
     let mut due = Vec::new(alloc);
     for (number, block) in blocks.iter().enumerate() {
         if !is_quiet(block) {
-            take_out(inside.as_mut_slice(), &mut due, number)?;
+            take_out(inside, &mut due, number)?;
         }
     }
     for _ in 0..blocks.len() {
-        match due.pop() {
-            Some(block) => follow(inside.as_mut_slice(), &mut due, list, ground, block)?,
-            None => break,
+        let Some(block) = due.pop() else {
+            break;
+        };
+        settle(inside, &mut due, list, ground, block)?;
+        for to in ground.facts.text.targets(block) {
+            if let Some(to) = to {
+                take_out(inside, &mut due, to)?;
+                settle(inside, &mut due, list, ground, to)?;
+            }
         }
     }
-    Ok(inside)
+    Ok(all)
 }
 
-/// Whether the block returns, and is one of these or as good as one for those that lead to it.
-fn returns_bare(inside: &[bool], text: &Text, number: usize, block: &Block<u32>) -> bool {
-    if !matches!(block.jump, Jump::Return(_)) || !is_quiet(block) {
-        return false;
-    }
-    let (some, all) = sources_inside(inside, text, number);
-    is_inside(inside, number) || (some && !all)
-}
-
-/// Whether a way on which nothing is called returns.
+/// Whether a way on which nothing is called returns: by a block that is one of these, or as good as one for those that lead to it.
 fn is_worth(inside: &[bool], ground: Ground) -> bool {
-    let text = &ground.facts.text;
     let mut blocks = ground.function.code.blocks.as_slice().iter().enumerate();
-    blocks.any(|(number, block)| returns_bare(inside, text, number, block))
+    blocks.any(|(number, block)| {
+        let (some, all) = sources_inside(inside, &ground.facts.text, number);
+        matches!(block.jump, Jump::Return(_))
+            && is_quiet(block)
+            && (is_inside(inside, number) || (some && !all))
+    })
 }
 
-/// Notes the block, if it is one of these or stands behind them alone.
-fn push_block(
-    fronts: &mut Fronts,
-    inside: &[bool],
-    text: &Text,
-    number: usize,
-    stretch: Stretch,
-) -> Result<(), AllocError> {
-    let (some, all) = sources_inside(inside, text, number);
-    let start = right_before(stretch.first);
-    if is_inside(inside, number) {
-        let end = right_after(stretch.jump);
-        fronts.inside.push(number)?;
-        fronts.zones.push(Range { start, end })?;
-    } else if some && all {
-        fronts.heads.push(number)?;
-        fronts.zones.push(Range { start, end: start })?;
-    }
-    Ok(())
-}
-
+/// The blocks that are inside, and those that stand behind them alone.
 fn listed(alloc: Global, inside: &[bool], text: &Text) -> Result<Fronts, AllocError> {
     let mut fronts = Fronts {
         inside: Vec::new(alloc),
@@ -160,7 +120,16 @@ fn listed(alloc: Global, inside: &[bool], text: &Text) -> Result<Fronts, AllocEr
         zones: Vec::new(alloc),
     };
     for (number, stretch) in text.stretches.iter().enumerate() {
-        push_block(&mut fronts, inside, text, number, *stretch)?;
+        let (some, all) = sources_inside(inside, text, number);
+        let start = right_before(stretch.first);
+        if is_inside(inside, number) {
+            let end = right_after(stretch.jump);
+            fronts.inside.push(number)?;
+            fronts.zones.push(Range { start, end })?;
+        } else if some && all {
+            fronts.heads.push(number)?;
+            fronts.zones.push(Range { start, end: start })?;
+        }
     }
     Ok(fronts)
 }

@@ -46,26 +46,7 @@ fn find(holders: &mut Holders, register: u32) -> Result<(), AllocError> {
     Ok(())
 }
 
-fn find_written(holders: &mut Holders, block: &Block<u32>) -> Result<(), AllocError> {
-    for line in block.lines.as_slice() {
-        if let Some(register) = line_writes(line) {
-            find(holders, register)?;
-        }
-    }
-    Ok(())
-}
-
-/// Finds what is live where the block begins, and what it writes.
-fn find_in(holders: &mut Holders, ground: Ground, number: usize) -> Result<(), AllocError> {
-    for register in ground.facts.starts.of(number) {
-        find(holders, *register)?;
-    }
-    match ground.function.code.blocks.as_slice().get(number) {
-        Some(block) => find_written(holders, block),
-        None => Ok(()),
-    }
-}
-
+/// Finds the parameters, and what is live where the blocks in front of all calls begin, and what they write.
 fn found(alloc: Global, ground: Ground, fronts: &Fronts) -> Result<Holders, AllocError> {
     let registers = ground.function.registers as usize;
     let mut holders = Holders {
@@ -78,21 +59,18 @@ fn found(alloc: Global, ground: Ground, fronts: &Fronts) -> Result<Holders, Allo
         find(&mut holders, param.place)?;
     }
     for number in fronts.inside.iter() {
-        find_in(&mut holders, ground, *number)?;
-    }
-    Ok(holders)
-}
-
-/// The positions of the range that are in one of the zones.
-fn clip(ranges: &mut Vec<Range>, range: Range, zones: &[Range]) -> Result<(), AllocError> {
-    for zone in zones {
-        let start = range.start.max(zone.start);
-        let end = range.end.min(zone.end);
-        if start <= end {
-            ranges.push(Range { start, end })?;
+        for register in ground.facts.starts.of(*number) {
+            find(&mut holders, *register)?;
+        }
+        if let Some(block) = ground.function.code.blocks.as_slice().get(*number) {
+            for line in block.lines.as_slice() {
+                if let Some(register) = line_writes(line) {
+                    find(&mut holders, register)?;
+                }
+            }
         }
     }
-    Ok(())
+    Ok(holders)
 }
 
 /// What is looked at, with room for the ranges of one register.
@@ -113,7 +91,13 @@ fn find_ranges(look: &mut Look, register: u32) -> Result<bool, AllocError> {
         return Ok(false);
     }
     for range in all {
-        clip(&mut look.ranges, *range, look.fronts.zones.as_slice())?;
+        for zone in look.fronts.zones.iter() {
+            let start = range.start.max(zone.start);
+            let end = range.end.min(zone.end);
+            if start <= end {
+                look.ranges.push(Range { start, end })?;
+            }
+        }
     }
     Ok(true)
 }
@@ -129,16 +113,6 @@ fn stay_all(rooms: &mut Rooms, holders: &Holders, look: &mut Look) -> Result<boo
         }
     }
     Ok(true)
-}
-
-/// Notes where splitting has registers at the begins of blocks that stand behind.
-fn note_behind(holders: &mut Holders, fronts: &Fronts, begins: &[Begin]) {
-    for begin in begins {
-        if fronts.heads.contains(&begin.block) {
-            let register = begin.register as usize;
-            set(holders.behind.as_mut_slice(), register, Some(begin.room));
-        }
-    }
 }
 
 /// The register of the machine in which the parameter comes.
@@ -216,7 +190,12 @@ pub(crate) fn holders_of(
     if registers.all(|register| scratch_room(list, *register).is_some()) {
         return Ok(None);
     }
-    note_behind(&mut holders, fronts, begins);
+    for begin in begins {
+        if fronts.heads.contains(&begin.block) {
+            let register = begin.register as usize;
+            set(holders.behind.as_mut_slice(), register, Some(begin.room));
+        }
+    }
     let mut rooms = Rooms::new(alloc, ground.facts.text.points())?;
     let mut look = Look {
         list,

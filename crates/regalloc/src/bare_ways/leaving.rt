@@ -73,18 +73,6 @@ fn kept(alloc: Global, scene: Scene, old: &Splits) -> Result<Splits, AllocError>
     Ok(splits)
 }
 
-fn push_entries(splits: &mut Splits, scene: Scene) -> Result<(), AllocError> {
-    for param in scene.ground.function.code.params.as_slice() {
-        if let Some(room) = scene.holders.room(param.place) {
-            splits.entries.push(Entry {
-                register: param.place,
-                room,
-            })?;
-        }
-    }
-    Ok(())
-}
-
 /// What is live where the block begins stands in its register of the machine.
 fn push_begins(splits: &mut Splits, scene: Scene, block: usize) -> Result<(), AllocError> {
     for register in scene.ground.facts.starts.of(block) {
@@ -100,77 +88,44 @@ fn push_begins(splits: &mut Splits, scene: Scene, block: usize) -> Result<(), Al
     Ok(())
 }
 
-fn push_stay(
-    splits: &mut Splits,
-    scene: Scene,
-    point: usize,
-    register: Option<u32>,
-) -> Result<(), AllocError> {
-    if let Some(register) = register
-        && let Some(room) = scene.holders.room(register)
-    {
-        splits.stays.push(Stay {
-            point,
-            register,
-            room,
-        })?;
-    }
-    Ok(())
-}
-
-fn push_reads(
+/// What the point reads and writes stands in its register of the machine.
+fn push_stays(
     splits: &mut Splits,
     scene: Scene,
     point: usize,
     reads: Reads,
+    written: Option<u32>,
 ) -> Result<(), AllocError> {
-    push_stay(splits, scene, point, reads.first)?;
-    push_stay(splits, scene, point, reads.second)
+    for register in [reads.first, reads.second, written] {
+        if let Some(register) = register
+            && let Some(room) = scene.holders.room(register)
+        {
+            splits.stays.push(Stay {
+                point,
+                register,
+                room,
+            })?;
+        }
+    }
+    Ok(())
 }
 
-/// What the lines read and write stands in its register of the machine; answers the point behind them.
-fn push_lines(
-    splits: &mut Splits,
-    scene: Scene,
-    first: usize,
-    lines: &[Line<u32>],
-) -> Result<usize, AllocError> {
-    let mut point = first;
-    for line in lines {
+/// What the block reads and writes stands in its register of the machine, and what is live where it begins.
+fn push_block(splits: &mut Splits, scene: Scene, number: usize) -> Result<(), AllocError> {
+    push_begins(splits, scene, number)?;
+    let blocks = scene.ground.function.code.blocks.as_slice();
+    let (Some(stretch), Some(block)) = (scene.ground.facts.text.stretch(number), blocks.get(number))
+    else {
+        return Ok(());
+    };
+    let mut point = stretch.first;
+    for line in block.lines.as_slice() {
         if !matches!(line, Line::Tick { .. }) {
-            push_reads(splits, scene, point, line_reads(line))?;
-            push_stay(splits, scene, point, line_writes(line))?;
+            push_stays(splits, scene, point, line_reads(line), line_writes(line))?;
             point = point.saturating_add(1);
         }
     }
-    Ok(point)
-}
-
-fn push_block(splits: &mut Splits, scene: Scene, number: usize) -> Result<(), AllocError> {
-    push_begins(splits, scene, number)?;
-    let Some(stretch) = scene.ground.facts.text.stretch(number) else {
-        return Ok(());
-    };
-    match scene.ground.function.code.blocks.as_slice().get(number) {
-        Some(block) => {
-            let jump = push_lines(splits, scene, stretch.first, block.lines.as_slice())?;
-            push_reads(splits, scene, jump, jump_reads(&block.jump))
-        }
-        None => Ok(()),
-    }
-}
-
-/// Where splitting has the register at the begin of the block, and whether its own place has the value too.
-fn begin_in(old: &Splits, block: usize, register: u32) -> Option<Begin> {
-    let mut begins = old.begins.iter().copied();
-    begins.find(|begin| begin.block == block && begin.register == register)
-}
-
-/// Whether the value was saved at this point.
-fn is_saved_at(old: &Splits, point: usize, register: u32) -> bool {
-    old.moves.iter().any(|one| one.point == point
-        && one.register == register
-        && one.way == Way::Save)
+    push_stays(splits, scene, point, jump_reads(&block.jump), None)
 }
 
 /// Adds the moves of a value that comes to a block behind: `save` moves it to its own place, and where it stands in another register of the machine it is loaded into that.
@@ -182,7 +137,10 @@ fn push_coming(
     save: Move,
     begin: Option<Begin>,
 ) -> Result<bool, AllocError> {
-    let is_paid = begin.is_some() && is_saved_at(old, save.point, save.register);
+    let is_paid = begin.is_some()
+        && old.moves.iter().any(|one| {
+            one.point == save.point && one.register == save.register && one.way == Way::Save
+        });
     let moved = begin.filter(|begin| begin.room != save.room);
     if is_paid || moved.is_some() || begin.is_none_or(|begin| begin.is_saved) {
         splits.moves.push(save)?;
@@ -221,23 +179,12 @@ fn push_head(
                 register: *register,
                 room,
             };
-            if !push_coming(splits, credit, old, save, begin_in(old, block, *register))? {
+            // where splitting has it at the begin of the block, and whether its own place has the value too
+            let mut begins = old.begins.iter().copied();
+            let begin = begins.find(|begin| begin.is_at(block, *register));
+            if !push_coming(splits, credit, old, save, begin)? {
                 return Ok(false);
             }
-        }
-    }
-    Ok(true)
-}
-
-fn push_heads(
-    splits: &mut Splits,
-    credit: &mut Credit,
-    old: &Splits,
-    scene: Scene,
-) -> Result<bool, AllocError> {
-    for block in scene.fronts.heads.iter() {
-        if !push_head(splits, credit, old, scene, *block)? {
-            return Ok(false);
         }
     }
     Ok(true)
@@ -261,12 +208,26 @@ pub(crate) fn leave(
         splitter.credit = credit_of(alloc, blocks, &ground.facts.text)?;
     }
     let mut splits = kept(alloc, scene, &splitter.splits)?;
-    push_entries(&mut splits, scene)?;
+    for param in ground.function.code.params.as_slice() {
+        let register = param.place;
+        if let Some(room) = holders.room(register) {
+            splits.entries.push(Entry { register, room })?;
+        }
+    }
     for number in fronts.inside.iter() {
         push_block(&mut splits, scene, *number)?;
     }
-    if push_heads(&mut splits, &mut splitter.credit, &splitter.splits, scene)? {
-        splitter.splits = splits;
+    for block in fronts.heads.iter() {
+        if !push_head(
+            &mut splits,
+            &mut splitter.credit,
+            &splitter.splits,
+            scene,
+            *block,
+        )? {
+            return Ok(());
+        }
     }
+    splitter.splits = splits;
     Ok(())
 }

@@ -48,106 +48,56 @@ pub(crate) struct Groups {
     pub(crate) of_registers: Vec<usize>,
 }
 
-/// Of the next range on the left and on the right the one that starts first, and whether it is the left one.
-fn next(left: Option<&Range>, right: Option<&Range>) -> Option<(Range, bool)> {
-    match (left, right) {
-        (Some(left), Some(right)) => {
-            if left.start <= right.start {
-                Some((*left, true))
-            } else {
-                Some((*right, false))
-            }
-        }
-        (Some(left), None) => Some((*left, true)),
-        (None, Some(right)) => Some((*right, false)),
-        (None, None) => None,
+impl Groups {
+    /// How many registers the group has.
+    fn size(&self, group: usize) -> usize {
+        self.groups
+            .get(group)
+            .map_or(0, |group| group.members.len())
+    }
+
+    /// The ranges of the group's registers in the order of the text.
+    fn ranges<'a>(&'a self, intervals: &'a [LiveInterval], group: usize) -> &'a [Range] {
+        let group = self.groups.get(group);
+        group.map_or(&[], |group| group.ranges(intervals))
+    }
+
+    /// The two groups that a copy leads between, if they are two.
+    fn between(&self, copying: &Copying) -> Option<(usize, usize)> {
+        let to = *self.of_registers.get(copying.to as usize)?;
+        let from = *self.of_registers.get(copying.from as usize)?;
+        if to != from { Some((to, from)) } else { None }
     }
 }
 
-/// Merges the ranges of two groups in order, as long as no two of them meet; says whether none do.
-fn join_ranges(
-    ranges: &mut Vec<Range>,
+/// All ranges of both in order; none where two of them meet.
+fn merged(
+    alloc: Global,
     left: &[Range],
     right: &[Range],
-) -> Result<bool, AllocError> {
-    let mut k = 0usize;
-    for taken in 0..left.len().saturating_add(right.len()) {
-        if let Some((range, is_left)) = next(left.get(k), right.get(taken.saturating_sub(k))) {
-            if ranges.last().is_some_and(|last| range.start <= last.end) {
-                return Ok(false);
-            }
-            ranges.push(range)?;
-            if is_left {
-                k = k.saturating_add(1);
-            }
-        }
-    }
-    Ok(true)
-}
-
-/// Puts the registers into the group.
-fn push_members(groups: &mut Groups, group: usize, members: &[u32]) -> Result<(), AllocError> {
-    for register in members {
-        set(
-            groups.of_registers.as_mut_slice(),
-            *register as usize,
-            group,
-        );
-        if let Some(into) = groups.groups.get_mut(group) {
-            into.members.push(*register)?;
-        }
-    }
-    Ok(())
-}
-
-/// How many registers the group has.
-fn size(groups: &Groups, group: usize) -> usize {
-    groups
-        .groups
-        .get(group)
-        .map_or(0, |group| group.members.len())
-}
-
-/// All ranges of the two groups in order; none where two of them meet.
-fn joined(
-    alloc: Global,
-    groups: &Groups,
-    intervals: &[LiveInterval],
-    left: usize,
-    right: usize,
 ) -> Result<Option<Vec<Range>>, AllocError> {
-    let (Some(left), Some(right)) = (groups.groups.get(left), groups.groups.get(right)) else {
-        return Ok(None);
-    };
-    let left = left.ranges(intervals);
-    let right = right.ranges(intervals);
-    let mut ranges = Vec::with_capacity(alloc, left.len().saturating_add(right.len()))?;
-    if join_ranges(&mut ranges, left, right)? {
-        Ok(Some(ranges))
-    } else {
-        Ok(None)
+    let count = left.len().saturating_add(right.len());
+    let mut ranges: Vec<Range> = Vec::with_capacity(alloc, count)?;
+    let mut k = 0usize;
+    for taken in 0..count {
+        let range = match (left.get(k), right.get(taken.saturating_sub(k))) {
+            (Some(left), Some(right)) if right.start < left.start => *right,
+            (Some(left), _) => {
+                k = k.saturating_add(1);
+                *left
+            }
+            (None, Some(right)) => *right,
+            (None, None) => break,
+        };
+        if ranges.last().is_some_and(|last| range.start <= last.end) {
+            return Ok(None);
+        }
+        ranges.push(range)?;
     }
+    Ok(Some(ranges))
 }
 
-/// Puts the registers of the small group into the large one, which has these ranges then.
-fn join(
-    alloc: Global,
-    groups: &mut Groups,
-    large: usize,
-    small: usize,
-    ranges: Vec<Range>,
-) -> Result<(), AllocError> {
-    if let Some(group) = groups.groups.get_mut(large) {
-        group.joined = ranges;
-    }
-    let Some(group) = groups.groups.get_mut(small) else {
-        return Ok(());
-    };
-    let old = mem::replace(group, Group::empty(alloc));
-    push_members(groups, large, old.members.as_slice())
-}
-
-/// Joins the two groups, the smaller to the larger, if no two ranges of them meet.
+/// Joins the two groups, the smaller to the larger, if no two ranges of them meet. The smaller is left empty.
 fn try_join(
     alloc: Global,
     groups: &mut Groups,
@@ -155,27 +105,30 @@ fn try_join(
     left: usize,
     right: usize,
 ) -> Result<(), AllocError> {
-    let Some(ranges) = joined(alloc, groups, intervals, left, right)? else {
+    let ranges = groups.ranges(intervals, left);
+    let Some(ranges) = merged(alloc, ranges, groups.ranges(intervals, right))? else {
         return Ok(());
     };
-    if size(groups, left) < size(groups, right) {
-        join(alloc, groups, right, left, ranges)
+    let is_less = groups.size(left) < groups.size(right);
+    let (large, small) = if is_less {
+        (right, left)
     } else {
-        join(alloc, groups, left, right, ranges)
+        (left, right)
+    };
+    let Some(group) = groups.groups.get_mut(small) else {
+        return Ok(());
+    };
+    let old = mem::replace(group, Group::empty(alloc));
+    let Some(group) = groups.groups.get_mut(large) else {
+        return Ok(());
+    };
+    group.joined = ranges;
+    for register in old.members.as_slice() {
+        group.members.push(*register)?;
+        let of_registers = groups.of_registers.as_mut_slice();
+        set(of_registers, *register as usize, large);
     }
-}
-
-/// The two groups that a copy leads between, if they are two.
-fn groups_between(groups: &Groups, copying: &Copying) -> Option<(usize, usize)> {
-    let to = *groups.of_registers.get(copying.to as usize)?;
-    let from = *groups.of_registers.get(copying.from as usize)?;
-    if to != from { Some((to, from)) } else { None }
-}
-
-/// How many ranges the group has.
-fn range_count(groups: &Groups, intervals: &[LiveInterval], group: usize) -> usize {
-    let group = groups.groups.get(group);
-    group.map_or(0, |group| group.ranges(intervals).len())
+    Ok(())
 }
 
 /// How many ranges are looked through for each register, at most.
@@ -190,9 +143,9 @@ fn join_copies(
 ) -> Result<(), AllocError> {
     let mut left = groups.of_registers.len().saturating_mul(RANGES_A_REGISTER);
     for copying in copies.iter().rev() {
-        if let Some((to, from)) = groups_between(groups, copying) {
-            let ranges = range_count(groups, intervals, to);
-            let cost = ranges.saturating_add(range_count(groups, intervals, from));
+        if let Some((to, from)) = groups.between(copying) {
+            let ranges = groups.ranges(intervals, to).len();
+            let cost = ranges.saturating_add(groups.ranges(intervals, from).len());
             if cost <= left {
                 left = left - cost;
                 try_join(alloc, groups, intervals, to, from)?;
@@ -202,40 +155,21 @@ fn join_copies(
     Ok(())
 }
 
-/// Two registers of which one or the other is copied to the other one.
-#[derive(Clone, Copy, PartialEq, Eq, PartialOrd, Ord)]
-struct Pair {
-    low: u32,
-    high: u32,
-    weight: u64,
-}
-
-/// The pairs of registers that are copied to one another, in order.
-fn pairs_of(alloc: Global, copies: &[Copying]) -> Result<Vec<Pair>, AllocError> {
-    let pairs = copies.iter().map(|copying| Pair {
-        low: copying.to.min(copying.from),
-        high: copying.to.max(copying.from),
-        weight: copying.weight,
-    });
-    let mut pairs: Vec<Pair> = pairs.collect(alloc)?;
-    pairs.sort()?;
-    Ok(pairs)
-}
-
 /// For each pair of registers all copies between them as one, which is done as often as all of them; the one that is done most often is the last.
 fn copies_by_pair(alloc: Global, copies: &[Copying]) -> Result<Vec<Copying>, AllocError> {
-    let pairs = pairs_of(alloc, copies)?;
+    let pairs = copies.iter().map(|copying| {
+        let low = copying.to.min(copying.from);
+        (low, copying.to.max(copying.from), copying.weight)
+    });
+    let mut pairs: Vec<(u32, u32, u64)> = pairs.collect(alloc)?;
+    pairs.sort()?;
     let mut sums: Vec<Copying> = Vec::with_capacity(alloc, pairs.len())?;
-    for pair in pairs.iter() {
+    for (to, from, weight) in pairs.iter().copied() {
         match sums.last_mut() {
-            Some(last) if last.to == pair.low && last.from == pair.high => {
-                last.weight = last.weight.saturating_add(pair.weight);
+            Some(last) if last.to == to && last.from == from => {
+                last.weight = last.weight.saturating_add(weight);
             }
-            _ => sums.push(Copying {
-                weight: pair.weight,
-                to: pair.low,
-                from: pair.high,
-            })?,
+            _ => sums.push(Copying { weight, to, from })?,
         }
     }
     sums.sort()?;

@@ -1,12 +1,12 @@
 //! How often each register is used, and by what.
-ghost use Rattle.std.specs.Prelude.{◌≤◌};
-
 use crate::intervals::accesses::{Access, Accesses, Kind, sorted};
 use crate::intervals::positions::Range;
 use crate::intervals::text::Text;
-use cfg_live::reads::register_of;
+use cfg_live::Reads;
+use cfg_live::reads::{jump_reads, line_reads, register_of};
+use cfg_live::uses::line_writes;
 use std::alloc::{AllocError, Global};
-use vcode::{Argument, Block, Code, Destination, Jump, Line, Operand};
+use vcode::{Block, Code, Destination, Jump, Line, Operand};
 
 /// What a register is used for.
 #[derive(Clone, Copy)]
@@ -104,19 +104,10 @@ impl Demands {
     }
 }
 
-/// How many calls stand before the point.
-fn calls_before(calls: &[usize], point: usize) -> usize {
-    calls.get(point).copied().unwrap_or(0)
-}
-
 /// Whether the positions right before and right after some call are both in the range. `calls` has for each point how many calls stand before it, or nothing.
 pub(crate) fn is_over_call(calls: &[usize], range: Range) -> bool {
-    if calls.is_empty() {
-        return false;
-    }
-    let first = range.start.saturating_add(1) / 2;
-    let end = range.end.saturating_add(1) / 2;
-    calls_before(calls, first) < calls_before(calls, end)
+    let before = |point: usize| calls.get(point).copied().unwrap_or(0);
+    before(range.start.saturating_add(1) / 2) < before(range.end.saturating_add(1) / 2)
 }
 
 /// What is found on the way through the text.
@@ -169,114 +160,47 @@ fn add_hint(counting: &mut Counting, register: u32, argument: u8, weight: u64) {
     }
 }
 
-/// The number of the k-th argument, where 8 stands for all that are passed on the stack.
-fn argument_number(k: usize) -> u8
-    ensures { result ≤ 8 }
-{
-    if k < 8 { k as u8 } else { 8 }
-}
-
-/// Counts a read of the operand.
-fn read(counting: &mut Counting, operand: &Operand<u32>, weight: u64) -> Result<(), AllocError> {
-    match register_of(operand) {
-        Some(register) => add(counting, register, Kind::Read, weight),
-        None => Ok(()),
-    }
-}
-
-/// Counts a read of both operands.
-fn read_both(
-    counting: &mut Counting,
-    left: &Operand<u32>,
-    right: &Operand<u32>,
-    weight: u64,
-) -> Result<(), AllocError> {
-    read(counting, left, weight)?;
-    read(counting, right, weight)
-}
-
-/// What the register of an argument saves where values come or go by it, so often.
-fn passed(argument: u8, often: u64) -> Hint {
-    if argument < 8 {
-        Hint {
-            argument,
-            weight: often.saturating_mul(2),
+/// Counts what the operands read, each weighing so much.
+fn read(counting: &mut Counting, reads: Reads, weight: u64) -> Result<(), AllocError> {
+    for register in [reads.first, reads.second] {
+        if let Some(register) = register {
+            add(counting, register, Kind::Read, weight)?;
         }
-    } else {
-        Hint::none()
-    }
-}
-
-/// Counts that an operand is passed: any place is as good as another for that, but for the register that it is passed in.
-fn pass(
-    counting: &mut Counting,
-    operand: &Operand<u32>,
-    argument: u8,
-    often: u64,
-) -> Result<(), AllocError> {
-    let Some(register) = register_of(operand) else {
-        return Ok(());
-    };
-    if argument < 8 {
-        add_hint(counting, register, argument, often);
-    }
-    let through = passed(argument, often);
-    push_access(counting, register, Kind::Read, 0, through)
-}
-
-/// Counts that the arguments are passed.
-fn pass_args(
-    counting: &mut Counting,
-    args: &[Argument<u32>],
-    often: u64,
-) -> Result<(), AllocError> {
-    for (k, arg) in args.iter().enumerate() {
-        pass(counting, &arg.value, argument_number(k), often)?;
     }
     Ok(())
+}
+
+/// Counts that a value comes or goes as the k-th argument, so often: any place is as good as another for that, but for the register that it is passed in.
+fn pass(
+    counting: &mut Counting,
+    register: u32,
+    kind: Kind,
+    k: usize,
+    often: u64,
+) -> Result<(), AllocError> {
+    if 8 <= k {
+        return push_access(counting, register, kind, 0, Hint::none());
+    }
+    let argument = k as u8;
+    add_hint(counting, register, argument, often);
+    let weight = often.saturating_mul(2);
+    push_access(counting, register, kind, 0, Hint { argument, weight })
 }
 
 /// Counts what parameters save in the registers that they come in.
 fn count_params(counting: &mut Counting, params: &[Destination<u32>]) -> Result<(), AllocError> {
     for (k, param) in params.iter().enumerate() {
         let register = param.place;
-        let argument = argument_number(k);
         if let Some(demand) = counting.demands.registers.get_mut(register as usize) {
             demand.is_param = true;
         }
-        if argument < 8 {
-            add_hint(counting, register, argument, 1);
-            push_access(counting, register, Kind::Entry, 0, passed(argument, 1))?;
+        if k < 8 {
+            pass(counting, register, Kind::Entry, k, 1)?;
         } else {
             push_access(counting, register, Kind::Entry, 2, Hint::none())?;
         }
     }
     Ok(())
-}
-
-/// Counts the result of a call, which is where the first argument is.
-fn receive(
-    counting: &mut Counting,
-    to: &Option<Destination<u32>>,
-    often: u64,
-) -> Result<(), AllocError> {
-    let Some(destination) = to else {
-        return Ok(());
-    };
-    add_hint(counting, destination.place, 0, often);
-    let through = passed(0, often);
-    push_access(counting, destination.place, Kind::Write, 0, through)
-}
-
-/// Counts what the jump uses.
-fn count_jump(counting: &mut Counting, jump: &Jump<u32>, often: u64) -> Result<(), AllocError> {
-    match jump {
-        Jump::Branch { on, .. } => {
-            read_both(counting, &on.left, &on.right, often.saturating_mul(2))
-        }
-        Jump::Return(Some(returned)) => pass(counting, &returned.value, 0, often),
-        _ => Ok(()),
-    }
 }
 
 /// Counts a copy, which takes one instruction where either register is in a register of the machine, and none where both are in the same.
@@ -299,62 +223,66 @@ fn copy(
     Ok(())
 }
 
-/// Counts what the line uses. What a call takes and gives, and what is copied in memory, takes one instruction to or from a register as well as a slot; what is called
+/// Counts what a call takes and gives, which takes one instruction to or from a register as well as a slot; its result is where the first argument is. What is called
 /// stands best where no argument is passed.
+fn count_call(
+    counting: &mut Counting,
+    to: &Option<Destination<u32>>,
+    reads: Reads,
+    often: u64,
+) -> Result<(), AllocError> {
+    if let Some(callee) = reads.first {
+        add(counting, callee, Kind::Read, often.saturating_mul(2))?;
+        add_hint(counting, callee, 8, often);
+    }
+    for (k, arg) in reads.args.iter().enumerate() {
+        if let Some(register) = register_of(&arg.value) {
+            pass(counting, register, Kind::Read, k, often)?;
+        }
+    }
+    match to {
+        Some(to) => pass(counting, to.place, Kind::Write, 0, often),
+        None => Ok(()),
+    }
+}
+
+/// Counts what the line uses, which has a point. What is copied in memory takes one instruction from a register as well as from a slot.
 fn count_line(counting: &mut Counting, line: &Line<u32>, often: u64) -> Result<(), AllocError> {
-    let weight = often.saturating_mul(2);
+    let reads = line_reads(line);
     match line {
-        Line::Tick { .. } | Line::Alloc { to: None, .. } => Ok(()),
         Line::Set { to, value } => copy(counting, *to, value, often),
-        Line::Operate {
-            to,
-            left,
-            right,
-            ..
-        } => {
-            read_both(counting, left, right, weight)?;
-            add(counting, *to, Kind::Write, weight)
-        }
-        Line::Load { to, at, .. } => {
-            read(counting, &at.base, weight)?;
-            add(counting, *to, Kind::Write, weight)
-        }
-        Line::Store { value, at, .. } => read_both(counting, value, &at.base, weight),
-        Line::Alloc { to: Some(to), .. } => add(counting, *to, Kind::Write, weight),
-        Line::Blit { from, to, .. } => read_both(counting, from, to, 0),
-        Line::Call { to, callee, args } => {
-            read(counting, callee, weight)?;
-            if let Some(register) = register_of(callee) {
-                add_hint(counting, register, 8, often);
+        Line::Call { to, .. } => count_call(counting, to, reads, often),
+        Line::Blit { .. } => read(counting, reads, 0),
+        _ => {
+            let weight = often.saturating_mul(2);
+            read(counting, reads, weight)?;
+            match line_writes(line) {
+                Some(to) => add(counting, to, Kind::Write, weight),
+                None => Ok(()),
             }
-            pass_args(counting, args.as_slice(), often)?;
-            receive(counting, to, often)
         }
     }
 }
 
-/// Counts what the line uses, and goes on behind its point, if it has one. Behind a call it notes how many calls stand before it, for its point and those before it that
-/// follow the last call.
-fn pass_line(counting: &mut Counting, line: &Line<u32>, often: u64) -> Result<(), AllocError> {
-    if let Line::Tick { .. } = line {
-        return Ok(());
-    }
-    count_line(counting, line, often)?;
-    counting.point = counting.point.saturating_add(1);
-    if let Line::Call { .. } = line {
-        let before = counting.called;
-        counting.called = before.saturating_add(1);
-        counting.demands.calls.resize(counting.point, before)?;
-    }
-    Ok(())
-}
-
-/// Counts what the block uses, which runs so often.
+/// Counts what the block uses, which runs so often. Behind a call it notes how many calls stand before it, for its point and those before it that follow the last call.
 fn count_block(counting: &mut Counting, block: &Block<u32>, often: u64) -> Result<(), AllocError> {
     for line in block.lines.as_slice() {
-        pass_line(counting, line, often)?;
+        if matches!(line, Line::Tick { .. }) {
+            continue;
+        }
+        count_line(counting, line, often)?;
+        counting.point = counting.point.saturating_add(1);
+        if let Line::Call { .. } = line {
+            let before = counting.called;
+            counting.called = before.saturating_add(1);
+            counting.demands.calls.resize(counting.point, before)?;
+        }
     }
-    count_jump(counting, &block.jump, often)?;
+    let reads = jump_reads(&block.jump);
+    match (&block.jump, reads.first) {
+        (Jump::Return(_), Some(register)) => pass(counting, register, Kind::Read, 0, often)?,
+        _ => read(counting, reads, often.saturating_mul(2))?,
+    }
     counting.point = counting.point.saturating_add(1);
     Ok(())
 }

@@ -82,33 +82,7 @@ fn find(search: &mut Search, known: Known, block: usize, register: u32) -> Resul
     Ok(())
 }
 
-/// Finds the register where the blocks begin that it is read in.
-fn find_reads(search: &mut Search, known: Known, register: u32) -> Result<(), AllocError> {
-    for access in known.accesses.of(register) {
-        if access.kind == Kind::Read {
-            find(search, known, known.text.block_of(access.point), register)?;
-        }
-    }
-    Ok(())
-}
-
-/// Finds the register where the blocks begin that lead to this one, until more than so many are found.
-fn find_sources(
-    search: &mut Search,
-    known: Known,
-    start: Start,
-    most: usize,
-) -> Result<(), AllocError> {
-    for source in known.text.sources(start.block) {
-        if most < search.starts.len() {
-            break;
-        }
-        find(search, known, *source, start.register)?;
-    }
-    Ok(())
-}
-
-/// Finds the register where blocks begin, back from where it is read; says whether that is at so many blocks at most.
+/// Finds the register where blocks begin, back from where it is read, until more than so many are found; says whether no more are.
 fn find_all(
     search: &mut Search,
     known: Known,
@@ -117,11 +91,20 @@ fn find_all(
 ) -> Result<bool, AllocError> {
     let first = search.starts.len();
     let end = first.saturating_add(most);
-    find_reads(search, known, register)?;
+    for access in known.accesses.of(register) {
+        if access.kind == Kind::Read {
+            find(search, known, known.text.block_of(access.point), register)?;
+        }
+    }
     for number in first..end {
-        match search.starts.get(number).copied() {
-            Some(start) => find_sources(search, known, start, end)?,
-            None => break,
+        let Some(start) = search.starts.get(number).copied() else {
+            break;
+        };
+        for source in known.text.sources(start.block) {
+            if end < search.starts.len() {
+                break;
+            }
+            find(search, known, *source, register)?;
         }
     }
     Ok(search.starts.len() <= end)
@@ -138,18 +121,6 @@ fn find_within(search: &mut Search, known: Known, most: usize) -> Result<bool, A
     Ok(true)
 }
 
-/// Finds the registers that are live at so many blocks at most; the others are taken to have values throughout.
-fn find_few(search: &mut Search, known: Known, each: usize) -> Result<(), AllocError> {
-    for register in 0..known.registers {
-        let first = search.starts.len();
-        if !find_all(search, known, register, each)? {
-            search.starts.truncate(first);
-            set(search.throughout.as_mut_slice(), register as usize, true);
-        }
-    }
-    Ok(())
-}
-
 /// How many lines and jumps there are, ticks included.
 pub(crate) fn line_count(blocks: &[Block<u32>]) -> usize {
     blocks.iter().fold(blocks.len(), |count: usize, block| {
@@ -161,29 +132,19 @@ pub(crate) fn line_count(blocks: &[Block<u32>]) -> usize {
 fn searched(alloc: Global, known: Known, most: usize) -> Result<Search, AllocError> {
     let blocks = known.text.stretches.len();
     let mut search = nothing_found(alloc, blocks, known.registers)?;
-    if !find_within(&mut search, known, most)? {
-        search = nothing_found(alloc, blocks, known.registers)?;
-        let each = most / (known.registers as usize).max(1);
-        find_few(&mut search, known, each)?;
+    if find_within(&mut search, known, most)? {
+        return Ok(search);
     }
-    Ok(search)
-}
-
-/// The registers that were found, block by block.
-fn by_block(alloc: Global, search: Search, blocks: usize) -> Result<Starts, AllocError> {
-    let found = search.starts.as_slice();
-    let mut list = vec![in alloc; 0u32; found.len()]?;
-    let mut rows = Rows::for_items(alloc, blocks, found, |start| start.block)?;
-    for start in found.iter().rev() {
-        if let Some(place) = rows.place(start.block) {
-            set(list.as_mut_slice(), place, start.register);
+    search = nothing_found(alloc, blocks, known.registers)?;
+    let each = most / (known.registers as usize).max(1);
+    for register in 0..known.registers {
+        let first = search.starts.len();
+        if !find_all(&mut search, known, register, each)? {
+            search.starts.truncate(first);
+            set(search.throughout.as_mut_slice(), register as usize, true);
         }
     }
-    Ok(Starts {
-        list,
-        rows,
-        throughout: search.throughout,
-    })
+    Ok(search)
 }
 
 /// The starts, each register asked for at each block.
@@ -209,5 +170,18 @@ pub(crate) fn starts_of(alloc: Global, known: Known, most: usize) -> Result<Star
         return starts_by_asking(alloc, known);
     }
     let search = searched(alloc, known, most)?;
-    by_block(alloc, search, known.text.stretches.len())
+    let found = search.starts.as_slice();
+    let mut list = vec![in alloc; 0u32; found.len()]?;
+    let blocks = known.text.stretches.len();
+    let mut rows = Rows::for_items(alloc, blocks, found, |start| start.block)?;
+    for start in found.iter().rev() {
+        if let Some(place) = rows.place(start.block) {
+            set(list.as_mut_slice(), place, start.register);
+        }
+    }
+    Ok(Starts {
+        list,
+        rows,
+        throughout: search.throughout,
+    })
 }

@@ -19,8 +19,7 @@ pub(crate) struct Stretch {
     pub(crate) depth: u32,
 
     /// the blocks that it may lead to
-    pub(crate) next: Option<usize>,
-    pub(crate) other: Option<usize>,
+    pub(crate) targets: [Option<usize>; 2],
 }
 
 /// All blocks of a function.
@@ -36,6 +35,12 @@ impl Text {
     /// The block with that number, if there is one.
     pub(crate) fn stretch(&self, block: usize) -> Option<Stretch> {
         self.stretches.get(block).copied()
+    }
+
+    /// The blocks that this one may lead to.
+    pub(crate) fn targets(&self, block: usize) -> [Option<usize>; 2] {
+        let stretch = self.stretches.get(block);
+        stretch.map_or([None, None], |stretch| stretch.targets)
     }
 
     /// The blocks that lead to this one.
@@ -79,40 +84,23 @@ impl Text {
     }
 }
 
-/// The point of the jump behind these lines, the first of which has the given point.
-fn jump_point(first: usize, lines: &[Line<u32>]) -> usize {
-    let points = lines
-        .iter()
-        .filter(|line| !matches!(line, Line::Tick { .. }));
-    first.saturating_add(points.count())
-}
-
-/// Where the blocks stand in the text, and in how many loops each lies.
-fn stretches(
-    alloc: Global,
-    blocks: &[Block<u32>],
-    depths: &[u32],
-) -> Result<Vec<Stretch>, AllocError> {
-    let mut stretches = Vec::with_capacity(alloc, blocks.len())?;
-    let mut first = 0usize;
-    for (number, block) in blocks.iter().enumerate() {
-        let jump = jump_point(first, block.lines.as_slice());
-        stretches.push(Stretch {
-            first,
-            jump,
-            depth: depths.get(number).copied().unwrap_or(0),
-            next: successor(&block.jump, 0),
-            other: successor(&block.jump, 1),
-        })?;
-        first = jump.saturating_add(1);
-    }
-    Ok(stretches)
-}
-
 /// The blocks, with those that lead to each of them.
 pub(crate) fn text_of(alloc: Global, blocks: &[Block<u32>]) -> Result<Text, AllocError> {
     let sources = predecessors(alloc, blocks)?;
     let depths = loop_depths(alloc, blocks, sources.as_slice())?;
-    let stretches = stretches(alloc, blocks, depths.as_slice())?;
+    let mut stretches = Vec::with_capacity(alloc, blocks.len())?;
+    let mut first = 0usize;
+    for (number, block) in blocks.iter().enumerate() {
+        let lines = block.lines.as_slice().iter();
+        let points = lines.filter(|line| !matches!(line, Line::Tick { .. }));
+        let jump = first.saturating_add(points.count());
+        stretches.push(Stretch {
+            first,
+            jump,
+            depth: depths.get(number).copied().unwrap_or(0),
+            targets: [successor(&block.jump, 0), successor(&block.jump, 1)],
+        })?;
+        first = jump.saturating_add(1);
+    }
     Ok(Text { stretches, sources })
 }

@@ -4,7 +4,7 @@
 pub(crate) const ARGUMENTS: usize = 8;
 
 /// What a region saves over the slot, in half instructions, and what its moves cost.
-#[derive(Clone, Copy)]
+#[derive(Clone, Copy, Default)]
 pub(crate) struct Balance {
     /// what its accesses save
     pub(crate) gain: u64,
@@ -25,33 +25,16 @@ pub(crate) struct Balance {
     pub(crate) has_new: bool,
 }
 
-/// The sums for each argument.
-fn sums(left: [u64; ARGUMENTS], right: [u64; ARGUMENTS]) -> [u64; ARGUMENTS] {
-    let mut sums = left;
-    for argument in 0..ARGUMENTS {
-        sums[argument] = left[argument].saturating_add(right[argument]);
-    }
-    sums
-}
-
 impl Balance {
-    /// The balance of nothing.
-    pub(crate) fn none() -> Balance {
-        Balance {
-            gain: 0,
-            through: [0; ARGUMENTS],
-            loads: 0,
-            eager: 0,
-            lazy: 0,
-            has_new: false,
-        }
-    }
-
     /// The balance of both.
     pub(crate) fn joined(self, other: Balance) -> Balance {
+        let mut through = self.through;
+        for argument in 0..ARGUMENTS {
+            through[argument] = through[argument].saturating_add(other.through[argument]);
+        }
         Balance {
             gain: self.gain.saturating_add(other.gain),
-            through: sums(self.through, other.through),
+            through,
             loads: self.loads.saturating_add(other.loads),
             eager: self.eager.saturating_add(other.eager),
             lazy: self.lazy.saturating_add(other.lazy),
@@ -64,19 +47,14 @@ impl Balance {
         !self.has_new || self.eager < self.lazy
     }
 
-    /// What saving new values costs.
-    fn stores(&self) -> u64 {
-        if self.has_new {
+    /// What is left of a gain, where new values are saved as it costs less.
+    fn left_of(&self, gain: u64) -> u64 {
+        let stores = if self.has_new {
             self.eager.min(self.lazy)
         } else {
             0
-        }
-    }
-
-    /// What is left of a gain.
-    fn left_of(&self, gain: u64) -> u64 {
-        gain.saturating_sub(self.loads)
-            .saturating_sub(self.stores())
+        };
+        gain.saturating_sub(self.loads).saturating_sub(stores)
     }
 
     /// What it saves besides, in the register of that argument.

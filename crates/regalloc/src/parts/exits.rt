@@ -1,5 +1,4 @@
 //! How the value of a region comes to its parts and leaves them.
-use crate::intervals::text::Stretch;
 use crate::parts::nodes::{Node, Nodes};
 use crate::parts::regions::{Member, View};
 
@@ -7,29 +6,24 @@ use crate::parts::regions::{Member, View};
 pub(crate) fn outside(view: View, nodes: &Nodes, leader: usize, block: usize) -> Option<u64> {
     let mut often = 0u64;
     let mut is_met = false;
-    for source in view.text.sources(block) {
+    for source in view.text().sources(block) {
         if view.is_inside(nodes.leaving(*source), leader) {
             is_met = true;
         } else {
-            often = often.saturating_add(view.text.often(*source));
+            often = often.saturating_add(view.text().often(*source));
         }
     }
     if is_met { Some(often) } else { None }
 }
 
-/// Whether the value comes to the part from the blocks that lead to its block, which costs no more than to load it there.
-fn is_entered(view: View, nodes: &Nodes, leader: usize, node: &Node) -> bool {
-    node.enters
-        && outside(view, nodes, leader, node.block).is_some_and(|often| often
-            <= view.text.often(node.block))
-}
-
-/// Notes to which parts of the region the value comes from blocks before.
+/// Notes to which parts of the region the value comes from the blocks that lead to theirs, where that costs no more than to load it there.
 pub(crate) fn enter_all(view: View, nodes: &mut Nodes, members: &[Member]) {
     for member in members {
-        let node = nodes.node(member.node);
-        let leader = member.leader;
-        let is_entered = node.is_some_and(|node| is_entered(view, nodes, leader, &node));
+        let is_entered = nodes.node(member.node).is_some_and(|node| {
+            node.enters
+                && outside(view, nodes, member.leader, node.block).is_some_and(|often| often
+                    <= view.text().often(node.block))
+        });
         if let Some(node) = nodes.list.get_mut(member.node) {
             node.is_entered = is_entered;
         }
@@ -45,12 +39,6 @@ fn member_at(view: View, nodes: &Nodes, leader: usize, number: Option<usize>) ->
     }
 }
 
-/// Whether the value comes to the block in the register of the machine.
-fn is_met(view: View, nodes: &Nodes, leader: usize, block: usize) -> bool {
-    let node = member_at(view, nodes, leader, nodes.entering(block));
-    node.is_some_and(|node| node.is_entered)
-}
-
 /// How the value leaves a block for another.
 #[derive(Clone, Copy)]
 pub(crate) enum Exit {
@@ -58,63 +46,50 @@ pub(crate) enum Exit {
     Gone,
     /// it stays in its register of the machine
     Met,
-    /// it stays in its register of the machine, to be saved there
-    Landing,
+    /// it stays in its register of the machine up to that block, to be saved there
+    Landing(usize),
     /// it must be in its slot
     Slot,
 }
 
 impl Exit {
-    /// The block that the value comes to, to be saved there, if this is the exit to it.
-    pub(crate) fn landing(self, to: Option<usize>) -> Option<usize> {
-        match self {
-            Exit::Landing => to,
-            Exit::Gone | Exit::Met | Exit::Slot => None,
-        }
+    /// Whether no slot is needed.
+    fn is_spared(self) -> bool {
+        matches!(self, Exit::Gone | Exit::Met)
     }
-}
-
-/// Whether the block ends with the value in the register of the machine.
-fn is_brought(view: View, nodes: &Nodes, leader: usize, block: usize) -> bool {
-    let node = member_at(view, nodes, leader, nodes.leaving(block));
-    node.is_some_and(|node| node.is_entered || !node.is_passed())
 }
 
 /// Whether all blocks that lead to this one end with the value in the register of the machine.
 fn is_left_for(view: View, nodes: &Nodes, leader: usize, block: usize) -> bool {
-    let mut sources = view.text.sources(block).iter();
-    block != 0 && sources.all(|source| is_brought(view, nodes, leader, *source))
+    let mut sources = view.text().sources(block).iter();
+    block != 0
+        && sources.all(|source| {
+            let node = member_at(view, nodes, leader, nodes.leaving(*source));
+            node.is_some_and(|node| node.is_entered || !node.is_passed())
+        })
 }
 
 /// How the value leaves a block for the target.
 fn exit_of(view: View, nodes: &Nodes, leader: usize, from: usize, to: Option<usize>) -> Exit {
-    let Some(block) = to else {
+    let Some(block) = to.filter(|block| view.is_wanted(*block)) else {
         return Exit::Gone;
     };
-    if !view.is_wanted(block) {
-        Exit::Gone
-    } else if is_met(view, nodes, leader, block) {
+    let next = member_at(view, nodes, leader, nodes.entering(block));
+    if next.is_some_and(|node| node.is_entered) {
         Exit::Met
-    } else if view.text.often(block) <= view.text.often(from)
+    } else if view.text().often(block) <= view.text().often(from)
         && is_left_for(view, nodes, leader, block)
     {
-        Exit::Landing
+        Exit::Landing(block)
     } else {
         Exit::Slot
     }
 }
 
-/// Whether one of the ways on needs no slot.
-fn spares_one(exits: [Exit; 2], stretch: Stretch) -> bool {
-    let next = exits[0] == Exit::Gone || exits[0] == Exit::Met;
-    let other = exits[1] == Exit::Gone || exits[1] == Exit::Met;
-    next || (other && stretch.other.is_some())
-}
-
 /// The exit with the value saved in front of it, unless the block behind it runs less often.
-fn before(view: View, exit: Exit, from: usize, to: Option<usize>) -> Exit {
-    match exit.landing(to) {
-        Some(block) if view.text.often(from) <= view.text.often(block) => Exit::Slot,
+fn before(view: View, exit: Exit, from: usize) -> Exit {
+    match exit {
+        Exit::Landing(block) if view.text().often(from) <= view.text().often(block) => Exit::Slot,
         _ => exit,
     }
 }
@@ -122,21 +97,17 @@ fn before(view: View, exit: Exit, from: usize, to: Option<usize>) -> Exit {
 /// How the value leaves the part's block on both ways on. Where it would be saved on every way on, it is saved once before them, but for ways that are
 /// taken less often.
 pub(crate) fn exits(view: View, nodes: &Nodes, leader: usize, node: &Node) -> [Exit; 2] {
-    match view.text.stretch(node.block) {
-        Some(stretch) if node.leaves => {
-            let from = node.block;
-            let next = exit_of(view, nodes, leader, from, stretch.next);
-            let other = exit_of(view, nodes, leader, from, stretch.other);
-            if spares_one([next, other], stretch) {
-                [next, other]
-            } else {
-                [
-                    before(view, next, from, stretch.next),
-                    before(view, other, from, stretch.other),
-                ]
-            }
-        }
-        _ => [Exit::Gone, Exit::Gone],
+    if !node.leaves {
+        return [Exit::Gone, Exit::Gone];
+    }
+    let from = node.block;
+    let targets = view.text().targets(from);
+    let next = exit_of(view, nodes, leader, from, targets[0]);
+    let other = exit_of(view, nodes, leader, from, targets[1]);
+    if next.is_spared() || (other.is_spared() && targets[1].is_some()) {
+        [next, other]
+    } else {
+        [before(view, next, from), before(view, other, from)]
     }
 }
 
@@ -144,7 +115,7 @@ pub(crate) fn exits(view: View, nodes: &Nodes, leader: usize, node: &Node) -> [E
 pub(crate) fn is_held(exits: [Exit; 2], is_saved: bool) -> bool {
     exits.iter().any(|exit| match exit {
         Exit::Met => true,
-        Exit::Landing => !is_saved,
+        Exit::Landing(_) => !is_saved,
         Exit::Gone | Exit::Slot => false,
     })
 }

@@ -1,34 +1,13 @@
 //! The positions at which the register of the machine that a region stands in must be free.
 use crate::intervals::positions::{Range, right_after, right_before};
-use crate::parts::exits::{exits, is_held};
+use crate::parts::exits::{Exit, exits, is_held};
 use crate::parts::nodes::{Node, Nodes};
 use crate::parts::regions::{Member, View};
 use std::alloc::{AllocError, Global};
 
-/// Adds the ends of the blocks that the value is loaded in.
-fn push_outside(
-    ranges: &mut Vec<Range>,
-    view: View,
-    nodes: &Nodes,
-    leader: usize,
-    block: usize,
-) -> Result<(), AllocError> {
-    for source in view.text.sources(block) {
-        if !view.is_inside(nodes.leaving(*source), leader)
-            && let Some(stretch) = view.text.stretch(*source)
-        {
-            ranges.push(Range {
-                start: right_before(stretch.jump),
-                end: right_after(stretch.jump),
-            })?;
-        }
-    }
-    Ok(())
-}
-
 /// The positions of the part itself.
 fn own_range(view: View, node: &Node, is_held: bool) -> Range {
-    let (first, jump) = match view.text.stretch(node.block) {
+    let (first, jump) = match view.text().stretch(node.block) {
         Some(stretch) => (stretch.first, stretch.jump),
         None => (0, 0),
     };
@@ -47,7 +26,7 @@ fn own_range(view: View, node: &Node, is_held: bool) -> Range {
     Range { start, end }
 }
 
-/// Adds the positions that a part needs, with those where its value is loaded and saved.
+/// Adds the positions that a part needs, with those where its value is loaded, at the ends of blocks, and saved.
 fn push_ranges(
     ranges: &mut Vec<Range>,
     view: View,
@@ -59,18 +38,22 @@ fn push_ranges(
         return Ok(());
     };
     let exits = exits(view, nodes, member.leader, &node);
-    let own = own_range(view, &node, is_held(exits, is_saved));
-    ranges.push(own)?;
+    ranges.push(own_range(view, &node, is_held(exits, is_saved)))?;
     if node.is_entered {
-        push_outside(ranges, view, nodes, member.leader, node.block)?;
+        for source in view.text().sources(node.block) {
+            if !view.is_inside(nodes.leaving(*source), member.leader)
+                && let Some(stretch) = view.text().stretch(*source)
+            {
+                let start = right_before(stretch.jump);
+                let end = right_after(stretch.jump);
+                ranges.push(Range { start, end })?;
+            }
+        }
     }
-    if !is_saved && let Some(stretch) = view.text.stretch(node.block) {
-        for to in [
-            exits[0].landing(stretch.next),
-            exits[1].landing(stretch.other),
-        ] {
-            if let Some(block) = to
-                && let Some(landing) = view.text.stretch(block)
+    if !is_saved {
+        for exit in exits {
+            if let Exit::Landing(block) = exit
+                && let Some(landing) = view.text().stretch(block)
             {
                 let at = right_before(landing.first);
                 ranges.push(Range { start: at, end: at })?;

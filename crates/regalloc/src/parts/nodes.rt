@@ -1,15 +1,14 @@
 //! A register's live interval, cut at the ends of blocks and at calls.
-use crate::intervals::accesses::Access;
-use crate::intervals::facts::Facts;
 use crate::intervals::live_intervals::ranges_of;
 use crate::lists::set;
-use crate::parts::pieces::{Outline, push_ranges};
+use crate::parts::pieces::push_ranges;
+use crate::parts::regions::View;
 use crate::parts::wanted::wanted;
 use std::alloc::{AllocError, Global};
 
 /// A part of a block in which a register may stand in a register of the machine: no call is in it at which it must have its value before and behind.
 /// It is accessed in each part, but in blocks that it only passes through.
-#[derive(Clone, Copy)]
+#[derive(Clone, Copy, Default)]
 pub(crate) struct Node {
     pub(crate) block: usize,
 
@@ -85,27 +84,12 @@ impl Nodes {
         }
     }
 
-    /// Makes room for so many blocks, the first time.
-    fn open(&mut self, blocks: usize) -> Result<(), AllocError> {
-        if self.entering.len() < blocks {
-            self.entering.resize(blocks, None)?;
-            self.leaving.resize(blocks, None)?;
-            self.landing.resize(blocks, None)?;
-        }
-        Ok(())
-    }
-
-    /// Forgets the landings.
-    fn clear_landings(&mut self) {
+    /// Forgets the parts of the last register.
+    fn clear(&mut self) {
         for at in self.landings.iter() {
             set(self.landing.as_mut_slice(), at.block, None);
         }
         self.landings.clear();
-    }
-
-    /// Forgets the parts of the last register.
-    fn clear(&mut self) {
-        self.clear_landings();
         for node in self.list.iter() {
             set(self.entering.as_mut_slice(), node.block, None);
             set(self.leaving.as_mut_slice(), node.block, None);
@@ -113,24 +97,18 @@ impl Nodes {
         self.list.clear();
     }
 
-    /// The parts of this register, which has these accesses, in place of those that there were.
-    pub(crate) fn fill(
-        &mut self,
-        alloc: Global,
-        facts: &Facts,
-        accesses: &[Access],
-        register: u32,
-    ) -> Result<(), AllocError> {
+    /// The parts of the register, in place of those that there were.
+    pub(crate) fn fill(&mut self, alloc: Global, view: View) -> Result<(), AllocError> {
         self.clear();
-        self.open(facts.text.stretches.len())?;
-        let outline = Outline {
-            text: &facts.text,
-            calls: facts.demands.calls.as_slice(),
-            accesses,
-        };
-        let ranges = ranges_of(facts.intervals.as_slice(), register);
-        push_ranges(outline, self, ranges)?;
-        let wanted = wanted(alloc, &facts.text, self)?;
+        let blocks = view.text().stretches.len();
+        if self.entering.len() < blocks {
+            self.entering.resize(blocks, None)?;
+            self.leaving.resize(blocks, None)?;
+            self.landing.resize(blocks, None)?;
+        }
+        let ranges = ranges_of(view.facts.intervals.as_slice(), view.register);
+        push_ranges(view, self, ranges)?;
+        let wanted = wanted(alloc, view.text(), self)?;
         self.drop_unwanted(wanted.as_slice());
         Ok(())
     }

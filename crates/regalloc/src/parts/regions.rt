@@ -1,5 +1,6 @@
 //! Parts of a register's live interval that one register of the machine may serve together, and what that saves.
 use crate::intervals::accesses::Access;
+use crate::intervals::facts::Facts;
 use crate::intervals::text::Text;
 use crate::lists::{part, set};
 use crate::parts::nodes::{Node, Nodes};
@@ -19,10 +20,10 @@ pub(crate) enum Reach {
     Alone,
 }
 
-/// What a region is seen with.
+/// A register that is split, as it is seen with the regions of its parts.
 #[derive(Clone, Copy)]
 pub(crate) struct View<'a> {
-    pub(crate) text: &'a Text,
+    pub(crate) facts: &'a Facts,
     pub(crate) live: &'a Live,
     pub(crate) register: u32,
     pub(crate) accesses: &'a [Access],
@@ -57,37 +58,20 @@ fn leader_of(leaders: &mut [Option<usize>], number: usize) -> Option<usize> {
     Some(at)
 }
 
-/// Joins the regions of two parts; the first part of both names it.
-fn join(leaders: &mut [Option<usize>], left: usize, right: usize) {
-    if let Some(left) = leader_of(leaders, left)
-        && let Some(right) = leader_of(leaders, right)
-    {
-        set(leaders, left.max(right), Some(left.min(right)));
-    }
-}
-
-/// Joins the regions of parts that lead to one another.
+/// Joins the regions of parts that lead to one another; the first part of both names the region.
 fn join_all(leaders: &mut [Option<usize>], text: &Text, nodes: &Nodes) {
     for (number, node) in nodes.list.iter().enumerate() {
-        if node.leaves
-            && let Some(stretch) = text.stretch(node.block)
-        {
-            for to in [stretch.next, stretch.other] {
+        if node.leaves {
+            for to in text.targets(node.block) {
                 if let Some(block) = to
                     && let Some(next) = nodes.entering(block)
+                    && let Some(left) = leader_of(leaders, number)
+                    && let Some(right) = leader_of(leaders, next)
                 {
-                    join(leaders, number, next);
+                    set(leaders, left.max(right), Some(left.min(right)));
                 }
             }
         }
-    }
-}
-
-/// Notes for each part the one that names its region, and none on the way there.
-fn settle(leaders: &mut [Option<usize>]) {
-    for number in 0..leaders.len() {
-        let leader = leader_of(leaders, number);
-        set(leaders, number, leader);
     }
 }
 
@@ -104,7 +88,11 @@ pub(crate) fn leaders(
     let mut leaders: Vec<Option<usize>> = own.collect(alloc)?;
     if !matches!(reach, Reach::Alone) {
         join_all(leaders.as_mut_slice(), text, nodes);
-        settle(leaders.as_mut_slice());
+        // and none on the way there
+        for number in 0..leaders.len() {
+            let leader = leader_of(leaders.as_mut_slice(), number);
+            set(leaders.as_mut_slice(), number, leader);
+        }
     }
     Ok(leaders)
 }
@@ -119,12 +107,9 @@ pub(crate) struct Member {
 /// The members of all regions, those of a region together.
 pub(crate) fn members(alloc: Global, leaders: &[Option<usize>]) -> Result<Vec<Member>, AllocError> {
     let mut members = Vec::new(alloc);
-    for (node, leader) in leaders.iter().enumerate() {
+    for (node, leader) in leaders.iter().copied().enumerate() {
         if let Some(leader) = leader {
-            members.push(Member {
-                leader: *leader,
-                node,
-            })?;
+            members.push(Member { leader, node })?;
         }
     }
     members.sort()?;
@@ -132,6 +117,11 @@ pub(crate) fn members(alloc: Global, leaders: &[Option<usize>]) -> Result<Vec<Me
 }
 
 impl<'a> View<'a> {
+    /// The blocks of the function.
+    pub(crate) fn text(&self) -> &'a Text {
+        &self.facts.text
+    }
+
     /// Whether that part goes with the region.
     pub(crate) fn is_inside(&self, number: Option<usize>, leader: usize) -> bool {
         number.is_some_and(|number| { self.leaders.get(number).copied().flatten() == Some(leader) })
@@ -139,7 +129,7 @@ impl<'a> View<'a> {
 
     /// Whether the register is live where the block begins.
     pub(crate) fn is_wanted(&self, block: usize) -> bool {
-        self.text.is_live(self.live, block, self.register)
+        self.text().is_live(self.live, block, self.register)
     }
 
     /// The accesses of a part.

@@ -12,30 +12,9 @@ fn new_passed(nodes: &Nodes, wanted: &[bool], block: usize) -> Option<usize> {
     is_new.then_some(number)
 }
 
-/// Marks the parts that lead to this block as wanted, and opens their blocks.
-fn want_sources(
-    text: &Text,
-    nodes: &Nodes,
-    wanted: &mut [bool],
-    open: &mut Vec<usize>,
-    block: usize,
-) -> Result<(), AllocError> {
-    for source in text.sources(block) {
-        if let Some(number) = new_passed(nodes, wanted, *source) {
-            set(wanted, number, true);
-            open.push(*source)?;
-        }
-    }
-    Ok(())
-}
-
-/// Marks the parts that are accessed, and those from which an access is reached through passed parts alone. Each part is opened once.
-fn want_all(
-    alloc: Global,
-    text: &Text,
-    nodes: &Nodes,
-    wanted: &mut [bool],
-) -> Result<(), AllocError> {
+/// Of each part whether it is accessed, or an access is reached from it through passed parts alone. Each part is opened once.
+pub(crate) fn wanted(alloc: Global, text: &Text, nodes: &Nodes) -> Result<Vec<bool>, AllocError> {
+    let mut wanted = vec![in alloc; false; nodes.list.len()]?;
     let mut open = Vec::new(alloc);
     for (node, at) in nodes.list.iter().zip(wanted.iter_mut()) {
         *at = !node.is_passed();
@@ -44,17 +23,15 @@ fn want_all(
         }
     }
     for _ in 0..nodes.list.len().saturating_mul(2) {
-        match open.pop() {
-            Some(block) => want_sources(text, nodes, wanted, &mut open, block)?,
-            None => return Ok(()),
+        let Some(block) = open.pop() else {
+            break;
+        };
+        for source in text.sources(block) {
+            if let Some(number) = new_passed(nodes, wanted.as_slice(), *source) {
+                set(wanted.as_mut_slice(), number, true);
+                open.push(*source)?;
+            }
         }
     }
-    Ok(())
-}
-
-/// Of each part whether it is accessed, or an access is reached from it through passed parts alone.
-pub(crate) fn wanted(alloc: Global, text: &Text, nodes: &Nodes) -> Result<Vec<bool>, AllocError> {
-    let mut wanted = vec![in alloc; false; nodes.list.len()]?;
-    want_all(alloc, text, nodes, wanted.as_mut_slice())?;
     Ok(wanted)
 }

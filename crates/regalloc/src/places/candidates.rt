@@ -37,13 +37,6 @@ pub(crate) struct Candidate {
     pub(crate) hint: Option<u8>,
 }
 
-/// How many positions there are in the ranges, or a few less.
-fn length(ranges: &[Range]) -> usize {
-    ranges.iter().fold(1usize, |length: usize, range| {
-        length.saturating_add(range.end.saturating_sub(range.start))
-    })
-}
-
 /// The candidate for the group of that number.
 fn candidate_of(group: &Group, ranges: &[Range], number: usize, demands: &Demands) -> Candidate {
     let calls = demands.calls.as_slice();
@@ -51,9 +44,12 @@ fn candidate_of(group: &Group, ranges: &[Range], number: usize, demands: &Demand
     for register in group.members.as_slice() {
         demand = demand.joined(demands.of(*register));
     }
-    let length = length(ranges) as u64;
+    // how many positions there are in the ranges, or a few less
+    let length = ranges.iter().fold(1usize, |length: usize, range| {
+        length.saturating_add(range.end.saturating_sub(range.start))
+    });
     Candidate {
-        priority: demand.weight.saturating_mul(1024) / length.max(1),
+        priority: demand.weight.saturating_mul(1024) / (length as u64).max(1),
         weight: demand.weight,
         group: number,
         over_call: ranges.iter().any(|range| is_over_call(calls, *range)),
@@ -95,22 +91,6 @@ pub(crate) fn is_left_over(list: &[Location], facts: &Facts) -> bool {
     })
 }
 
-/// Adds a group for each of the registers that has no register of the machine yet, but for those that have values throughout.
-fn push_singles(
-    alloc: Global,
-    singles: &mut Vec<Group>,
-    list: &[Location],
-    facts: &Facts,
-    members: &[u32],
-) -> Result<(), AllocError> {
-    for register in members {
-        if is_unplaced(list, *register) && !facts.starts.is_throughout(*register) {
-            singles.push(Group::single(alloc, *register)?)?;
-        }
-    }
-    Ok(())
-}
-
 /// A group for each register that has no register of the machine yet, but for those that have values throughout.
 pub(crate) fn singles(
     alloc: Global,
@@ -120,8 +100,11 @@ pub(crate) fn singles(
 ) -> Result<Vec<Group>, AllocError> {
     let mut singles = Vec::new(alloc);
     for group in groups {
-        let members = group.members.as_slice();
-        push_singles(alloc, &mut singles, list, facts, members)?;
+        for register in group.members.as_slice() {
+            if is_unplaced(list, *register) && !facts.starts.is_throughout(*register) {
+                singles.push(Group::single(alloc, *register)?)?;
+            }
+        }
     }
     Ok(singles)
 }

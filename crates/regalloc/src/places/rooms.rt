@@ -106,21 +106,6 @@ impl Rooms {
         ranges.iter().all(|range| self.is_free_at(k, *range))
     }
 
-    /// Whether the k-th register is free at all positions of the range, and at some more in front of it and behind it.
-    fn is_far(&self, k: usize, range: Range) -> bool {
-        let last = self.words.saturating_mul(64).saturating_add(63);
-        let widened = Range {
-            start: range.start.saturating_sub(APART),
-            end: range.end.saturating_add(APART).min(last),
-        };
-        self.is_free_at(k, widened)
-    }
-
-    /// Whether some value stands in the k-th register.
-    fn is_used(&self, k: usize) -> bool {
-        k < ROOMS && self.used[k]
-    }
-
     /// Takes the k-th register at all positions of the ranges.
     pub(crate) fn take(&mut self, k: usize, ranges: &[Range]) {
         if k < ROOMS {
@@ -184,12 +169,18 @@ pub(crate) enum Choice {
 
 /// The first register that callees don't keep in which nothing stands close to a short range, of those that few calls want for arguments.
 fn far_room(rooms: &Rooms, ranges: &[Range]) -> Option<usize> {
-    match ranges {
-        [range] if range.end.saturating_sub(range.start) < SHORT => {
-            (0..SCRATCH).find(|k| (*k < 5 || 7 < *k) && rooms.is_far(*k, *range))
-        }
-        _ => None,
+    let [range] = ranges else {
+        return None;
+    };
+    if SHORT <= range.end.saturating_sub(range.start) {
+        return None;
     }
+    let last = rooms.words.saturating_mul(64).saturating_add(63);
+    let widened = Range {
+        start: range.start.saturating_sub(APART),
+        end: range.end.saturating_add(APART).min(last),
+    };
+    (0..SCRATCH).find(|k| (*k < 5 || 7 < *k) && rooms.is_free_at(*k, widened))
 }
 
 /// The first register that is free for the ranges and costs nothing, or else the first one that is free.
@@ -200,12 +191,10 @@ fn free_room(rooms: &Rooms, over_call: bool, ranges: &[Range]) -> Option<Choice>
     let mut unused = None;
     for k in 0..ROOMS {
         if may_hold(k, over_call) && rooms.is_free(k, ranges) {
-            if k < SCRATCH || rooms.is_used(k) {
+            if k < SCRATCH || rooms.used[k] {
                 return Some(Choice::Free(k));
             }
-            if unused.is_none() {
-                unused = Some(Choice::Unused(k));
-            }
+            unused = unused.or(Some(Choice::Unused(k)));
         }
     }
     unused

@@ -69,62 +69,33 @@ struct Sharing {
     free: Vec<usize>,
 }
 
-/// Takes a slot that is free, or one more.
-fn free_slot(sharing: &mut Sharing) -> Result<usize, AllocError> {
-    match sharing.free.pop() {
-        Some(slot) => Ok(slot),
+/// Takes a slot that is free, or one more, for the wish.
+fn take(sharing: &mut Sharing, wish: Wish) -> Result<usize, AllocError> {
+    let slot = match sharing.free.pop() {
+        Some(slot) => slot,
         None => {
             let slot = sharing.shared.len();
-            let shared = Shared {
+            sharing.shared.push(Shared {
                 has_param: false,
                 weight: 0,
                 slot,
-            };
-            sharing.shared.push(shared)?;
-            Ok(slot)
+            })?;
+            slot
         }
-    }
-}
-
-/// Notes at the wish the slot that it gets.
-fn stand(sharing: &mut Sharing, at: &mut usize, wish: Wish) -> Result<(), AllocError> {
-    *at = free_slot(sharing)?;
-    if let Some(shared) = sharing.shared.get_mut(*at) {
+    };
+    if let Some(shared) = sharing.shared.get_mut(slot) {
         shared.weight = shared.weight.saturating_add(wish.weight);
         shared.has_param = shared.has_param || wish.is_param;
     }
-    Ok(())
+    Ok(slot)
 }
 
-/// Takes the slot of the event's wish, or frees it.
-fn follow(
-    sharing: &mut Sharing,
-    slots: &mut [usize],
-    wishes: &[Wish],
-    event: Event,
-) -> Result<(), AllocError> {
-    match (slots.get_mut(event.wish), wishes.get(event.wish)) {
-        (Some(at), Some(wish)) if event.takes => stand(sharing, at, *wish),
-        (Some(at), _) => {
-            sharing.free.push(*at)?;
-            Ok(())
-        }
-        _ => Ok(()),
-    }
-}
-
-/// For each slot its number, by all slots in their order: those of parameters first, the busiest first.
-fn numbers(alloc: Global, all: &[Shared]) -> Result<Vec<usize>, AllocError> {
+/// Gives the slot of each wish the number that it has among all in their order: those of parameters first, the busiest first.
+fn number_all(alloc: Global, all: &[Shared], slots: &mut [usize]) -> Result<(), AllocError> {
     let mut numbers = vec![in alloc; 0usize; all.len()]?;
     for (number, shared) in all.iter().rev().enumerate() {
         set(numbers.as_mut_slice(), shared.slot, number);
     }
-    Ok(numbers)
-}
-
-/// Gives the slot of each wish the number that it has by weight.
-fn number_all(alloc: Global, all: &[Shared], slots: &mut [usize]) -> Result<(), AllocError> {
-    let numbers = numbers(alloc, all)?;
     for slot in slots.iter_mut() {
         *slot = numbers.get(*slot).copied().unwrap_or(0);
     }
@@ -145,7 +116,15 @@ pub(crate) fn shared_slots(
     };
     let events = events_of(alloc, groups, intervals, wishes)?;
     for event in events.iter() {
-        follow(&mut sharing, slots.as_mut_slice(), wishes, *event)?;
+        if let Some(slot) = slots.get_mut(event.wish)
+            && let Some(wish) = wishes.get(event.wish)
+        {
+            if event.takes {
+                *slot = take(&mut sharing, *wish)?;
+            } else {
+                sharing.free.push(*slot)?;
+            }
+        }
     }
     sharing.shared.sort()?;
     number_all(alloc, sharing.shared.as_slice(), slots.as_mut_slice())?;

@@ -34,14 +34,6 @@ fn operands_cost(left: &Operand<u32>, right: &Operand<u32>) -> u64 {
     operand_cost(left).saturating_add(operand_cost(right))
 }
 
-/// At most what the operation costs besides its operands.
-fn operation_cost(operation: Operation) -> u64 {
-    match operation {
-        Operation::Reg(_) | Operation::RegW(_) => 4,
-        Operation::Compare(_, _) => 9,
-    }
-}
-
 /// At most what the line costs with any places.
 fn line_cost(line: &Line<u32>) -> u64 {
     match line {
@@ -52,7 +44,13 @@ fn line_cost(line: &Line<u32>) -> u64 {
             left,
             right,
             ..
-        } => operands_cost(left, right).saturating_add(operation_cost(*operation)),
+        } => {
+            let besides = match operation {
+                Operation::Reg(_) | Operation::RegW(_) => 4,
+                Operation::Compare(_, _) => 9,
+            };
+            operands_cost(left, right).saturating_add(besides)
+        }
         Line::Load { at, .. } => operand_cost(&at.base).saturating_add(4),
         Line::Store { value, at, .. } => operands_cost(value, &at.base).saturating_add(1),
         Line::Alloc { .. } => 6,
@@ -72,29 +70,20 @@ fn jump_cost(jump: &Jump<u32>) -> u64 {
     }
 }
 
-/// Adds the credit that is left behind each point of the block.
-fn spend_block(left: &mut Vec<u64>, block: &Block<u32>) -> Result<(), AllocError> {
-    let mut credit = 0u64;
-    for line in block.lines.as_slice() {
-        match line {
-            Line::Tick { weight, .. } => {
+/// The credit that is left behind each point.
+fn spend(alloc: Global, blocks: &[Block<u32>]) -> Result<Vec<u64>, AllocError> {
+    let mut left = Vec::new(alloc);
+    for block in blocks {
+        let mut credit = 0u64;
+        for line in block.lines.as_slice() {
+            if let Line::Tick { weight, .. } = line {
                 credit = credit.saturating_add(UNIT.saturating_mul(u64::from(*weight)));
-            }
-            _ => {
+            } else {
                 credit = credit.saturating_sub(line_cost(line));
                 left.push(credit)?;
             }
         }
-    }
-    left.push(credit.saturating_sub(jump_cost(&block.jump)))?;
-    Ok(())
-}
-
-/// The credit that is left behind each point.
-fn spend_blocks(alloc: Global, blocks: &[Block<u32>]) -> Result<Vec<u64>, AllocError> {
-    let mut left = Vec::new(alloc);
-    for block in blocks {
-        spend_block(&mut left, block)?;
+        left.push(credit.saturating_sub(jump_cost(&block.jump)))?;
     }
     Ok(left)
 }
@@ -132,7 +121,7 @@ pub(crate) fn credit_of(
     blocks: &[Block<u32>],
     text: &Text,
 ) -> Result<Credit, AllocError> {
-    let moves = spend_blocks(alloc, blocks)?;
+    let moves = spend(alloc, blocks)?;
     let before = vec![in alloc; None; moves.len()]?;
     let mut credit = Credit { moves, before };
     for stretch in text.stretches.iter() {
@@ -166,27 +155,20 @@ impl Credit {
         Some(before)
     }
 
-    /// Whether the point itself paid for a move.
-    fn pay_at(&mut self, point: usize) -> bool {
-        let Some(moves) = self.moves.get_mut(point) else {
-            return false;
-        };
-        let pays = 0 < *moves;
-        *moves = moves.saturating_sub(1);
-        pays
-    }
-
     /// Pays for a move before a point; false where nothing is left for it.
     pub(crate) fn pay(&mut self, point: usize) -> bool {
         let mut at = point;
         for _ in 0..self.moves.len() {
-            if self.pay_at(at) {
+            if let Some(moves) = self.moves.get_mut(at)
+                && 0 < *moves
+            {
+                *moves = moves.saturating_sub(1);
                 return true;
             }
-            match self.step(at) {
-                Some(before) => at = before,
-                None => return false,
-            }
+            let Some(before) = self.step(at) else {
+                return false;
+            };
+            at = before;
         }
         false
     }

@@ -60,74 +60,42 @@ fn is_provided(standing: Standing, nodes: &Nodes, block: usize) -> bool {
 
 /// Whether the slot must have the value behind the part: where it goes on, or a block that it leaves for asks for it there.
 fn needs_slot(standing: Standing, nodes: &Nodes) -> bool {
-    let node = standing.node;
-    let view = standing.view;
-    if node.goes_on || !node.leaves {
-        return node.goes_on;
-    }
-    let Some(stretch) = view.text.stretch(node.block) else {
-        return false;
-    };
-    [stretch.next, stretch.other].iter().any(|to| {
-        to.is_some_and(|block| view.is_wanted(block) && !is_provided(standing, nodes, block))
-    })
+    let Standing { view, node, .. } = standing;
+    let targets = view.text().targets(node.block);
+    node.goes_on
+        || node.leaves
+            && targets.iter().any(|to| {
+                to.is_some_and(|to| view.is_wanted(to) && !is_provided(standing, nodes, to))
+            })
 }
 
-/// The point before which a new value can be saved.
-fn behind(access: &Access) -> usize {
-    match access.kind {
-        Kind::Entry => access.point,
-        Kind::Read | Kind::Write => access.point.saturating_add(1),
-    }
-}
-
-/// Whether the value of this access is to be saved at once; `last` is that of the last new value where the slot must have it behind the part.
-fn is_to_save(
-    standing: Standing,
-    accesses: &[Access],
-    number: usize,
-    access: &Access,
-    last: Option<usize>,
-) -> bool {
-    let node = standing.node;
-    let is_over = number.saturating_add(1) == accesses.len() && !node.leaves && !node.goes_on;
-    access.is_new() && !is_over && (node.is_saved || last == Some(number))
-}
-
-/// Adds that the register stands in the register of the machine at the access.
-fn push_stay(splits: &mut Splits, standing: Standing, access: &Access) -> Result<(), AllocError> {
-    let register = standing.view.register;
-    let room = standing.room;
-    if access.kind == Kind::Entry {
-        splits.entries.push(Entry { register, room })?;
-        push_begin(splits, standing.view, standing.node.block, room, false)
-    } else {
-        splits.stays.push(Stay {
-            point: access.point,
-            register,
-            room,
-        })?;
-        Ok(())
-    }
-}
-
-/// What is done at the accesses of a part.
+/// What is done at the accesses of a part: the register stands in its register of the machine there. New values are saved at once, if the slot has the value too all
+/// along, or only that of the access numbered `last`.
 fn follow_accesses(
     splits: &mut Splits,
     standing: Standing,
     accesses: &[Access],
     last: Option<usize>,
 ) -> Result<(), AllocError> {
+    let Standing { view, node, room } = standing;
+    let register = view.register;
     for (number, access) in accesses.iter().enumerate() {
-        push_stay(splits, standing, access)?;
-        if is_to_save(standing, accesses, number, access, last) {
-            push_move(
-                splits,
-                standing.view,
-                standing.room,
-                Way::Save,
-                behind(access),
-            )?;
+        let point = access.point;
+        let mut behind = point.saturating_add(1);
+        if access.kind == Kind::Entry {
+            behind = point;
+            splits.entries.push(Entry { register, room })?;
+            push_begin(splits, view, node.block, room, false)?;
+        } else {
+            splits.stays.push(Stay {
+                point,
+                register,
+                room,
+            })?;
+        }
+        let is_over = number.saturating_add(1) == accesses.len() && !node.leaves && !node.goes_on;
+        if access.is_new() && !is_over && (node.is_saved || last == Some(number)) {
+            push_move(splits, view, room, Way::Save, behind)?;
         }
     }
     Ok(())
@@ -140,12 +108,10 @@ fn follow_start(
     accesses: &[Access],
     must_save: bool,
 ) -> Result<(), AllocError> {
-    let node = standing.node;
-    let view = standing.view;
-    let room = standing.room;
+    let Standing { view, node, room } = standing;
     if node.is_entered {
         push_begin(splits, view, node.block, room, node.is_saved)?;
-        if must_save && let Some(stretch) = view.text.stretch(node.block) {
+        if must_save && let Some(stretch) = view.text().stretch(node.block) {
             push_move(splits, view, room, Way::Save, stretch.first)?;
         }
     } else if let Some(access) = accesses.first()
@@ -164,10 +130,10 @@ fn follow_sources(
 ) -> Result<(), AllocError> {
     let view = standing.view;
     let room = standing.room;
-    for source in view.text.sources(standing.node.block) {
+    for source in view.text().sources(standing.node.block) {
         let last = nodes.last_part(*source);
         let is_there = last.is_some_and(|node| node.holds && node.room == Some(room));
-        if !is_there && let Some(stretch) = view.text.stretch(*source) {
+        if !is_there && let Some(stretch) = view.text().stretch(*source) {
             push_move(splits, view, room, Way::Load, stretch.jump)?;
         }
     }
@@ -202,17 +168,6 @@ fn follow_node(
     Ok(())
 }
 
-/// Saves the value at the begins of all blocks that it comes to for that.
-fn follow_landings(splits: &mut Splits, view: View, nodes: &Nodes) -> Result<(), AllocError> {
-    for landing in nodes.landings.iter() {
-        push_begin(splits, view, landing.block, landing.room, false)?;
-        if let Some(stretch) = view.text.stretch(landing.block) {
-            push_move(splits, view, landing.room, Way::Save, stretch.first)?;
-        }
-    }
-    Ok(())
-}
-
 /// What is done for a register whose parts have registers of the machine, or not.
 pub(crate) fn splits_of(alloc: Global, view: View, nodes: &Nodes) -> Result<Splits, AllocError> {
     let mut splits = Splits::new(alloc);
@@ -221,6 +176,11 @@ pub(crate) fn splits_of(alloc: Global, view: View, nodes: &Nodes) -> Result<Spli
             follow_node(&mut splits, view, nodes, node, room)?;
         }
     }
-    follow_landings(&mut splits, view, nodes)?;
+    for landing in nodes.landings.iter() {
+        push_begin(&mut splits, view, landing.block, landing.room, false)?;
+        if let Some(stretch) = view.text().stretch(landing.block) {
+            push_move(&mut splits, view, landing.room, Way::Save, stretch.first)?;
+        }
+    }
     Ok(splits)
 }

@@ -2,11 +2,12 @@
 use crate::intervals::accesses::Accesses;
 use crate::intervals::demands::accesses_of;
 use crate::parts::nodes::Nodes;
+use crate::parts::regions::View;
 use crate::places::candidates::{Candidate, Ground, is_unplaced};
 use crate::places::rooms::Rooms;
 use crate::splitting::credit::{Credit, credit_of};
 use crate::splitting::outcome::splits_of;
-use crate::splitting::reaches::{Subject, give_all, subject_of, view};
+use crate::splitting::reaches::give_all;
 use crate::splitting::splits::Splits;
 use crate::splitting::worth::split_costs_over_kept;
 use std::alloc::{AllocError, Global};
@@ -46,60 +47,47 @@ impl Splitter {
         Ok(())
     }
 
-    /// What is done where registers are split, in the order of the text.
+    /// What is done where registers are split, in the order of the text, and each move once.
     pub(crate) fn finish(self) -> Result<Splits, AllocError> {
         let mut splits = self.splits;
         splits.stays.sort()?;
         splits.begins.sort()?;
         splits.moves.sort()?;
+        splits.moves.dedup();
         Ok(splits)
+    }
+}
+
+/// The register, of whose accesses these are some, seen with no regions.
+fn view_of<'a>(ground: Ground<'a>, accesses: &'a Accesses, register: u32) -> View<'a> {
+    View {
+        facts: ground.facts,
+        live: ground.live,
+        register,
+        accesses: accesses.of(register),
+        leaders: &[],
     }
 }
 
 /// Splits the register, if the moves are paid for. Parameters come once: where blocks lead back to the first one, they aren't split.
 fn split(
     alloc: Global,
-    nodes: &mut Nodes,
-    credit: &mut Credit,
-    splits: &mut Splits,
-    rooms: &mut Rooms,
-    subject: Subject,
-) -> Result<(), AllocError> {
-    let facts = subject.facts;
-    if facts.demands.of(subject.register).is_param && !facts.text.sources(0).is_empty() {
-        return Ok(());
-    }
-    nodes.fill(alloc, facts, subject.accesses, subject.register)?;
-    give_all(alloc, subject, nodes, rooms)?;
-    let own = splits_of(alloc, view(subject, &[]), nodes)?;
-    if own.moves.iter().all(|one| credit.pay(one.point)) {
-        splits.append(&own)
-    } else {
-        Ok(())
-    }
-}
-
-/// Splits those of the registers that the list has slots for.
-fn split_members(
-    alloc: Global,
     splitter: &mut Splitter,
     rooms: &mut Rooms,
-    list: &[Location],
     ground: Ground,
-    members: &[u32],
+    register: u32,
 ) -> Result<(), AllocError> {
-    for register in members {
-        if is_unplaced(list, *register) {
-            let subject = subject_of(ground, &splitter.accesses, *register);
-            split(
-                alloc,
-                &mut splitter.nodes,
-                &mut splitter.credit,
-                &mut splitter.splits,
-                rooms,
-                subject,
-            )?;
-        }
+    let facts = ground.facts;
+    if facts.demands.of(register).is_param && !facts.text.sources(0).is_empty() {
+        return Ok(());
+    }
+    let view = view_of(ground, &splitter.accesses, register);
+    splitter.nodes.fill(alloc, view)?;
+    give_all(alloc, view, &mut splitter.nodes, rooms)?;
+    let own = splits_of(alloc, view, &splitter.nodes)?;
+    let credit = &mut splitter.credit;
+    if own.moves.iter().all(|one| credit.pay(one.point)) {
+        splitter.splits.append(&own)?;
     }
     Ok(())
 }
@@ -121,8 +109,11 @@ pub(crate) fn split_all(
     splitter.credit = credit_of(alloc, blocks, &ground.facts.text)?;
     for candidate in candidates {
         if let Some(group) = ground.groups.get(candidate.group) {
-            let members = group.members.as_slice();
-            split_members(alloc, splitter, rooms, list, ground, members)?;
+            for register in group.members.as_slice() {
+                if is_unplaced(list, *register) {
+                    split(alloc, splitter, rooms, ground, *register)?;
+                }
+            }
         }
     }
     Ok(())
@@ -138,8 +129,8 @@ pub(crate) fn should_keep(
     splitter.find_accesses(alloc, ground)?;
     let mut cost = 0u64;
     for register in members {
-        let subject = subject_of(ground, &splitter.accesses, *register);
-        let more = split_costs_over_kept(alloc, &mut splitter.nodes, subject)?;
+        let view = view_of(ground, &splitter.accesses, *register);
+        let more = split_costs_over_kept(alloc, &mut splitter.nodes, view)?;
         cost = cost.saturating_add(more);
     }
     Ok(4 < cost)

@@ -12,31 +12,6 @@ use il_ast::Seq;
 use std::alloc::{AllocError, Global};
 use vcode::Location;
 
-/// Adds the move between the slot and the register of the machine, that way.
-fn push_transfer(
-    transfers: &mut Seq<Transfer>,
-    registers: u32,
-    way: Way,
-    slot: Location,
-    machine: Location,
-) -> Result<(), AllocError>
-    requires slot { is_place registers slot ≡ true }
-    requires machine { is_place registers machine ≡ true }
-    requires between { are_between registers transfers.old ≡ true }
-    ensures { are_between registers transfers.new ≡ true }
-{
-    match way {
-        Way::Save => transfers.push(Transfer {
-            from: machine,
-            to: slot,
-        }),
-        Way::Load => transfers.push(Transfer {
-            from: slot,
-            to: machine,
-        }),
-    }
-}
-
 /// Adds the move, if both its places are there.
 fn push_move(
     transfers: &mut Seq<Transfer>,
@@ -50,31 +25,17 @@ fn push_move(
 {
     let slot = own_place(list, registers, one.register);
     let machine = room_place(registers, one.room);
-    match (slot, machine) {
-        (Some(slot), Some(machine)) => push_transfer(transfers, registers, one.way, slot, machine),
+    match (slot, machine, one.way) {
+        (Some(slot), Some(machine), Way::Save) => transfers.push(Transfer {
+            from: machine,
+            to: slot,
+        }),
+        (Some(slot), Some(machine), Way::Load) => transfers.push(Transfer {
+            from: slot,
+            to: machine,
+        }),
         _ => Ok(()),
     }
-}
-
-/// The moves before a point, each once.
-fn moves_of(
-    alloc: Global,
-    list: &[Location],
-    registers: u32,
-    moves: &[Move],
-) -> Result<Seq<Transfer>, AllocError>
-    requires { list_all (is_place registers) list.now ≡ true }
-    ensures { IfOk result (λ ms. are_between registers ms ≡ true) }
-{
-    let mut transfers = Seq::new(alloc);
-    let mut last: Option<Move> = None;
-    for one in moves {
-        if last != Some(*one) {
-            push_move(&mut transfers, list, registers, one)?;
-        }
-        last = Some(*one);
-    }
-    Ok(transfers)
 }
 
 /// The moves before each of so many points.
@@ -92,7 +53,10 @@ pub(crate) fn all_moves(
     let mut first = 0usize;
     for point in 0..points {
         let end = moves_end(moves, first, point);
-        let transfers = moves_of(alloc, list, registers, part(moves, first, end))?;
+        let mut transfers = Seq::new(alloc);
+        for one in part(moves, first, end) {
+            push_move(&mut transfers, list, registers, one)?;
+        }
         lists.push(transfers)?;
         first = end;
     }

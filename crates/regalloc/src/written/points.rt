@@ -13,7 +13,7 @@ use cfg_live::reads::{jump_reads, line_reads, register_of};
 use cfg_live::uses::line_writes;
 use il_ast::Seq;
 use std::alloc::{AllocError, Global};
-use vcode::{Argument, Block, Line, Location};
+use vcode::{Block, Line, Location};
 
 /// The register of the machine with that number, if there is one.
 pub(crate) fn room_place(registers: u32, room: usize) -> Option<Location>
@@ -34,6 +34,22 @@ pub(crate) fn own_place(list: &[Location], registers: u32, register: u32) -> Opt
     list.get(register as usize).copied()
 }
 
+/// The place of the register: the register of the machine with that number, if it stands in one, or else its own.
+pub(crate) fn place_in(
+    list: &[Location],
+    registers: u32,
+    room: Option<usize>,
+    register: u32,
+) -> Option<Location>
+    requires { list_all (is_place registers) list.now ≡ true }
+    ensures { IfSome result (λ q. is_place registers q ≡ true) }
+{
+    match room {
+        Some(room) => room_place(registers, room),
+        None => own_place(list, registers, register),
+    }
+}
+
 /// Adds that the register is at the place, if there is one.
 pub(crate) fn push_at(
     equalities: &mut Seq<Equality>,
@@ -48,17 +64,6 @@ pub(crate) fn push_at(
     match place {
         Some(place) => equalities.push(Equality { register, place }),
         None => Ok(()),
-    }
-}
-
-/// Where the register is at a point with these stays.
-fn place_at(list: &[Location], registers: u32, stays: &[Stay], register: u32) -> Option<Location>
-    requires { list_all (is_place registers) list.now ≡ true }
-    ensures { IfSome result (λ q. is_place registers q ≡ true) }
-{
-    match stays.iter().find(|stay| stay.register == register) {
-        Some(stay) => room_place(registers, stay.room),
-        None => own_place(list, registers, register),
     }
 }
 
@@ -81,34 +86,9 @@ fn push_some(
     if named.any(|equality| equality.register == register) {
         return Ok(());
     }
-    let place = place_at(list, registers, stays, register);
+    let stay = stays.iter().find(|stay| stay.register == register);
+    let place = place_in(list, registers, stay.map(|stay| stay.room), register);
     push_at(equalities, registers, register, place)
-}
-
-/// Adds the places of the registers that are passed.
-fn push_args(
-    equalities: &mut Seq<Equality>,
-    list: &[Location],
-    registers: u32,
-    stays: &[Stay],
-    args: &[Argument<u32>],
-) -> Result<(), AllocError>
-    requires list { list_all (is_place registers) list.now ≡ true }
-    requires placed { are_placed registers equalities.old ≡ true }
-    ensures { are_placed registers equalities.new ≡ true }
-{
-    for arg in args {
-        let register = register_of(&arg.value);
-        push_some(equalities, list, registers, stays, register)?;
-    }
-    Ok(())
-}
-
-/// How many registers a point names at most.
-fn most_named(reads: Reads, written: Option<u32>) -> usize {
-    let named = [reads.first, reads.second, written];
-    let count = named.iter().filter(|one| one.is_some()).count();
-    reads.args.len().saturating_add(count)
 }
 
 /// The places of the registers that a point names, each once.
@@ -123,11 +103,16 @@ fn places_of(
     requires { list_all (is_place registers) list.now ≡ true }
     ensures { IfOk result (λ es. are_placed registers es ≡ true) }
 {
-    let most = most_named(reads, written);
+    let named = [reads.first, reads.second, written];
+    let count = named.iter().filter(|one| one.is_some()).count();
+    let most = reads.args.len().saturating_add(count);
     let mut equalities = Seq::from_vec(Vec::with_capacity(alloc, most)?);
     push_some(&mut equalities, list, registers, stays, reads.first)?;
     push_some(&mut equalities, list, registers, stays, reads.second)?;
-    push_args(&mut equalities, list, registers, stays, reads.args)?;
+    for arg in reads.args {
+        let register = register_of(&arg.value);
+        push_some(&mut equalities, list, registers, stays, register)?;
+    }
     push_some(&mut equalities, list, registers, stays, written)?;
     Ok(equalities)
 }
@@ -154,31 +139,6 @@ fn push_point(
     Ok(end)
 }
 
-/// Adds the places of a block's lines; answers the number behind the stays that belong to them.
-fn push_lines(
-    alloc: Global,
-    places: &mut Seq<Seq<Equality>>,
-    list: &[Location],
-    registers: u32,
-    stays: &[Stay],
-    first: usize,
-    lines: &[Line<u32>],
-) -> Result<usize, AllocError>
-    requires list { list_all (is_place registers) list.now ≡ true }
-    requires placed { list_all (are_placed registers) places.old ≡ true }
-    ensures { list_all (are_placed registers) places.new ≡ true }
-{
-    let mut from = first;
-    for line in lines {
-        if !matches!(line, Line::Tick { .. }) {
-            let reads = line_reads(line);
-            let written = line_writes(line);
-            from = push_point(alloc, places, list, registers, stays, from, reads, written)?;
-        }
-    }
-    Ok(from)
-}
-
 /// The places of all points, which are so many.
 pub(crate) fn all_places(
     alloc: Global,
@@ -194,8 +154,13 @@ pub(crate) fn all_places(
     let mut places = Seq::from_vec(Vec::with_capacity(alloc, points)?);
     let mut first = 0usize;
     for block in blocks {
-        let lines = block.lines.as_slice();
-        first = push_lines(alloc, &mut places, list, registers, stays, first, lines)?;
+        for line in block.lines.as_slice() {
+            if !matches!(line, Line::Tick { .. }) {
+                let reads = line_reads(line);
+                let to = line_writes(line);
+                first = push_point(alloc, &mut places, list, registers, stays, first, reads, to)?;
+            }
+        }
         let reads = jump_reads(&block.jump);
         first = push_point(
             alloc,

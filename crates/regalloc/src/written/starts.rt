@@ -1,16 +1,38 @@
-//! The places of the registers that are live where blocks begin.
+//! The places that parameters come in, and those of the registers that are live where blocks begin.
 ghost use Rattle.std.specs.Prelude.{◌≡◌, true, IfOk};
 ghost use Rattle.std.specs.List.{list_all};
 ghost use Rattle.vcode.specs.Named.{is_place};
 ghost use Rattle.regalloc.specs.Scanned.{are_placed};
 
 use crate::intervals::starts::Starts;
-use crate::splitting::splits::{Begin, begin_at, begins_from};
-use crate::written::points::{own_place, push_at, room_place};
+use crate::splitting::splits::{Begin, Entry, begins_from};
+use crate::written::points::{own_place, place_in, push_at, room_place};
 use certificates::Equality;
 use il_ast::Seq;
 use std::alloc::{AllocError, Global};
-use vcode::Location;
+use vcode::{Destination, Location};
+
+/// The places that the parameters come in: the registers of the machine of their entries, or else their own places.
+pub(crate) fn placed_params(
+    alloc: Global,
+    list: &[Location],
+    registers: u32,
+    entries: &[Entry],
+    from: &[Destination<u32>],
+) -> Result<Seq<Location>, AllocError>
+    requires { list_all (is_place registers) list.now ≡ true }
+    ensures { IfOk result (λ places. list_all (is_place registers) places ≡ true) }
+{
+    let mut params = Seq::from_vec(Vec::with_capacity(alloc, from.len())?);
+    for param in from {
+        let entry = entries.iter().find(|entry| entry.register == param.place);
+        let room = entry.map(|entry| entry.room);
+        if let Some(place) = place_in(list, registers, room, param.place) {
+            params.push(place)?;
+        }
+    }
+    Ok(params)
+}
 
 /// Adds where a live register is.
 fn push_live(
@@ -18,7 +40,7 @@ fn push_live(
     list: &[Location],
     registers: u32,
     register: u32,
-    begin: Option<Begin>,
+    begin: Option<&Begin>,
 ) -> Result<(), AllocError>
     requires list { list_all (is_place registers) list.now ≡ true }
     requires placed { are_placed registers equalities.old ≡ true }
@@ -33,29 +55,6 @@ fn push_live(
     }
     let place = own_place(list, registers, register);
     push_at(equalities, registers, register, place)
-}
-
-/// Adds where the registers are that are live where the block begins; answers the number behind the begins that belong to it.
-fn push_start(
-    equalities: &mut Seq<Equality>,
-    list: &[Location],
-    registers: u32,
-    begins: &[Begin],
-    first: usize,
-    live: &[u32],
-    block: usize,
-) -> Result<usize, AllocError>
-    requires list { list_all (is_place registers) list.now ≡ true }
-    requires placed { are_placed registers equalities.old ≡ true }
-    ensures { are_placed registers equalities.new ≡ true }
-{
-    let mut from = first;
-    for register in live {
-        from = begins_from(begins, from, block, *register);
-        let begin = begin_at(begins, from, block, *register);
-        push_live(equalities, list, registers, *register, begin)?;
-    }
-    Ok(from)
 }
 
 /// Where the live registers are at the start of each of so many blocks.
@@ -75,7 +74,13 @@ pub(crate) fn placed_starts(
     for block in 0..blocks {
         let live = from.of(block);
         let mut equalities = Seq::from_vec(Vec::with_capacity(alloc, live.len())?);
-        first = push_start(&mut equalities, list, registers, begins, first, live, block)?;
+        for register in live {
+            first = begins_from(begins, first, block, *register);
+            let begin = begins
+                .get(first)
+                .filter(|begin| begin.is_at(block, *register));
+            push_live(&mut equalities, list, registers, *register, begin)?;
+        }
         starts.push(equalities)?;
     }
     Ok(starts)

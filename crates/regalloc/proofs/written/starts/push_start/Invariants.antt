@@ -1,6 +1,0 @@
-use Rattle.std.proofs.Common.{◌≡◌, true}
-use Rattle.regalloc.specs.Scanned.{are_placed}
-use Rattle.regalloc.proofs.written.starts.push_start.Given as goal
-
-abbrev pub invariant-loop-register : goal.invariant-loop-register
-invariant-loop-register l = are_placed l.registers l.equalities ≡ true
