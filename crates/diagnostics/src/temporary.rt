@@ -28,21 +28,36 @@ pub fn add_misfit(
     steps: &[Step],
     line: usize,
 ) {
-    for step in steps.iter().filter(|step| step.line == line) {
-        match step.read_within() {
-            Some(Val::Temp(read))
-                if step.class == Class::L && class_of(steps, read) == Some(Class::W) => {
-                let name = temp(function, read);
-                return say!(words; "{name} has class w and stands in an l place");
-            }
-            Some(Val::Global(symbol)) if step.class == Class::W => {
-                let name = global(text, symbol);
-                return say!(words; "{name} is an address and stands in a w place");
-            }
-            _ => {}
+    for step in steps {
+        if step.line == line && add_wrong_use(words, text, function, steps, step) {
+            return;
         }
     }
     words.add("the result of this operation has class l, and not w");
+}
+
+/// Says of a value that doesn't fit its place what it is. Answers whether it doesn't.
+fn add_wrong_use(
+    words: &mut TextMaker,
+    text: &Text,
+    function: &Func,
+    steps: &[Step],
+    step: &Step,
+) -> bool {
+    let Some(value) = step.read_within() else {
+        return false;
+    };
+    match value {
+        Val::Temp(read) if step.class == Class::L && class_of(steps, read) == Some(Class::W) => {
+            say!(words; "{} has class w and stands in an l place", temp(function, read));
+            true
+        }
+        Val::Global(symbol) if step.class == Class::W => {
+            say!(words; "{} is an address and stands in a w place", global(text, symbol));
+            true
+        }
+        _ => false,
+    }
 }
 
 /// A value that is returned from a function of another class, or of none.
