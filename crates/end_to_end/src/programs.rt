@@ -207,8 +207,19 @@ fn said_of(
     alloc: Global,
 ) -> Result<Done, AllocError> {
     let limit = format!(in alloc; "{limit}")?;
+    said_within(case, disk, verb, limit.as_str(), path, alloc)
+}
+
+fn said_within<'x>(
+    case: &'x Case,
+    disk: &mut BrokenDisk,
+    verb: &'x str,
+    limit: &'x str,
+    path: &'x str,
+    alloc: Global,
+) -> Result<Done, AllocError> {
     let mut words = Vec::new(alloc);
-    words.extend_from_slice(&[verb, "--limit", limit.as_str(), path, "--"])?;
+    words.extend_from_slice(&[verb, "--limit", limit, path, "--"])?;
     for word in &case.words {
         words.push(word.as_str())?;
     }
