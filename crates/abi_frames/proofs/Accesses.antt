@@ -1,6 +1,5 @@
 -- Loads and stores of any size, at an offset from a register; and the bytes that they change.
-use Rattle.std.proofs.Common.{◌≡◌, ℕ, zero, suc, ◌+◌, ◌-◌, ◌/◌, ◌%◌, ◌^◌, ◌<◌, ◌≤◌, Bool, true, [], ◌∷◌, refl, sym, ◌∙◌, ap, subst, arith, lit<}
-use Rattle.std.specs.Prelude.{nat_le, Ok}
+use Rattle.std.proofs.Common.{◌≡◌, ℕ, zero, suc, ◌+◌, ◌-◌, ◌/◌, ◌%◌, ◌^◌, ◌<◌, ◌≤◌, Bool, true, [], ◌∷◌, refl, sym, ◌∙◌, ap, subst, arith, lit<, nat_le, Ok}
 use Rattle.std.specs.Int.{byte_at}
 use Rattle.abi_frames.proofs.Shared.{State, Immediate, StoreOp, and_from, nat_tests, stored, moved}
 use Rattle.rv_isa.specs.Memory.{each_of, allowed, can_write}

@@ -1,6 +1,5 @@
 -- Where an address leads, by what its base holds.
-use Rattle.std.proofs.Common.{◌≡◌, ℕ, ◌+◌, ◌%◌, ◌^◌, ◌<◌, Bool, true, false, Option, Some, None, refl, ◌∙◌, ap, arith}
-use Rattle.std.specs.Prelude.{nat_eq, if◌then◌else◌}
+use Rattle.std.proofs.Common.{◌≡◌, ℕ, ◌+◌, ◌%◌, ◌^◌, ◌<◌, Bool, true, false, Option, Some, None, refl, ◌∙◌, ap, arith, nat_eq, if◌then◌else◌}
 use Rattle.abi_frames.proofs.Shared.{State, Location, Operand, Immediate, same_Some, nat_tests, moved, is_place, operand_keeps}
 use Rattle.rv_isa.specs.declared.instruction.RegOp.TheVariants.{Add}
 use Rattle.vcode.specs.declared.place.Address.{Address}

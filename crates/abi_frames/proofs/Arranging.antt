@@ -1,6 +1,5 @@
 -- What the moves up do: whatever an argument is passed as, it still is from where it then stands, and none stands in the register of an earlier one.
-use Rattle.std.proofs.Common.{nat_le, ◌≡◌, ◌≢◌, ℕ, zero, suc, ◌+◌, ◌<◌, ◌≤◌, Bool, true, false, List, [], ◌∷◌, refl, sym, ◌∙◌, ap, arith, lit<, zero-add}
-use Rattle.std.specs.Prelude.{◌&&◌, ◌||◌, nat_eq, nat_lt, if◌then◌else◌, map, length, slice_get, Option, Some, None}
+use Rattle.std.proofs.Common.{nat_le, ◌≡◌, ◌≢◌, ℕ, zero, suc, ◌+◌, ◌<◌, ◌≤◌, Bool, true, false, List, [], ◌∷◌, refl, sym, ◌∙◌, ap, arith, lit<, zero-add, ◌&&◌, ◌||◌, nat_eq, nat_lt, if◌then◌else◌, map, length, slice_get, Option, Some, None}
 use Rattle.std.proofs.lemmas.Option.{slice_get-map}
 use Rattle.abi_frames.proofs.Shared.{State, Location, InRegister, Slot, Operand, At, Number, Name, Argument, option_map, list_all, and_parts, and_from, eqb-true, eqb-false, or_parts, both_ways, slice_get_within, same_Some, none-some, nat_tests, is_place, operand_keeps}
 use Rattle.flat_code.specs.Step.{taken}

@@ -1,6 +1,5 @@
 -- What is known of blocks that need no frame, and of parameters that don't.
-use Rattle.std.proofs.Common.{◌≡◌, ℕ, ◌≤◌, Bool, true, false, List, [], ◌∷◌, refl, ◌∙◌, ap, arith}
-use Rattle.std.specs.Prelude.{not, ◌||◌, max, nat_eq, slice_get, Some}
+use Rattle.std.proofs.Common.{◌≡◌, ℕ, ◌≤◌, Bool, true, false, List, [], ◌∷◌, refl, ◌∙◌, ap, arith, not, ◌||◌, max, nat_eq, slice_get, Some}
 use Rattle.abi_frames.proofs.Shared.{Location, InRegister, Slot, Destination, Line, Block, list_all, list_any, and_parts, not-true, and_from, all_at, not_both, nat_tests, is_place, line_keeps, jump_keeps}
 use Rattle.vcode.specs.declared.line.Line.TheVariants.{Tick, Set, Operate, Load, Store, Alloc, Blit, Call}
 use Rattle.abi_frames.specs.Calls.{is_kept}

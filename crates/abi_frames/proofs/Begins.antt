@@ -1,6 +1,5 @@
 -- The begin of a frame, from any state in which there is none.
-use Rattle.std.proofs.Common.{◌≡◌, ◌≢◌, ℕ, ◌+◌, ◌-◌, ◌*◌, ◌%◌, ◌^◌, ◌<◌, ◌≤◌, Bool, true, false, List, [], refl, sym, ◌∙◌, ap, subst, arith, lit<, lit≤}
-use Rattle.std.specs.Prelude.{nat_le, nat_lt, length, Some, None}
+use Rattle.std.proofs.Common.{◌≡◌, ◌≢◌, ℕ, ◌+◌, ◌-◌, ◌*◌, ◌%◌, ◌^◌, ◌<◌, ◌≤◌, Bool, true, false, List, [], refl, sym, ◌∙◌, ap, subst, arith, lit<, lit≤, nat_le, nat_lt, length, Some, None}
 use Rattle.abi_frames.proofs.Shared.{Class, State, Location, InRegister, Slot, list_all, all_at, none_is_not, nat_tests, is_place}
 use Rattle.flat_code.specs.Spots.{ThisByte, Spots, Clear}
 use Rattle.flat_code.specs.Flat.{FlatGiven}

@@ -1,6 +1,5 @@
 -- Which branches of the machine are taken.
-use Rattle.std.proofs.Common.{◌≡◌, ℕ, ◌+◌, ◌%◌, ◌^◌, Bool, List, ◌∷◌, refl, sym, ◌∙◌, ap, subst, arith, lit<, mod-lt}
-use Rattle.std.specs.Prelude.{◌==◌, not, nat_eq, nat_lt, int_lt, if◌then◌else◌}
+use Rattle.std.proofs.Common.{◌≡◌, ℕ, ◌+◌, ◌%◌, ◌^◌, Bool, List, ◌∷◌, refl, sym, ◌∙◌, ap, subst, arith, lit<, mod-lt, ◌==◌, not, nat_eq, nat_lt, int_lt, if◌then◌else◌}
 use Rattle.std.specs.Int.{cast_signed, w64}
 use Rattle.abi_frames.proofs.Shared.{Class, W, L, Condition, State, Item, longest_size, nat_tests}
 use Rattle.il_ast.specs.declared.operation.Condition.TheVariants.{Equal, NotEqual, SignedLessEqual, SignedLess, SignedGreaterEqual, SignedGreater, UnsignedLessEqual, UnsignedLess, UnsignedGreaterEqual, UnsignedGreater}

@@ -1,6 +1,5 @@
 -- The machine follows a call: up to the callee, and from there as the call goes.
-use Rattle.std.proofs.Common.{◌≡◌, ℕ, suc, ◌+◌, ◌-◌, ◌*◌, ◌%◌, ◌<◌, ◌≤◌, true, List, [], ◌∷◌, ◌++◌, refl, sym, ◌∙◌, ap, subst, arith, append_assoc}
-use Rattle.std.specs.Prelude.{◌&&◌, nat_le, length, map, max, slice_get, Option, Some, None}
+use Rattle.std.proofs.Common.{◌≡◌, ℕ, suc, ◌+◌, ◌-◌, ◌*◌, ◌%◌, ◌<◌, ◌≤◌, true, List, [], ◌∷◌, ◌++◌, refl, sym, ◌∙◌, ap, subst, arith, append_assoc, ◌&&◌, nat_le, length, map, max, slice_get, Option, Some, None}
 use Rattle.abi_frames.proofs.Shared.{Class, W, L, State, Item, Location, InRegister, Operand, Destination, Argument, Line, Block, Code, Label, option_map, list_all, and_parts, leb-true, longest_size, same_Some, sum_by-cons, Comes, is_place, operand_keeps, line_keeps}
 use Rattle.il_ast.specs.declared.value.End.TheVariants.{Exit, Halt as Halted, Undefined, Stack, Turns}
 use Rattle.il_ast.specs.Run.{Spent, one_call, both}

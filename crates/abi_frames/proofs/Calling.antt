@@ -1,6 +1,5 @@
 -- A call, and the return from it: the machine is ready for the callee, and what a frame keeps is there again afterwards.
-use Rattle.std.proofs.Common.{◌≡◌, ◌≢◌, ℕ, zero, suc, ◌+◌, ◌-◌, ◌*◌, ◌%◌, ◌^◌, ◌<◌, ◌≤◌, Bool, true, false, List, [], ◌∷◌, ◌++◌, refl, sym, ◌∙◌, ap, subst, arith, lit<, lit≤}
-use Rattle.std.specs.Prelude.{◌&&◌, nat_eq, nat_le, if◌then◌else◌, length, map, slice_get, Option, Some, None, Ok}
+use Rattle.std.proofs.Common.{◌≡◌, ◌≢◌, ℕ, zero, suc, ◌+◌, ◌-◌, ◌*◌, ◌%◌, ◌^◌, ◌<◌, ◌≤◌, Bool, true, false, List, [], ◌∷◌, ◌++◌, refl, sym, ◌∙◌, ap, subst, arith, lit<, lit≤, ◌&&◌, nat_eq, nat_le, if◌then◌else◌, length, map, slice_get, Option, Some, None, Ok}
 use Rattle.bits.specs.Words.{sign_extended}
 use Rattle.abi_frames.proofs.Shared.{Class, W, L, State, Immediate, Plain, Item, Location, InRegister, Slot, Operand, At, Number, Name, Argument, option_map, option_and_then, list_all, and_parts, slice_get_within, same_Some, none-some, not_both, none_is_not, nat_tests, number_at, moved, Comes, is_place, operand_keeps, low}
 use Rattle.rv_isa.specs.State.{register, written}

@@ -1,6 +1,5 @@
 -- What the code that copies bytes does: between two ranges that have no address in common, or are the same.
-use Rattle.std.proofs.Common.{inl, inr, ◌≡◌, ◌≢◌, ℕ, zero, suc, ◌+◌, ◌-◌, ◌*◌, ◌/◌, ◌%◌, ◌^◌, ◌<◌, ◌≤◌, ◌⊎◌, Bool, true, false, List, [], ◌∷◌, ◌++◌, refl, sym, ◌∙◌, ap, subst, arith, lit<, append_assoc}
-use Rattle.std.specs.Prelude.{nat_lt, if◌then◌else◌}
+use Rattle.std.proofs.Common.{inl, inr, ◌≡◌, ◌≢◌, ℕ, zero, suc, ◌+◌, ◌-◌, ◌*◌, ◌/◌, ◌%◌, ◌^◌, ◌<◌, ◌≤◌, ◌⊎◌, Bool, true, false, List, [], ◌∷◌, ◌++◌, refl, sym, ◌∙◌, ap, subst, arith, lit<, append_assoc, nat_lt, if◌then◌else◌}
 use Rattle.std.specs.Int.{byte_at}
 use Rattle.abi_frames.proofs.Shared.{State, LoadOp, StoreOp, Item, Location, InRegister, Slot, Operand, At, Number, Name, nat_tests, number_at, stored, moved, is_place, operand_keeps, low}
 use Rattle.rv_isa.specs.Step.{load, load_size, load_value, store_size}

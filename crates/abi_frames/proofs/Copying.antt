@@ -1,6 +1,5 @@
 -- Bytes are copied, and the machine follows the code on bytes over it.
-use Rattle.std.proofs.Common.{inl, inr, ◌≡◌, ℕ, zero, suc, ◌+◌, ◌-◌, ◌<◌, ◌≤◌, Bool, true, false, List, ◌∷◌, refl, sym, ◌∙◌, ap, subst, arith}
-use Rattle.std.specs.Prelude.{◌&&◌, ◌||◌, nat_eq, nat_le, if◌then◌else◌, Option, Some, None}
+use Rattle.std.proofs.Common.{inl, inr, ◌≡◌, ℕ, zero, suc, ◌+◌, ◌-◌, ◌<◌, ◌≤◌, Bool, true, false, List, ◌∷◌, refl, sym, ◌∙◌, ap, subst, arith, ◌&&◌, ◌||◌, nat_eq, nat_le, if◌then◌else◌, Option, Some, None}
 use Rattle.abi_frames.proofs.Shared.{State, Location, Operand, Line, Block, Code, list_all, option_and_then, and_parts, eqb-true, leb-true, nat_tests, is_place, operand_keeps, line_keeps}
 use Rattle.vcode.specs.declared.line.Line.TheVariants.{Blit}
 use Rattle.flat_code.specs.Spots.{NoAccess, ThisByte, Spots}

@@ -1,6 +1,5 @@
 -- Arguments come to the places of their parameters: from registers, and from the stack of the caller.
-use Rattle.std.proofs.Common.{◌≡◌, ◌≢◌, ℕ, zero, suc, ◌+◌, ◌-◌, ◌*◌, ◌%◌, ◌^◌, ◌<◌, ◌≤◌, Bool, true, false, List, [], ◌∷◌, refl, sym, ◌∙◌, ap, subst, arith, lit<, lit≤, zero-add}
-use Rattle.std.specs.Prelude.{Option, ◌&&◌, not, nat_lt, nat_le, if◌then◌else◌, length, slice_get, Some, None}
+use Rattle.std.proofs.Common.{◌≡◌, ◌≢◌, ℕ, zero, suc, ◌+◌, ◌-◌, ◌*◌, ◌%◌, ◌^◌, ◌<◌, ◌≤◌, Bool, true, false, List, [], ◌∷◌, refl, sym, ◌∙◌, ap, subst, arith, lit<, lit≤, zero-add, Option, ◌&&◌, not, nat_lt, nat_le, if◌then◌else◌, length, slice_get, Some, None}
 use Rattle.abi_frames.proofs.Shared.{State, Location, InRegister, Slot, Destination, Argument, list_all, list_any, and_parts, and_from, eqb-true, both_ways, same_Some, none-some, nat_tests, number_at, stored, is_place}
 use Rattle.rv_isa.proofs.MemoryLemmas.{number_same, stored_above}
 use Rattle.vcode.specs.Places.{same_location, located}

@@ -1,6 +1,5 @@
 -- What the begin and the end of a frame do.
-use Rattle.std.proofs.Common.{◌≡◌, ◌≢◌, ℕ, zero, suc, ◌+◌, ◌-◌, ◌*◌, ◌%◌, ◌^◌, ◌<◌, ◌≤◌, Bool, true, false, List, [], ◌∷◌, ◌++◌, refl, sym, ◌∙◌, ap, subst, arith, lit<}
-use Rattle.std.specs.Prelude.{◌||◌, ◌&&◌, not, nat_eq, nat_lt, if◌then◌else◌, slice_get, length, Some, Ok}
+use Rattle.std.proofs.Common.{◌≡◌, ◌≢◌, ℕ, zero, suc, ◌+◌, ◌-◌, ◌*◌, ◌%◌, ◌^◌, ◌<◌, ◌≤◌, Bool, true, false, List, [], ◌∷◌, ◌++◌, refl, sym, ◌∙◌, ap, subst, arith, lit<, ◌||◌, ◌&&◌, not, nat_eq, nat_lt, if◌then◌else◌, slice_get, length, Some, Ok, append_assoc}
 use Rattle.abi_frames.proofs.Shared.{State, Item, list_all, and_parts, eqb-true, not-true, eqb-false, or_parts, longest_size, not_both, same_Some, all_at, nat_tests, number_at, moved, Comes, low}
 use Rattle.rv_isa.specs.Step.{act, jump, even_below}
 use Rattle.rv_isa.specs.Labelled.{Fixed, Stand, Stands}
@@ -18,7 +17,6 @@ use Rattle.abi_frames.proofs.Leads.{leads_on, leads_as, leads_where}
 use Rattle.abi_frames.proofs.StackAccesses.{Writes, leads_load, leads_store, near_address, is_2, is_28}
 use Rattle.operation_code.proofs.Instructions.{leads_add_low, leads_sum, leads_constant}
 use Rattle.abi_frames.proofs.Activations.{Setting, IsSetting, site, bottom, save_at, in_frame, can_save, is_among, is_held, held_below}
-use Rattle.std.proofs.Common.{append_assoc}
 
 -- ---- the stack pointer
 

@@ -1,6 +1,5 @@
 -- The labelled code of a function keeps the invariants of such code.
-use Rattle.std.proofs.Common.{suc, ◌≡◌, ℕ, ◌+◌, ◌^◌, ◌<◌, ◌≤◌, Bool, true, false, List, [], ◌∷◌, ◌++◌, refl, sym, subst, arith, lit≤, zero-add}
-use Rattle.std.specs.Prelude.{◌&&◌, not, nat_eq, nat_le, nat_lt, if◌then◌else◌, length, Some, None}
+use Rattle.std.proofs.Common.{suc, ◌≡◌, ℕ, ◌+◌, ◌^◌, ◌<◌, ◌≤◌, Bool, true, false, List, [], ◌∷◌, ◌++◌, refl, sym, subst, arith, lit≤, zero-add, ◌&&◌, not, nat_eq, nat_le, nat_lt, if◌then◌else◌, length, Some, None}
 use Rattle.abi_frames.proofs.Shared.{Condition, Item, Plain, Label, Location, Destination, Comparison, Jump, Block, Code, Layout, list_all, and_parts, and_from, leb-true, lt-ltb, all_append, longest_size, nat_tests}
 use Rattle.rv_isa.specs.Labels.{IsLabelled, times_labelled, has_label_below}
 use Rattle.rv_isa.specs.declared.instruction.Instr.TheVariants.{Ebreak}

@@ -1,6 +1,5 @@
 -- What the code of operands and lines does.
-use Rattle.std.proofs.Common.{◌≡◌, ◌≢◌, ℕ, ◌%◌, ◌^◌, ◌<◌, ◌≤◌, Bool, true, false, List, [], ◌∷◌, ◌++◌, refl, sym, ◌∙◌, ap, subst, arith, lit<}
-use Rattle.std.specs.Prelude.{nat_eq, if◌then◌else◌, Option, Some, None}
+use Rattle.std.proofs.Common.{◌≡◌, ◌≢◌, ℕ, ◌%◌, ◌^◌, ◌<◌, ◌≤◌, Bool, true, false, List, [], ◌∷◌, ◌++◌, refl, sym, ◌∙◌, ap, subst, arith, lit<, nat_eq, if◌then◌else◌, Option, Some, None}
 use Rattle.abi_frames.proofs.Shared.{W, L, LoadOp, State, Immediate, Item, Location, InRegister, Slot, Operand, At, Number, Name, Operation, option_and_then, eqb-true, nat_tests, number_at, stored, moved, is_place, operand_keeps}
 use Rattle.operation_code.proofs.Comparing.{leads_compare}
 use Rattle.operation_code.proofs.FormNumbers.{same_word, word_is_small}

@@ -1,6 +1,5 @@
 -- A block of memory is made: its address comes to its place, and its bytes, in the frame's area, may be accessed.
-use Rattle.std.proofs.Common.{◌≡◌, ◌≢◌, ℕ, ◌+◌, ◌-◌, ◌%◌, ◌^◌, ◌<◌, ◌≤◌, Bool, true, false, List, [], ◌∷◌, refl, ◌∙◌, arith}
-use Rattle.std.specs.Prelude.{nat_lt, if◌then◌else◌, Option, Some, None}
+use Rattle.std.proofs.Common.{◌≡◌, ◌≢◌, ℕ, ◌+◌, ◌-◌, ◌%◌, ◌^◌, ◌<◌, ◌≤◌, Bool, true, false, List, [], ◌∷◌, refl, ◌∙◌, arith, nat_lt, if◌then◌else◌, Option, Some, None}
 use Rattle.il_ast.specs.Cost.{round_16}
 use Rattle.abi_frames.proofs.Shared.{State, Plain, Location, Line, Block, Code, list_all, and_parts, same_Some, nat_tests, sum_by-cons, is_place, line_keeps}
 use Rattle.rv_isa.specs.Arithmetic.{upper_value}

@@ -1,6 +1,5 @@
 -- The labelled code of code with marks keeps the invariants of such code.
-use Rattle.std.proofs.Common.{◌≡◌, ℕ, ◌+◌, ◌^◌, ◌<◌, ◌≤◌, true, List, [], ◌∷◌, arith, lit<, lit≤}
-use Rattle.std.specs.Prelude.{length}
+use Rattle.std.proofs.Common.{◌≡◌, ℕ, ◌+◌, ◌^◌, ◌<◌, ◌≤◌, true, List, [], ◌∷◌, arith, lit<, lit≤, length}
 use Rattle.rv_isa.specs.Labels.{IsLabelled}
 use Rattle.abi_frames.proofs.Shared.{Label, Location, Block, Code, Layout, Mark, leb-true, longest_size, nat_tests}
 use Rattle.vcode.specs.Regular.{leads_inside}

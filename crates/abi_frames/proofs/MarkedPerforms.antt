@@ -1,6 +1,5 @@
 -- Code with marks keeps its promise: bare blocks do what they do with no frame, until the frame begins.
-use Rattle.std.proofs.Common.{◌≡◌, ℕ, ◌+◌, ◌-◌, ◌%◌, ◌^◌, ◌<◌, ◌≤◌, true, false, List, [], ◌∷◌, ◌++◌, refl, sym, ◌∙◌, subst, arith, lit<, lit≤, zero-add, append_assoc, append-nil}
-use Rattle.std.specs.Prelude.{not, ◌&&◌, nat_le, map, length, slice_get, Some}
+use Rattle.std.proofs.Common.{◌≡◌, ℕ, ◌+◌, ◌-◌, ◌%◌, ◌^◌, ◌<◌, ◌≤◌, true, false, List, [], ◌∷◌, ◌++◌, refl, sym, ◌∙◌, subst, arith, lit<, lit≤, zero-add, append_assoc, append-nil, not, ◌&&◌, nat_le, map, length, slice_get, Some}
 use Rattle.std.specs.List.{list_any}
 use Rattle.il_ast.specs.declared.limits.TheConstants.{FUNCTION_WEIGHT}
 use Rattle.abi_frames.proofs.Shared.{State, Item, Label, Location, Block, Code, Layout, Mark, sum_by, and_parts, not-true, leb-true, all_at, is_place}

@@ -1,6 +1,5 @@
 -- Marks of the registers that code writes.
-use Rattle.std.proofs.Common.{◌≡◌, ◌<◌, ◌∙◌, ℕ, zero, suc, Bool, true, false, List, [], ◌∷◌, if◌then◌else◌, length, replicate, refl, subst, sym, ap, arith, nat_lt}
-use Rattle.std.specs.Prelude.{filter}
+use Rattle.std.proofs.Common.{◌≡◌, ◌<◌, ◌∙◌, ℕ, zero, suc, Bool, true, false, List, [], ◌∷◌, if◌then◌else◌, length, replicate, refl, subst, sym, ap, arith, nat_lt, filter}
 use Rattle.abi_frames.proofs.Shared.{Location, Code, list_all, and_parts, nat_tests}
 use Rattle.abi_frames.specs.Layout.{is_written, written_of, callee_saved}
 use Rattle.abi_frames.specs.Marked.{is_marked}

@@ -1,6 +1,5 @@
 -- Arguments that move up: one more of them, and how many there are.
-use Rattle.std.proofs.Common.{◌≡◌, ℕ, zero, suc, ◌+◌, ◌-◌, ◌<◌, Bool, true, false, List, [], ◌∷◌, ◌++◌, get_or, set, refl, ◌∙◌, ap, arith}
-use Rattle.std.specs.Prelude.{length, Option, Some, None}
+use Rattle.std.proofs.Common.{◌≡◌, ℕ, zero, suc, ◌+◌, ◌-◌, ◌<◌, Bool, true, false, List, [], ◌∷◌, ◌++◌, get_or, set, refl, ◌∙◌, ap, arith, length, Option, Some, None}
 use Rattle.std.proofs.lemmas.List.{length-map}
 use Rattle.abi_frames.proofs.Shared.{Location, At, Argument}
 use Rattle.vcode.specs.declared.place.Location.TheVariants.{Register}

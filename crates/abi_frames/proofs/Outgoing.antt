@@ -1,6 +1,5 @@
 -- A call passes at most 56 arguments on the stack, so the slots begin near the stack pointer.
-use Rattle.std.proofs.Common.{◌≡◌, ℕ, zero, suc, ap, ◌<◌, ◌≤◌, true, List, [], ◌∷◌, arith}
-use Rattle.std.specs.Prelude.{nat_le, max, length, slice_get, Some}
+use Rattle.std.proofs.Common.{◌≡◌, ℕ, zero, suc, ap, ◌<◌, ◌≤◌, true, List, [], ◌∷◌, arith, nat_le, max, length, slice_get, Some}
 use Rattle.abi_frames.proofs.Shared.{Location, Line, Block, Code, list_all, and_parts, same_Some, nat_tests}
 use Rattle.vcode.specs.declared.line.Line.TheVariants.{Tick, Set, Operate, Load, Store, Alloc, Blit, Call}
 use Rattle.vcode.specs.Regular.{IsRegular, passes_few}

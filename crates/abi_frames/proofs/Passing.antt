@@ -1,6 +1,5 @@
 -- What the code of a call's arguments does: each comes to where the calling convention has it, and all that stands elsewhere stays.
-use Rattle.std.proofs.Common.{nat_le, ◌≡◌, ◌≢◌, ℕ, zero, suc, ◌+◌, ◌-◌, ◌*◌, ◌%◌, ◌^◌, ◌<◌, ◌≤◌, Bool, true, false, List, [], ◌∷◌, ◌++◌, refl, ◌∙◌, ap, subst, arith}
-use Rattle.std.specs.Prelude.{◌||◌, nat_lt, if◌then◌else◌, length, slice_get, Some}
+use Rattle.std.proofs.Common.{nat_le, ◌≡◌, ◌≢◌, ℕ, zero, suc, ◌+◌, ◌-◌, ◌*◌, ◌%◌, ◌^◌, ◌<◌, ◌≤◌, Bool, true, false, List, [], ◌∷◌, ◌++◌, refl, ◌∙◌, ap, subst, arith, ◌||◌, nat_lt, if◌then◌else◌, length, slice_get, Some}
 use Rattle.bits.specs.Words.{sign_extended}
 use Rattle.abi_frames.proofs.Shared.{Class, W, L, State, Location, InRegister, Slot, Operand, At, Number, Name, Argument, list_all, and_parts, nat_tests, number_at, stored, is_place, operand_keeps}
 use Rattle.rv_isa.proofs.MemoryLemmas.{number_same, stored_below, stored_above, read_back}

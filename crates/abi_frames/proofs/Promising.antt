@@ -1,6 +1,5 @@
 -- The laws of the code of frames.
-use Rattle.std.proofs.Common.{◌≡◌, ℕ, ◌-◌, ◌^◌, ◌<◌, List, subst, arith}
-use Rattle.std.specs.Prelude.{slice_get, Option, Some}
+use Rattle.std.proofs.Common.{◌≡◌, ℕ, ◌-◌, ◌^◌, ◌<◌, List, subst, arith, slice_get, Option, Some}
 use Rattle.il_ast.specs.declared.limits.TheConstants.{FUNCTION_WEIGHT}
 use Rattle.il_ast.specs.declared.value.End.TheVariants.{Exit, Halt, Undefined, Stack, Turns}
 use Rattle.il_ast.specs.Run.{one_call}

@@ -1,6 +1,5 @@
 -- Where blocks stand that stand one behind the other, each behind its label.
-use Rattle.std.proofs.Common.{◌≡◌, ℕ, zero, suc, ◌+◌, List, [], ◌∷◌, ◌++◌, refl, sym, ◌∙◌, ap, subst, arith, append_assoc}
-use Rattle.std.specs.Prelude.{length, slice_get, Some}
+use Rattle.std.proofs.Common.{◌≡◌, ℕ, zero, suc, ◌+◌, List, [], ◌∷◌, ◌++◌, refl, sym, ◌∙◌, ap, subst, arith, append_assoc, length, slice_get, Some}
 use Rattle.rv_isa.specs.Labelled.{Stand, Stands}
 use Rattle.abi_frames.proofs.Shared.{Item, Label, Location, Block, Layout, same_Some}
 use Rattle.abi_frames.specs.Emission.{body_items, rows}

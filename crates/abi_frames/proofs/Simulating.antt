@@ -1,6 +1,5 @@
 -- The machine follows the code on bytes, line by line: what holds at a line, and that it holds at the next one, until the code is over.
-use Rattle.std.proofs.Common.{◌≡◌, ◌≢◌, ℕ, zero, suc, ◌+◌, ◌-◌, ◌*◌, ◌<◌, ◌≤◌, Bool, true, false, List, [], ◌∷◌, ◌++◌, refl, sym, ◌∙◌, ap, subst, arith, lit<, zero-add, append_assoc, append-nil}
-use Rattle.std.specs.Prelude.{not, ◌&&◌, nat_eq, nat_lt, if◌then◌else◌, slice_get, Option, Some, None, Err}
+use Rattle.std.proofs.Common.{◌≡◌, ◌≢◌, ℕ, zero, suc, ◌+◌, ◌-◌, ◌*◌, ◌<◌, ◌≤◌, Bool, true, false, List, [], ◌∷◌, ◌++◌, refl, sym, ◌∙◌, ap, subst, arith, lit<, zero-add, append_assoc, append-nil, not, ◌&&◌, nat_eq, nat_lt, if◌then◌else◌, slice_get, Option, Some, None, Err}
 use Rattle.il_ast.specs.declared.limits.TheConstants.{FUNCTION_WEIGHT}
 use Rattle.abi_frames.proofs.Shared.{Class, State, Item, Label, Location, Operand, ReturnValue, Operation, Line, Comparison, Jump, Block, Code, LoadOp, option_map, option_and_then, list_all, list_any, and_parts, leb-true, longest_size, none_is_not, same_Some, nat_tests, sum_by-cons, number_at, is_place, operand_keeps, line_keeps}
 use Rattle.il_ast.specs.Operations.{holds, truth}

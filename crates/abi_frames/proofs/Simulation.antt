@@ -1,6 +1,5 @@
 -- What holds at each line while the machine follows the code on bytes, and what is to be shown of it.
-use Rattle.std.proofs.Common.{◌≡◌, ℕ, suc, ◌+◌, ◌-◌, ◌*◌, ◌%◌, ◌<◌, ◌≤◌, Bool, true, false, refl, List, ◌∷◌, ◌++◌, ◌∙◌, ap, subst, arith, lit<, append_assoc}
-use Rattle.std.specs.Prelude.{◌&&◌, ◌||◌, nat_le, length, slice_get, Some, max}
+use Rattle.std.proofs.Common.{◌≡◌, ℕ, suc, ◌+◌, ◌-◌, ◌*◌, ◌%◌, ◌<◌, ◌≤◌, Bool, true, false, refl, List, ◌∷◌, ◌++◌, ◌∙◌, ap, subst, arith, lit<, append_assoc, ◌&&◌, ◌||◌, nat_le, length, slice_get, Some, max}
 use Rattle.il_ast.specs.declared.limits.TheConstants.{FUNCTION_WEIGHT}
 use Rattle.il_ast.specs.declared.value.End.TheVariants.{Undefined}
 use Rattle.il_ast.specs.Run.{Spent, one_call}

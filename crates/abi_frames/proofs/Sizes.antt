@@ -1,7 +1,6 @@
 -- The code of a line has no label and no jump to one, and is no longer than the line's cost; so the code of a function is within its price.
-use Rattle.std.proofs.Common.{suc, zero, ◌/◌, ◌≡◌, ℕ, ◌+◌, ◌-◌, ◌*◌, ◌%◌, ◌^◌, ◌<◌, ◌≤◌, Bool, true, false, List, [], ◌∷◌, ◌++◌, refl, sym, ◌∙◌, ap, subst, arith, lit≤}
+use Rattle.std.proofs.Common.{suc, zero, ◌/◌, ◌≡◌, ℕ, ◌+◌, ◌-◌, ◌*◌, ◌%◌, ◌^◌, ◌<◌, ◌≤◌, Bool, true, false, List, [], ◌∷◌, ◌++◌, refl, sym, ◌∙◌, ap, subst, arith, lit≤, ◌&&◌, not, nat_eq, nat_le, nat_lt, if◌then◌else◌, length, Option, Some, None}
 use Rattle.bits.specs.Words.{sign_extended}
-use Rattle.std.specs.Prelude.{◌&&◌, not, nat_eq, nat_le, nat_lt, if◌then◌else◌, length, Option, Some, None}
 use Rattle.abi_frames.proofs.Shared.{Condition, Class, W, L, Immediate, LoadOp, StoreOp, Item, Plain, Label, Location, InRegister, Slot, Operand, ReturnValue, Argument, Destination, At, Number, Name, Operation, Line, Comparison, Jump, Block, Code, Layout, list_all, sum_by, and_parts, and_from, leb-true, longest_size, all_append, not_both, nat_tests, sum_by-cons, low}
 use Rattle.il_ast.specs.declared.operation.Condition.TheVariants.{Equal, NotEqual, SignedLessEqual, SignedLess, SignedGreaterEqual, SignedGreater, UnsignedLessEqual, UnsignedLess, UnsignedGreaterEqual, UnsignedGreater}
 use Rattle.il_ast.specs.declared.operation.Size.{Size}

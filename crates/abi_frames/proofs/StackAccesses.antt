@@ -1,6 +1,5 @@
 -- What loads and stores do, of eight bytes of the stack above all.
-use Rattle.std.proofs.Common.{◌≡◌, ◌≢◌, ℕ, ◌+◌, ◌-◌, ◌%◌, ◌^◌, ◌<◌, ◌≤◌, Bool, true, false, [], ◌∷◌, refl, sym, ◌∙◌, ap, subst, arith, lit<}
-use Rattle.std.specs.Prelude.{nat_le, nat_lt, if◌then◌else◌, Ok}
+use Rattle.std.proofs.Common.{◌≡◌, ◌≢◌, ℕ, ◌+◌, ◌-◌, ◌%◌, ◌^◌, ◌<◌, ◌≤◌, Bool, true, false, [], ◌∷◌, refl, sym, ◌∙◌, ap, subst, arith, lit<, nat_le, nat_lt, if◌then◌else◌, Ok}
 use Rattle.abi_frames.proofs.Shared.{State, Immediate, LoadOp, Plain, and_from, nat_tests, number_at, stored, moved, low}
 use Rattle.rv_isa.specs.State.{register, put}
 use Rattle.rv_isa.specs.Memory.{each_of, allowed, can_read, can_write}

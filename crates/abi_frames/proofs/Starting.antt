@@ -1,7 +1,6 @@
 -- From the call of a function to its first line: where its code stands, what the begin of its frame leaves, and that it keeps its promise.
 use Rattle.il_ast.specs.declared.limits.TheConstants.{FUNCTION_WEIGHT, ALLOC_BYTES}
-use Rattle.std.proofs.Common.{◌≡◌, ℕ, zero, suc, ◌+◌, ◌-◌, ◌*◌, ◌^◌, ◌<◌, ◌≤◌, Bool, true, false, List, [], ◌∷◌, ◌++◌, refl, sym, ◌∙◌, ap, subst, arith, zero-add, append_assoc, append-nil, ◌%◌}
-use Rattle.std.specs.Prelude.{not, nat_le, nat_lt, if◌then◌else◌, map, length, slice_get, Some, None}
+use Rattle.std.proofs.Common.{◌≡◌, ℕ, zero, suc, ◌+◌, ◌-◌, ◌*◌, ◌^◌, ◌<◌, ◌≤◌, Bool, true, false, List, [], ◌∷◌, ◌++◌, refl, sym, ◌∙◌, ap, subst, arith, zero-add, append_assoc, append-nil, ◌%◌, not, nat_le, nat_lt, if◌then◌else◌, map, length, slice_get, Some, None}
 use Rattle.abi_frames.proofs.Shared.{Class, State, Item, Label, Location, Destination, Jump, Block, Code, Layout, list_all, list_any, sum_by, and_parts, not-true, leb-true, longest_size, all_at, same_Some, sum_by-cons, nat_tests, number_at, is_place, line_keeps, jump_keeps}
 use Rattle.rv_isa.specs.Labelled.{Stand}
 use Rattle.vcode.specs.declared.line.Jump.TheVariants.{Goto, Branch, Return, Halt}

@@ -1,8 +1,6 @@
 -- Location code that a certificate makes, and code with every register in a slot, keeps the virtual code: it has the same parameters and result, and runs alike.
 -- With every register in a slot it also weighs and takes the same.
-use Rattle.std.proofs.Common.{◌≡◌, ℕ, ◌+◌, ◌*◌, ◌-◌, true, List, [], ◌∷◌, map, refl, ◌∙◌, ap}
-use Rattle.std.specs.Prelude.{max}
-use Rattle.std.specs.List.{sum_by}
+use Rattle.std.proofs.Common.{◌≡◌, ℕ, ◌+◌, ◌*◌, ◌-◌, true, List, [], ◌∷◌, map, refl, ◌∙◌, ap, max, sum_by}
 use Rattle.il_ast.specs.declared.operation.Class.{Class}
 use Rattle.il_ast.specs.Cost.{round_16}
 use Rattle.il_ast.specs.Passes.{Keeps}

@@ -1,6 +1,5 @@
 -- Code with a place for each register: operands, lines, jumps and blocks, place by place.
-use Rattle.std.specs.Prelude.{ℕ, map}
-use Rattle.std.specs.Option.{option_map}
+use Rattle.std.specs.Prelude.{ℕ, map, option_map}
 use Rattle.vcode.specs.declared.place.Location.{Location}
 use Rattle.vcode.specs.declared.place.Location.TheVariants.{Slot}
 use Rattle.vcode.specs.declared.place.Operand.{Operand}

@@ -1,6 +1,5 @@
 //! Code with a place for each register.
-ghost use Rattle.std.specs.Prelude.{◌≡◌, ◌++◌, map, drop, OnOk, IfOk};
-ghost use Rattle.std.specs.Option.{option_map};
+ghost use Rattle.std.specs.Prelude.{◌≡◌, ◌++◌, map, drop, OnOk, IfOk, option_map};
 ghost use Rattle.alloc_check.specs.Placed.{placed_operand, placed_address, placed_argument, placed_returned, placed_destination, placed_line, placed_comparison, placed_jump};
 
 use il_ast::Seq;

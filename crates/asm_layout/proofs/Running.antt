@@ -1,7 +1,5 @@
 -- What the machine does with the words of jumps and branches.
-use Rattle.std.proofs.Common.{◌≡◌, ℕ, ◌+◌, ◌-◌, ◌*◌, ◌/◌, ◌%◌, ◌^◌, ◌<◌, ◌≤◌, Bool, true, false, List, [], ◌∷◌, refl, sym, ◌∙◌, ap, subst, arith, lit<, lit≤, mod-lt, pos, negsuc}
-use Rattle.std.specs.Prelude.{◌≤ℤ◌, ◌<ℤ◌, ◌==◌, not, nat_lt, if◌then◌else◌, slice_get, Some, Ok}
-use Rattle.std.specs.Int.RustNames.{unsigned_abs}
+use Rattle.std.proofs.Common.{◌≡◌, ℕ, ◌+◌, ◌-◌, ◌*◌, ◌/◌, ◌%◌, ◌^◌, ◌<◌, ◌≤◌, Bool, true, false, List, [], ◌∷◌, refl, sym, ◌∙◌, ap, subst, arith, lit<, lit≤, mod-lt, pos, negsuc, ◌≤ℤ◌, ◌<ℤ◌, ◌==◌, not, nat_lt, if◌then◌else◌, slice_get, Some, Ok, unsigned_abs}
 use Rattle.std.proofs.lemmas.Int.{ints}
 use Rattle.std.proofs.lemmas.Bool.Decides.{nat_tests}
 use Rattle.std.proofs.lemmas.Option.{slice_get_within}

@@ -1,8 +1,7 @@
 -- The words of a function, in the forms that are chosen, are laid out for its labelled code.
-use Rattle.std.proofs.Common.{◌≡◌, ℕ, zero, suc, ◌+◌, ◌*◌, ◌<◌, ◌≤◌, List, [], ◌∷◌, length, refl, subst, arith, replicate, Bool, true, false}
+use Rattle.std.proofs.Common.{◌≡◌, ℕ, zero, suc, ◌+◌, ◌*◌, ◌<◌, ◌≤◌, List, [], ◌∷◌, length, refl, subst, arith, replicate, Bool, true, false, slice_index, nat_lt}
 use Rattle.std.proofs.lemmas.List.{length-replicate}
 use Rattle.std.proofs.lemmas.Bool.Decides.{nat_tests}
-use Rattle.std.specs.Prelude.{slice_index, nat_lt}
 use Rattle.rv_isa.specs.Labels.{LabelledItems, IsLabelled, longest, longest_size}
 use Rattle.rv_isa.specs.Labelled.{Stand}
 use Rattle.rv_isa.specs.Laid.{LaysOut, filled}

@@ -1,8 +1,7 @@
 -- Words of 32 and 64 bits, read as numbers. `cast_signed w32 n` is the signed reading of 32 bits,
 -- and `cast_unsigned w64 z` the bits of z.
-use Rattle.std.specs.Prelude.{◌≡◌, ℕ, ◌+◌, ◌-◌, ◌*◌, ◌/◌, ◌%◌, ◌^◌, ◌<◌, Bool, ◌&&◌, nat_lt, if◌then◌else◌, ℤ, pos, negsuc, ◌≤ℤ◌}
+use Rattle.std.specs.Prelude.{◌≡◌, ℕ, ◌+◌, ◌-◌, ◌*◌, ◌/◌, ◌%◌, ◌^◌, ◌<◌, Bool, ◌&&◌, nat_lt, if◌then◌else◌, ℤ, pos, negsuc, ◌≤ℤ◌, int_lt}
 use Rattle.std.specs.Int.{cast_signed, cast_unsigned, w32, w64}
-use Rattle.std.specs.Int.RustNames.{int_lt}
 
 -- the 64 bits with the same signed value (RV64I: the sign extension that the W instructions do)
 abbrev pub sign_extended : ℕ → ℕ

@@ -1,12 +1,10 @@
 -- What a change of words is for the numbers of the set.
-use Rattle.std.proofs.Common.{◌≡◌, ◌≢◌, ℕ, zero, suc, ◌+◌, ◌-◌, ◌*◌, ◌/◌, ◌%◌, ◌^◌, ◌<◌, ◌≤◌, Bool, true, false, not, nat_eq, ◌||◌, ◌&&◌, ◌==◌, List, length, get_or, bit_or, bit_and, refl, sym, ◌∙◌, ap, arith, inl, inr, w64, min, max, slice_set, replicate}
-use Rattle.std.specs.Prelude.{MatchBool, ◌⊎◌}
+use Rattle.std.proofs.Common.{◌≡◌, ◌≢◌, ℕ, zero, suc, ◌+◌, ◌-◌, ◌*◌, ◌/◌, ◌%◌, ◌^◌, ◌<◌, ◌≤◌, Bool, true, false, not, nat_eq, ◌||◌, ◌&&◌, ◌==◌, List, length, get_or, bit_or, bit_and, refl, sym, ◌∙◌, ap, arith, inl, inr, w64, min, max, slice_set, replicate, MatchBool, ◌⊎◌, get_or-set_same, get_or-set_other}
 use Rattle.std.specs.Int.{bit_at, bit_not}
 use Rattle.std.proofs.Math.Nat.{eq-or-lt_of_le}
 use Rattle.std.proofs.lemmas.Bool.{cases_lt, cases_eq}
 use Rattle.std.proofs.lemmas.Bool.Decides.{nat_tests}
 use Rattle.std.proofs.lemmas.List.{get_or_past}
-use Rattle.std.proofs.Common.{get_or-set_same, get_or-set_other}
 use Rattle.std.proofs.lemmas.Nat.Bits.{bit_at-lt, bit_at-zero, bit_at_or, bit_at_and, bit_at_not, bit_at_set_same, bit_at_set_other, bit_at_clear_same, bit_at_clear_other, shr_and_one, same_from_bits, bit_at_above}
 use Rattle.bitset.specs.Bits.{Grew, SameMembers, is_set}
 use Rattle.bitset.specs.Words.{UnionIn, ChangedIn, MinusBelow}

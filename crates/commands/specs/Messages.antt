@@ -1,7 +1,6 @@
 -- The lines on standard error, byte by byte.
-use Rattle.std.specs.Prelude.{ℕ, [], ◌∷◌, List, codes}
+use Rattle.std.specs.Prelude.{ℕ, [], ◌∷◌, List, codes, decimal}
 use Rattle.std.specs.List.{concat}
-use Rattle.std.specs.Fmt.{decimal}
 use Rattle.elf_file.specs.declared.error.LoadError.{LoadError}
 use Rattle.elf_file.specs.declared.error.LoadError.TheVariants.{CutOff, OtherKind, OutOfRange, Misplaced, BadEntry, Memory as NotLoaded}
 use Rattle.shell.specs.Digits.{sixteen_digits}

@@ -1,6 +1,5 @@
 -- The lines that show how much stack a program takes.
-use Rattle.std.specs.Prelude.{◌≡◌, ◌≤◌, ℕ, ◌+◌, ◌++◌, nat_le, if◌then◌else◌, List, [], ◌∷◌, codes, Option, Some, None}
-use Rattle.std.specs.Fmt.{decimal}
+use Rattle.std.specs.Prelude.{◌≡◌, ◌≤◌, ℕ, ◌+◌, ◌++◌, nat_le, if◌then◌else◌, List, [], ◌∷◌, codes, Option, Some, None, decimal}
 use Rattle.il_ast.specs.declared.limits.TheConstants.{STACK_ROOM}
 use Rattle.il_ast.specs.declared.function.Func.{Func}
 use Rattle.il_ast.specs.declared.program.InText.{InText}

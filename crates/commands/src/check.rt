@@ -1,7 +1,6 @@
 //! `qbec check`.
-ghost use Rattle.std.specs.Prelude.{◌≡◌, map, IfOk, IfErr, OnOk, OnErr};
+ghost use Rattle.std.specs.Prelude.{◌≡◌, map, IfOk, IfErr, OnOk, OnErr, string_bytes};
 ghost use Rattle.std.specs.List.{concat};
-ghost use Rattle.std.specs.String.{string_bytes};
 ghost use Rattle.shell.specs.Sink.{Tells};
 ghost use Rattle.commands.specs.Parts.{IsChecked, CheckFails, ShowsVerdict};
 

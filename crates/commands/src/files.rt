@@ -1,7 +1,6 @@
 //! Files and standard output, with the failures that they meet.
-ghost use Rattle.std.specs.Prelude.{◌≡◌, ◌⊎◌, map, IfOk, OnOk, OnErr, IfErr};
+ghost use Rattle.std.specs.Prelude.{◌≡◌, ◌⊎◌, map, IfOk, OnOk, OnErr, IfErr, string_bytes};
 ghost use Rattle.std.specs.List.{concat};
-ghost use Rattle.std.specs.String.{string_bytes};
 ghost use Rattle.shell.specs.Disk.{Holds, Spares};
 ghost use Rattle.shell.specs.Sink.{Sends, Breaks};
 ghost use Rattle.commands.specs.declared.failure.Failure.TheVariants.{Memory, Output};

@@ -1,8 +1,7 @@
 //! What the words of a process ask for, done.
-ghost use Rattle.std.specs.Prelude.{◌≡◌, map, drop, IfOk, IfErr};
+ghost use Rattle.std.specs.Prelude.{◌≡◌, map, drop, IfOk, IfErr, string_bytes};
 ghost use Rattle.std.specs.IoError.{error_kind};
 ghost use Rattle.std.specs.Process.{exit_status};
-ghost use Rattle.std.specs.String.{string_bytes};
 ghost use Rattle.commands.specs.Exits.{Exits, IsUnbegun, words_failure};
 
 use crate::command::{command, report};

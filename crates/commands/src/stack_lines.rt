@@ -1,7 +1,5 @@
 //! The lines that show how much stack a program takes.
-ghost use Rattle.std.specs.Prelude.{◌≡◌, ◌++◌, map, IfOk, IfErr, OnOk};
-ghost use Rattle.std.specs.Fmt.{decimal};
-ghost use Rattle.std.specs.Result.{MatchResult};
+ghost use Rattle.std.specs.Prelude.{◌≡◌, ◌++◌, map, IfOk, IfErr, OnOk, decimal, MatchResult};
 ghost use Rattle.il_ast.specs.declared.program.Program.{Program};
 ghost use Rattle.obj_link.specs.Program.{IsProgram};
 ghost use Rattle.obj_link.specs.ProgramOf.{program};

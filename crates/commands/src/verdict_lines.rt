@@ -1,6 +1,5 @@
 //! The lines of what is found of texts.
-ghost use Rattle.std.specs.Prelude.{◌≡◌, map, IfOk};
-ghost use Rattle.std.specs.String.{string_bytes};
+ghost use Rattle.std.specs.Prelude.{◌≡◌, map, IfOk, string_bytes};
 ghost use Rattle.commands.specs.Verdicts.{code_of, error_line, path_of, verdict_lines, warning_line};
 
 use crate::verdict::{Finding, Verdict};

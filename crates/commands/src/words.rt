@@ -1,6 +1,5 @@
 //! The words that a process is given.
-ghost use Rattle.std.specs.Prelude.{◌≡◌, map, drop, IfOk};
-ghost use Rattle.std.specs.String.{string_bytes};
+ghost use Rattle.std.specs.Prelude.{◌≡◌, map, drop, IfOk, string_bytes};
 
 use std::alloc::{AllocError, Global};
 

@@ -2,8 +2,7 @@
 -- for the data if there is any, the code's words on the next page, the data on the page after them;
 -- zeros between. ELF64 object file format, "File Header", "Program Header"; e_phnum program headers
 -- follow the file's header.
-use Rattle.std.specs.Prelude.{ℕ, ◌+◌, ◌-◌, List, [], ◌∷◌, ◌++◌, length, replicate}
-use Rattle.std.specs.List.{flat_map}
+use Rattle.std.specs.Prelude.{ℕ, ◌+◌, ◌-◌, List, [], ◌∷◌, ◌++◌, length, replicate, flat_map}
 use Rattle.byteorder.specs.Endian.{little_bytes}
 use Rattle.obj_link.specs.Image.{Contents, code_start, code_size, data_start, round_to_page}
 use Rattle.elf_file.specs.declared.flags.Flags.{Flags}

@@ -1,6 +1,5 @@
 -- A call on bytes shows the call on blocks, and goes on beside it from whatever shows how that goes.
-use Rattle.std.proofs.Common.{ℕ, ◌+◌, ◌-◌, ◌≤◌, inl, List, map, Option, Some, None, refl, sym, ◌∙◌, ap, subst, arith}
-use Rattle.std.specs.Option.{option_map}
+use Rattle.std.proofs.Common.{ℕ, ◌+◌, ◌-◌, ◌≤◌, inl, List, map, Option, Some, None, refl, sym, ◌∙◌, ap, subst, arith, option_map}
 use Rattle.il_ast.specs.declared.value.Value.{Value}
 use Rattle.il_ast.specs.declared.value.Value.TheVariants.{Integer, Pointer, Function}
 use Rattle.il_ast.specs.Run.{Spent, both, Outcome, Returned, Ended}

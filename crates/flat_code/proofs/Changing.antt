@@ -1,6 +1,5 @@
 -- Cells written into a block, and bytes where it stands.
-use Rattle.std.proofs.Common.{◌≡◌, ◌≢◌, ℕ, zero, suc, ◌+◌, ◌-◌, ◌^◌, ◌<◌, ◌≤◌, ◌⊎◌, inl, inr, Bool, true, false, ◌&&◌, if◌then◌else◌, List, [], ◌∷◌, ◌++◌, length, take, drop, slice_get, Option, Some, None, refl, sym, ◌∙◌, ap, subst, arith, length-append}
-use Rattle.std.specs.Prelude.{nat_eq, nat_le, nat_lt, slice_set}
+use Rattle.std.proofs.Common.{◌≡◌, ◌≢◌, ℕ, zero, suc, ◌+◌, ◌-◌, ◌^◌, ◌<◌, ◌≤◌, ◌⊎◌, inl, inr, Bool, true, false, ◌&&◌, if◌then◌else◌, List, [], ◌∷◌, ◌++◌, length, take, drop, slice_get, Option, Some, None, refl, sym, ◌∙◌, ap, subst, arith, length-append, nat_eq, nat_le, nat_lt, slice_set, length-drop}
 use Rattle.std.specs.Option.{option_map, option_and_then, option_flatten}
 use Rattle.std.proofs.lemmas.Bool.Decides.{nat_tests}
 use Rattle.std.proofs.lemmas.Option.{slice_get_within, same_Some, none-some}
@@ -12,7 +11,6 @@ use Rattle.flat_code.specs.Step.{is_there, all_there, is_in}
 use Rattle.flat_code.proofs.Standing.{two_addresses}
 use Rattle.flat_code.proofs.Runs.{cell_there, not_away, taken_get, dropped_get}
 use Rattle.il_ast.proofs.Listed.{get_set_same, length_slice_set, get_below, length_take, get_set_apart}
-use Rattle.std.proofs.lemmas.List.{length-drop}
 
 -- memory and bytes after a change: the blocks of before, shown, and no further address
 pub record Changed (e : Entries) (p : Bases) (m : Memory) (f : Spots) (n : Memory) (g : Spots) : Type 0 where

@@ -1,6 +1,5 @@
 -- Every regular code on bytes keeps the same code on blocks: their steps go beside each other from the start on.
-use Rattle.std.proofs.Common.{◌≡◌, ℕ, ◌+◌, ◌<◌, ◌≤◌, List, [], ◌∷◌, map, drop, length, slice_get, Option, Some, None, refl, sym, subst, arith}
-use Rattle.std.specs.List.{sum_by}
+use Rattle.std.proofs.Common.{◌≡◌, ℕ, ◌+◌, ◌<◌, ◌≤◌, List, [], ◌∷◌, map, drop, length, slice_get, Option, Some, None, refl, sym, subst, arith, sum_by}
 use Rattle.std.proofs.lemmas.List.Sums.{sum_by-cons}
 use Rattle.il_ast.specs.Keeps.{AreArgs}
 use Rattle.vcode.specs.declared.place.Location.{Location}

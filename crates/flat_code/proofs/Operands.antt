@@ -1,6 +1,5 @@
 -- What operands and an operation on two of them are, beside each other.
-use Rattle.std.specs.Prelude.{ℕ, Bool, true, false, nat_eq, if◌then◌else◌, Option}
-use Rattle.std.specs.Option.{option_map, option_and_then}
+use Rattle.std.proofs.Common.{ℕ, Bool, true, false, nat_eq, if◌then◌else◌, Option, option_map, option_and_then}
 use Rattle.il_ast.specs.declared.value.Value.{Value}
 use Rattle.vcode.specs.declared.place.Location.{Location}
 use Rattle.rv_isa.specs.declared.instruction.RegOp.TheVariants.{Add}

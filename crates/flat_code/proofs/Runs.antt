@@ -1,8 +1,6 @@
 -- Cells one after another that bytes show, and the number of those bytes.
-use Rattle.std.proofs.Common.{◌≡◌, ◌≢◌, ℕ, zero, suc, ◌+◌, ◌-◌, ◌*◌, ◌/◌, ◌%◌, ◌^◌, ◌<◌, ◌≤◌, Bool, true, false, ◌&&◌, if◌then◌else◌, List, [], ◌∷◌, length, take, drop, slice_get, Option, Some, None, refl, sym, ◌∙◌, ap, subst, arith}
-use Rattle.std.specs.Prelude.{nat_eq, nat_le}
+use Rattle.std.proofs.Common.{◌≡◌, ◌≢◌, ℕ, zero, suc, ◌+◌, ◌-◌, ◌*◌, ◌/◌, ◌%◌, ◌^◌, ◌<◌, ◌≤◌, Bool, true, false, ◌&&◌, if◌then◌else◌, List, [], ◌∷◌, length, take, drop, slice_get, Option, Some, None, refl, sym, ◌∙◌, ap, subst, arith, nat_eq, nat_le, option_map, option_and_then, length-drop}
 use Rattle.std.specs.Int.{byte_at}
-use Rattle.std.specs.Option.{option_map, option_and_then}
 use Rattle.std.proofs.Math.Nat.{pow-suc, div-div-eq-div-mul}
 use Rattle.std.proofs.lemmas.Bool.Decides.{nat_tests}
 use Rattle.std.proofs.lemmas.Option.{slice_get_past, same_Some, none-some}
@@ -18,7 +16,6 @@ use Rattle.flat_code.specs.Step.{read_spot, known_number, is_there, all_there}
 use Rattle.flat_code.proofs.Shown.{shown_by_one}
 use Rattle.flat_code.proofs.Operating.{callee_is}
 use Rattle.il_ast.proofs.Listed.{length_take}
-use Rattle.std.proofs.lemmas.List.{length-drop}
 
 -- the cells are shown by the bytes from an address upward
 abbrev pub RunShows : Entries → Bases → Spots → ℕ → List Cell → Type 0

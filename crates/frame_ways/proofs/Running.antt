@@ -1,6 +1,5 @@
 -- The code of a plan that is right runs as the function's does.
-use Rattle.std.proofs.Common.{◌≡◌, ℕ, ◌+◌, Bool, true, false, List, refl, sym, ap, ◌∙◌, subst}
-use Rattle.std.specs.Prelude.{nat_eq, nat_lt, if◌then◌else◌, slice_get, Option, Some, None}
+use Rattle.std.proofs.Common.{◌≡◌, ℕ, ◌+◌, Bool, true, false, List, refl, sym, ap, ◌∙◌, subst, nat_eq, nat_lt, if◌then◌else◌, slice_get, Option, Some, None}
 use Rattle.std.proofs.lemmas.Bool.{and_parts, eqb-true}
 use Rattle.il_ast.proofs.Listed.{get_mapped}
 use Rattle.il_ast.specs.declared.operation.Class.{Class}

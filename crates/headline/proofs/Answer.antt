@@ -1,6 +1,5 @@
 -- From a run on bytes whose calls are open, and callees that are kept: a run on bytes with the list of its calls, each of which the machine performs.
-use Rattle.std.proofs.Common.{◌≡◌, ℕ, zero, suc, List, [], ◌∷◌, refl, sym, subst}
-use Rattle.std.specs.Prelude.{Option}
+use Rattle.std.proofs.Common.{◌≡◌, ℕ, zero, suc, List, [], ◌∷◌, refl, sym, subst, Option}
 use Rattle.il_ast.specs.declared.operation.Class.{Class}
 use Rattle.il_ast.specs.Memory.{Memory}
 use Rattle.il_ast.specs.Run.{Outcome, Returned, Ended, Callees}

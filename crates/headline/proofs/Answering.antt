@@ -1,5 +1,5 @@
 -- What a run answers of a program that the machine executes.
-use Rattle.std.proofs.Common.{◌≡◌, ◌⊎◌, inl, inr, ℕ, zero, suc, ◌+◌, ◌-◌, ◌*◌, ◌<◌, ◌≤◌, Bool, List, Result, Ok, Err, refl, sym, ◌∙◌, ap, subst, arith}
+use Rattle.std.proofs.Common.{◌≡◌, ◌⊎◌, inl, inr, ℕ, zero, suc, ◌+◌, ◌-◌, ◌*◌, ◌<◌, ◌≤◌, Bool, List, Result, Ok, Err, refl, sym, ◌∙◌, ap, subst, arith, append-nil}
 use Rattle.il_ast.specs.declared.program.Program.{Program}
 use Rattle.il_ast.specs.declared.value.End.{End}
 use Rattle.il_ast.specs.declared.value.End.TheVariants.{Exit, Halt, Undefined, Stack, Turns}
@@ -11,7 +11,6 @@ use Rattle.rv_machine.specs.declared.stop.Stop.{Stop}
 use Rattle.rv_machine.specs.declared.stop.Stop.TheVariants.{Exit as ExitStop, Break, Limit, Memory, Fault}
 use Rattle.rv_machine.specs.Runs.{RunEnds, StopsWith, GoesOn, WantsMemory}
 use Rattle.rv_machine.proofs.OutputLaws.{after_output, run_after, runs_after}
-use Rattle.std.proofs.lemmas.List.{append-nil}
 use Rattle.headline.specs.Headline.{Executes, StopsSo, GoesOnSo}
 use Rattle.headline.specs.Endless.{IsBeginning}
 use Rattle.headline.specs.Answered.{StopsAs, IsCut, IsDefined, Shows, Answers, RunsAnswer}

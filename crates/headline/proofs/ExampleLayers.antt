@@ -1,6 +1,5 @@
 -- The layers of the example keep its one function.
-use Rattle.std.proofs.Common.{◌≡◌, ℕ, zero, suc, ◌-◌, List, [], ◌∷◌, map, refl, sym, ◌∙◌, subst, ap, arith, lit<, lit≤}
-use Rattle.std.specs.Prelude.{Option, Some}
+use Rattle.std.proofs.Common.{◌≡◌, ℕ, zero, suc, ◌-◌, List, [], ◌∷◌, map, refl, sym, ◌∙◌, subst, ap, arith, lit<, lit≤, Option, Some, append-nil}
 use Rattle.il_ast.specs.declared.operation.Class.TheVariants.{W}
 use Rattle.il_ast.specs.declared.operation.Class.{Class}
 use Rattle.il_ast.specs.declared.function.Param.{Param}
@@ -34,7 +33,6 @@ use Rattle.headline.specs.Functions.{body_of, FunctionsKept}
 use Rattle.headline.specs.Example.{setting, halting, flat_halting, begin, step, flat_begin, flat_step}
 use Rattle.headline.proofs.Answer.{grown_same}
 use Rattle.headline.proofs.LayersKeep.{layers_keep}
-use Rattle.std.proofs.lemmas.List.{append-nil}
 
 -- the function of the example
 abbrev pub main_function : InText Func

@@ -1,9 +1,7 @@
 -- The example meets all that the theorem asks.
-use Rattle.std.proofs.Common.{◌≡◌, ◌≢◌, ℕ, zero, suc, ◌+◌, ◌-◌, ◌%◌, ◌^◌, ◌<◌, ◌≤◌, Bool, true, false, List, [], ◌∷◌, refl, sym, ◌∙◌, subst, ap, arith, lit<, lit≤}
+use Rattle.std.proofs.Common.{◌≡◌, ◌≢◌, ℕ, zero, suc, ◌+◌, ◌-◌, ◌%◌, ◌^◌, ◌<◌, ◌≤◌, Bool, true, false, List, [], ◌∷◌, refl, sym, ◌∙◌, subst, ap, arith, lit<, lit≤, ◌==◌, ◌&&◌, if◌then◌else◌, nat_le, nat_lt, slice_get, unwrap_or, replicate, Some, None, Ok, Err, pos}
 use Rattle.std.proofs.lemmas.Bool.Decides.{nat_tests}
-use Rattle.std.specs.Prelude.{◌==◌, ◌&&◌, if◌then◌else◌, nat_le, nat_lt, slice_get, unwrap_or, replicate, Some, None, Ok, Err}
 use Rattle.std.proofs.lemmas.Option.{slice_get_past, none-some}
-use Rattle.std.specs.Prelude.{pos}
 use Rattle.std.proofs.lemmas.Int.{ints}
 use Rattle.bits.specs.Words.{sign_extended, Fits12}
 use Rattle.il_ast.specs.declared.operation.Class.TheVariants.{W}

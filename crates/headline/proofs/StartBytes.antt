@@ -1,6 +1,5 @@
 -- The bytes of the argument range, one after another, and the blocks of the start that they show.
-use Rattle.std.proofs.Common.{◌≡◌, inl, ℕ, suc, ◌+◌, ◌%◌, ◌^◌, ◌<◌, ◌≤◌, List, [], ◌∷◌, ◌++◌, length, map, refl, ◌∙◌, subst, ap, arith, length-append}
-use Rattle.std.specs.Prelude.{Some}
+use Rattle.std.proofs.Common.{◌≡◌, inl, ℕ, suc, ◌+◌, ◌%◌, ◌^◌, ◌<◌, ◌≤◌, List, [], ◌∷◌, ◌++◌, length, map, refl, ◌∙◌, subst, ap, arith, length-append, Some}
 use Rattle.std.specs.Int.{w64, to_le_bytes}
 use Rattle.il_ast.specs.declared.value.Cell.TheVariants.{Plain}
 use Rattle.il_ast.specs.declared.value.Value.TheVariants.{Pointer}

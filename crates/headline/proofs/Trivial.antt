@@ -1,6 +1,5 @@
 -- Calls that are kept because nothing is owed, or because nothing is done.
-use Rattle.std.proofs.Common.{sym, ◌≡◌, ℕ, Bool, true, false, refl, ap, arith}
-use Rattle.std.specs.Prelude.{if◌then◌else◌}
+use Rattle.std.proofs.Common.{sym, ◌≡◌, ℕ, Bool, true, false, refl, ap, arith, if◌then◌else◌, append-nil}
 use Rattle.il_ast.specs.declared.value.End.TheVariants.{Undefined, Stack, Turns}
 use Rattle.il_ast.specs.Run.{Spent, nothing, Outcome, Ended}
 use Rattle.il_ast.specs.Keeps.{Asked}
@@ -8,7 +7,6 @@ use Rattle.rv_isa.specs.Runs.{runs}
 use Rattle.flat_code.specs.Flat.{FlatEnded}
 use Rattle.headline.specs.Knot.{Setting, KeepsCall}
 use Rattle.headline.proofs.Answer.{grown_same}
-use Rattle.std.proofs.lemmas.List.{append-nil}
 
 pub undefined_kept : (c : Setting) (sp : ℕ) (i : Asked) (s : Spent) → KeepsCall c sp i (Ended s Undefined)
 undefined_kept c sp i s p j g shows good =

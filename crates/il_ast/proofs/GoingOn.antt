@@ -1,6 +1,5 @@
 -- More turns go on from where fewer stopped.
-use Rattle.std.proofs.Common.{◌≡◌, ◌≢◌, ℕ, zero, suc, ◌-◌, ◌≤◌, Bool, true, false, List, [], ◌∷◌, ◌++◌, map, refl, sym, ◌∙◌, ap, subst, append_assoc, arith, cond}
-use Rattle.std.specs.Prelude.{nat_lt, slice_get, Option, Some, None}
+use Rattle.std.proofs.Common.{◌≡◌, ◌≢◌, ℕ, zero, suc, ◌-◌, ◌≤◌, Bool, true, false, List, [], ◌∷◌, ◌++◌, map, refl, sym, ◌∙◌, ap, subst, append_assoc, arith, cond, nat_lt, slice_get, Option, Some, None}
 use Rattle.il_ast.specs.declared.operand.Dest.{Dest}
 use Rattle.il_ast.specs.declared.function.Param.{Param}
 use Rattle.il_ast.specs.declared.function.Func.{Func}

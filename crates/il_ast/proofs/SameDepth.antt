@@ -1,6 +1,5 @@
 -- Depth of calls, and steps, beyond the turns change nothing.
-use Rattle.std.proofs.Common.{◌≡◌, ℕ, zero, suc, ◌-◌, ◌<◌, ◌≤◌, Bool, map, refl, ap, ◌∙◌, arith, cond}
-use Rattle.std.specs.Prelude.{nat_lt, slice_get, Option, Some, None}
+use Rattle.std.proofs.Common.{◌≡◌, ℕ, zero, suc, ◌-◌, ◌<◌, ◌≤◌, Bool, map, refl, ap, ◌∙◌, arith, cond, nat_lt, slice_get, Option, Some, None}
 use Rattle.il_ast.specs.declared.operand.Dest.{Dest}
 use Rattle.il_ast.specs.declared.function.Param.{Param}
 use Rattle.il_ast.specs.declared.function.Func.{Func}

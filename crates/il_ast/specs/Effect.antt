@@ -1,7 +1,6 @@
 -- What one turn does: one instruction, or one jump with the phis of the block that it enters (QBE
 -- IL, "Instructions", "Jumps", "Phi").
-use Rattle.std.specs.Prelude.{ℕ, ◌+◌, ◌/◌, ◌%◌, ◌^◌, nat_eq, if◌then◌else◌, List, [], ◌∷◌, ◌++◌, map, length, slice_get, slice_set, Option, Some, None}
-use Rattle.std.specs.List.{position, find}
+use Rattle.std.specs.Prelude.{ℕ, ◌+◌, ◌/◌, ◌%◌, ◌^◌, nat_eq, if◌then◌else◌, List, [], ◌∷◌, ◌++◌, map, length, slice_get, slice_set, Option, Some, None, position, find}
 use Rattle.std.specs.Option.{option_map, option_and_then, option_flatten}
 use Rattle.il_ast.specs.declared.operation.Class.{Class}
 use Rattle.il_ast.specs.declared.operation.Class.TheVariants.{W, L}

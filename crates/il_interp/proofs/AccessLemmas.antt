@@ -1,6 +1,5 @@
 -- Loads and stores of integers.
-use Rattle.std.proofs.Common.{◌≡◌, ℕ, ◌+◌, ◌%◌, ◌^◌, Bool, true, false, List, ap, sym, ◌∙◌}
-use Rattle.std.specs.Prelude.{slice_get, slice_set, Option, Some, MatchBool}
+use Rattle.std.proofs.Common.{◌≡◌, ℕ, ◌+◌, ◌%◌, ◌^◌, Bool, true, false, List, ap, sym, ◌∙◌, slice_get, slice_set, Option, Some, MatchBool}
 use Rattle.std.specs.Option.{option_and_then, option_flatten}
 use Rattle.il_ast.specs.declared.operation.Class.{Class}
 use Rattle.il_ast.specs.declared.operation.Class.TheVariants.{L}

@@ -1,7 +1,5 @@
 -- Lists: what is found one by one, and what stands in a mapped list.
-use Rattle.std.proofs.Common.{◌≡◌, ℕ, zero, suc, map, refl, List, [], ◌∷◌, ◌++◌}
-use Rattle.std.specs.Prelude.{slice_get, Option, Some, None}
-use Rattle.std.specs.Option.{option_map}
+use Rattle.std.proofs.Common.{◌≡◌, ℕ, zero, suc, map, refl, List, [], ◌∷◌, ◌++◌, slice_get, Option, Some, None, option_map}
 
 pub mapped : {A B : Type 0} (f : A → B) (xs : List A) (i : ℕ) → slice_get (map f xs) i ≡ option_map f (slice_get xs i)
 mapped f [] i = refl

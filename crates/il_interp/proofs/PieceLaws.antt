@@ -1,6 +1,5 @@
 -- A run in hand, and what it comes to.
-use Rattle.std.proofs.Common.{◌≡◌, ℕ, ◌+◌, Bool, true, false, List, [], ◌++◌, ap, ap₂, sym, ◌∙◌, refl, add-zero, append-nil}
-use Rattle.std.specs.Prelude.{nat_lt, if◌then◌else◌, slice_get, map, Option, Some, None}
+use Rattle.std.proofs.Common.{◌≡◌, ℕ, ◌+◌, Bool, true, false, List, [], ◌++◌, ap, ap₂, sym, ◌∙◌, refl, add-zero, append-nil, nat_lt, if◌then◌else◌, slice_get, map, Option, Some, None}
 use Rattle.il_ast.specs.declared.function.Param.{Param}
 use Rattle.il_ast.specs.declared.function.Func.{Func}
 use Rattle.il_ast.specs.declared.program.InText.{InText}

@@ -1,7 +1,5 @@
 -- A pile is a vector from its end.
-use Rattle.std.proofs.Common.{◌≡◌, List, [], ◌∷◌, ◌++◌, refl, ap, ◌∙◌, reverse, length, arith}
-use Rattle.std.specs.Prelude.{Option, Some, None}
-use Rattle.std.specs.Option.{option_to_list, MatchOption}
+use Rattle.std.proofs.Common.{◌≡◌, List, [], ◌∷◌, ◌++◌, refl, ap, ◌∙◌, reverse, length, arith, Option, Some, None, option_to_list, MatchOption}
 use Rattle.std.proofs.lemmas.List.{reverse-append}
 use Rattle.il_interp.specs.declared.state.Frame.{Frame}
 use Rattle.il_interp.specs.Popped.{IsPopped}

@@ -1,6 +1,5 @@
 -- Slots as the values that they hold.
-use Rattle.std.proofs.Common.{◌≡◌, ℕ, zero, suc, ◌≤◌, List, [], ◌∷◌, length, map, refl, ap, arith}
-use Rattle.std.specs.Prelude.{slice_set, replicate, Option, None}
+use Rattle.std.proofs.Common.{◌≡◌, ℕ, zero, suc, ◌≤◌, List, [], ◌∷◌, length, map, refl, ap, arith, slice_set, replicate, Option, None}
 use Rattle.il_ast.specs.declared.value.Value.{Value}
 use Rattle.il_interp.specs.declared.slots.Slot.{Slot}
 use Rattle.il_interp.specs.declared.slots.Slot.TheVariants.{Unassigned}

@@ -1,6 +1,5 @@
 -- What is worked out before a run: the room that functions need, and the places of their labels.
-use Rattle.std.specs.Prelude.{ℕ, List, map, slice_get, Option}
-use Rattle.std.specs.Option.{option_and_then}
+use Rattle.std.specs.Prelude.{ℕ, List, map, slice_get, Option, option_and_then}
 use Rattle.il_ast.specs.declared.function.Func.{Func}
 use Rattle.il_ast.specs.declared.program.InText.{InText}
 use Rattle.il_ast.specs.Cost.{need}

@@ -1,6 +1,5 @@
 //! Calls.
-ghost use Rattle.std.specs.Prelude.{◌≡◌, ◌+◌, ◌<◌, ◌^◌, ◌&&◌, [], ◌∷◌, map, length, replicate, slice_get, None, Some, IfOk};
-ghost use Rattle.std.specs.Option.{option_map};
+ghost use Rattle.std.specs.Prelude.{◌≡◌, ◌+◌, ◌<◌, ◌^◌, ◌&&◌, [], ◌∷◌, map, length, replicate, slice_get, None, Some, IfOk, option_map};
 ghost use Rattle.il_ast.specs.declared.instruction.Inst.TheVariants.{Call};
 ghost use Rattle.il_ast.specs.declared.function.Param.{Param as ParamOf};
 ghost use Rattle.il_ast.specs.declared.operand.Arg.{Arg as ArgOf};

@@ -1,7 +1,5 @@
 //! Jumps.
-ghost use Rattle.std.specs.Prelude.{◌≡◌, ℕ, Some, None, slice_get, IfOk, MatchBool, MatchOption, nat_eq, true};
-ghost use Rattle.std.specs.List.{find};
-ghost use Rattle.std.specs.Option.{option_and_then};
+ghost use Rattle.std.specs.Prelude.{◌≡◌, ℕ, Some, None, slice_get, IfOk, MatchBool, MatchOption, nat_eq, true, find, option_and_then};
 ghost use Rattle.il_ast.specs.declared.block.PhiArg.{PhiArg as PhiArgOf};
 ghost use Rattle.il_ast.specs.declared.instruction.Jump.TheVariants.{Return};
 ghost use Rattle.il_ast.specs.Start.{globals_of};

@@ -1,6 +1,5 @@
 //! The cells of data.
-ghost use Rattle.std.specs.Prelude.{◌≡◌, ◌++◌, map, replicate, IfOk, OnOk};
-ghost use Rattle.std.specs.List.{flat_map};
+ghost use Rattle.std.specs.Prelude.{◌≡◌, ◌++◌, map, replicate, IfOk, OnOk, flat_map};
 ghost use Rattle.il_ast.specs.declared.value.Cell.TheVariants.{Plain as PlainCell, Blank as BlankCell};
 ghost use Rattle.il_ast.specs.Values.{bytes_of, byte_count};
 ghost use Rattle.il_ast.specs.Memory.{parts};

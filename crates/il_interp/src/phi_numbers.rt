@@ -1,6 +1,5 @@
 //! Phis that take integers.
-ghost use Rattle.std.specs.Prelude.{◌≡◌, [], ◌∷◌, List, map, Some, IfOk, IfSome, MatchBool, true};
-ghost use Rattle.std.specs.Option.{option_map};
+ghost use Rattle.std.specs.Prelude.{◌≡◌, [], ◌∷◌, List, map, Some, IfOk, IfSome, MatchBool, true, option_map};
 ghost use Rattle.il_ast.specs.declared.value.Value.{Value as ValueOf};
 ghost use Rattle.il_ast.specs.declared.value.Value.TheVariants.{Integer};
 ghost use Rattle.il_ast.specs.Effect.{phi_value, phi_values, with_phis};

@@ -1,6 +1,5 @@
 //! What is worked out once, before a run.
-ghost use Rattle.std.specs.Prelude.{◌≡◌, ℕ, map, slice_get, IfOk};
-ghost use Rattle.std.specs.Option.{option_map};
+ghost use Rattle.std.specs.Prelude.{◌≡◌, ℕ, map, slice_get, IfOk, option_map};
 ghost use Rattle.il_ast.specs.Cost.{need};
 ghost use Rattle.il_types.specs.Capped.{capped};
 ghost use Rattle.obj_link.specs.Shown.{shown};

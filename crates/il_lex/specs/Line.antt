@@ -1,6 +1,5 @@
 -- Lines of a text.
-use Rattle.std.specs.Prelude.{ℕ, ◌+◌, ◌==◌, List, take}
-use Rattle.std.specs.List.{count_by}
+use Rattle.std.specs.Prelude.{ℕ, ◌+◌, ◌==◌, List, take, count_by}
 use Rattle.il_lex.specs.declared.kind.Kind.{Kind}
 use Rattle.il_lex.specs.declared.kind.Kind.TheVariants.{Newline}
 

@@ -1,8 +1,7 @@
 //! Strings: their items, and what they stand for.
 
-ghost use Rattle.std.specs.Prelude.{◌≡◌, ◌+◌, ◌<◌, ◌≤◌, List, ℕ, ◌++◌, drop, length, take, IfSome, IfOk, OnOk};
+ghost use Rattle.std.specs.Prelude.{◌≡◌, ◌+◌, ◌<◌, ◌≤◌, List, ℕ, ◌++◌, drop, length, take, IfSome, IfOk, OnOk, option_map};
 ghost use Rattle.std.specs.List.{prefix_len};
-ghost use Rattle.std.specs.Option.{option_map};
 ghost use Rattle.il_lex.specs.Quoted.{is_plain, escaped, IsString};
 ghost use Rattle.il_lex.specs.Scan.{octal_third, octal_second, escape, item, items_len, items, string_bytes};
 

@@ -1,9 +1,7 @@
 -- The cells of a span, one after another.
-use Rattle.std.proofs.Common.{◌≡◌, ℕ, zero, suc, ◌+◌, ◌-◌, ◌<◌, ◌≤◌, List, [], ◌∷◌, ◌++◌, length, take, drop, refl, ap, ◌∙◌, arith}
-use Rattle.std.specs.Prelude.{slice_get, slice_set, Some}
+use Rattle.std.proofs.Common.{◌≡◌, ℕ, zero, suc, ◌+◌, ◌-◌, ◌<◌, ◌≤◌, List, [], ◌∷◌, ◌++◌, length, take, drop, refl, ap, ◌∙◌, arith, slice_get, slice_set, Some, length-drop}
 use Rattle.il_mem.specs.Written.{written}
 use Rattle.il_ast.proofs.Listed.{length_take, drop_at}
-use Rattle.std.proofs.lemmas.List.{length-drop}
 
 pub get_take : {A : Type 0} (s : List A) (n k : ℕ) (x : A) → k < n → slice_get s k ≡ Some x → slice_get (take n s) k ≡ Some x
 get_take s zero k x lt h = absurd (omega arith)

@@ -1,6 +1,5 @@
 //! One block: its cells, in little room.
-ghost use Rattle.std.specs.Prelude.{◌≡◌, ◌+◌, ◌<◌, ◌≤◌, List, [], ◌∷◌, ◌++◌, length, map, replicate, take, drop, slice_get, slice_set, vec_capacity, MatchBool, Some, IfOk, IfSome, IsTrue, ◌↔◌, OnOk};
-ghost use Rattle.std.specs.Option.{option_and_then, option_map};
+ghost use Rattle.std.specs.Prelude.{◌≡◌, ◌+◌, ◌<◌, ◌≤◌, List, [], ◌∷◌, ◌++◌, length, map, replicate, take, drop, slice_get, slice_set, vec_capacity, MatchBool, Some, IfOk, IfSome, IsTrue, ◌↔◌, OnOk, option_and_then, option_map};
 ghost use Rattle.il_ast.specs.declared.value.Cell.TheVariants.{Blank, Plain};
 ghost use Rattle.il_ast.specs.declared.value.Value.{Value as ValueOf};
 ghost use Rattle.il_ast.specs.Values.{byte_count, bytes_of, number_of};

@@ -1,6 +1,5 @@
 //! Spans of the cells of a block.
-ghost use Rattle.std.specs.Prelude.{◌≡◌, ◌+◌, ◌<◌, ◌≤◌, length, nat_le, Some, None, IfOk, IfSome, MatchOption};
-ghost use Rattle.std.specs.Option.{option_and_then};
+ghost use Rattle.std.specs.Prelude.{◌≡◌, ◌+◌, ◌<◌, ◌≤◌, length, nat_le, Some, None, IfOk, IfSome, MatchOption, option_and_then};
 ghost use Rattle.il_ast.specs.declared.value.Value.TheVariants.{Integer};
 ghost use Rattle.il_ast.specs.Values.{byte_count};
 ghost use Rattle.il_ast.specs.Memory.{span, value_of, plain_bytes};

@@ -1,6 +1,5 @@
 //! Copies from one block to another.
-ghost use Rattle.std.specs.Prelude.{◌≡◌, ◌≢◌, ◌<◌, length, slice_get};
-ghost use Rattle.std.specs.Option.{option_and_then};
+ghost use Rattle.std.specs.Prelude.{◌≡◌, ◌≢◌, ◌<◌, length, slice_get, option_and_then};
 ghost use Rattle.il_ast.specs.Memory.{span};
 ghost use Rattle.il_mem.specs.Changed.{cells_put, Changes};
 

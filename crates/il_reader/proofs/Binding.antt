@@ -1,6 +1,5 @@
 -- Steps one after another, of which it is known what the first reads.
-use Rattle.std.proofs.Common.{◌≡◌, List, Option, Some, None, refl, ap}
-use Rattle.std.specs.Prelude.{option_and_then}
+use Rattle.std.proofs.Common.{◌≡◌, List, Option, Some, None, refl, ap, option_and_then}
 use Rattle.il_reader.specs.State.{State}
 use Rattle.il_reader.specs.Steps.{Step, ◌>>=◌, ◌>>◌}
 use Rattle.il_reader.specs.Reading.{on_line, line_ends}

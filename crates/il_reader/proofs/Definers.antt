@@ -1,6 +1,5 @@
 -- What functions, data definitions and texts mention.
-use Rattle.std.proofs.Common.{◌≡◌, ℕ, Bool, List, [], ◌++◌, length, Option, ap, ◌∙◌, ⊎_elim}
-use Rattle.std.specs.List.{flat_map}
+use Rattle.std.proofs.Common.{◌≡◌, ℕ, Bool, List, [], ◌++◌, length, Option, ap, ◌∙◌, ⊎_elim, flat_map}
 use Rattle.il_ast.specs.declared.block.Block.{Block}
 use Rattle.il_ast.specs.declared.datum.DataDef.{DataDef}
 use Rattle.il_reader.specs.State.{State}

@@ -1,6 +1,5 @@
 -- Functions.
-use Rattle.std.proofs.Common.{◌≡◌, ℕ, Bool, true, false, List, [], ◌∷◌, length, arith, Option, Some, refl, sym, ap, ◌∙◌, subst}
-use Rattle.std.specs.Prelude.{codes}
+use Rattle.std.proofs.Common.{◌≡◌, ℕ, Bool, true, false, List, [], ◌∷◌, length, arith, Option, Some, refl, sym, ap, ◌∙◌, subst, codes}
 use Rattle.std.proofs.lemmas.Option.{some_pair_parts}
 use Rattle.il_lex.specs.declared.kind.Symbol.TheVariants.{Comma, LeftBrace, RightBrace, LeftParen, RightParen}
 use Rattle.il_lex.specs.declared.kind.Kind.{Kind}

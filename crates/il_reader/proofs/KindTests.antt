@@ -1,6 +1,5 @@
 -- Tests of the next token's kind that exclude or imply one another.
-use Rattle.std.proofs.Common.{◌≡◌, ℕ, Bool, true, false, cond, refl}
-use Rattle.std.specs.Prelude.{not}
+use Rattle.std.proofs.Common.{◌≡◌, ℕ, Bool, true, false, cond, refl, not}
 use Rattle.std.proofs.lemmas.Bool.{false≢true}
 use Rattle.il_lex.specs.declared.kind.Symbol.TheVariants.{Comma, Equals, LeftBrace, RightBrace, LeftParen, RightParen, Plus}
 use Rattle.il_lex.specs.declared.kind.Kind.{Kind}

@@ -1,6 +1,5 @@
 -- Lists with commas, and what may be left out.
-use Rattle.std.proofs.Common.{◌≡◌, inl, inr, ⊎_elim, ℕ, zero, suc, ◌<◌, Bool, true, false, cond, List, [], ◌∷◌, length, Option, Some, None, refl, sym, ap, ◌∙◌, arith, subst}
-use Rattle.std.specs.Prelude.{option_and_then}
+use Rattle.std.proofs.Common.{◌≡◌, inl, inr, ⊎_elim, ℕ, zero, suc, ◌<◌, Bool, true, false, cond, List, [], ◌∷◌, length, Option, Some, None, refl, sym, ap, ◌∙◌, arith, subst, option_and_then}
 use Rattle.std.proofs.lemmas.Option.{option_and_then_some, some_pair_parts, none-some}
 use Rattle.il_lex.proofs.Runs.{cond_cases}
 use Rattle.il_reader.specs.State.{State}

@@ -1,8 +1,5 @@
 -- Each rule goes from the names before it to those behind it by the numbers that it mentions, in the order of the text.
-use Rattle.std.proofs.Common.{◌≡◌, ℕ, ◌+◌, cond, List, [], ◌∷◌, ◌++◌, Option, Some, None, refl, sym, ap, ◌∙◌, ⊎_elim, subst, append_assoc}
-use Rattle.std.specs.Prelude.{nat_eq, nat_lt}
-use Rattle.std.specs.List.{flat_map}
-use Rattle.std.proofs.lemmas.List.{append-nil}
+use Rattle.std.proofs.Common.{◌≡◌, ℕ, ◌+◌, cond, List, [], ◌∷◌, ◌++◌, Option, Some, None, refl, sym, ap, ◌∙◌, ⊎_elim, subst, append_assoc, nat_eq, nat_lt, flat_map, append-nil}
 use Rattle.il_lex.specs.declared.kind.Symbol.{Symbol as Mark}
 use Rattle.il_lex.specs.declared.kind.Kind.{Kind}
 use Rattle.il_lex.specs.declared.kind.Kind.TheVariants.{Symbol, Newline, Word, Natural, Negative, Quoted}

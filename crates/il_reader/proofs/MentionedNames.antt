@@ -1,9 +1,6 @@
 -- What is mentioned, in the words of the tree.
-use Rattle.std.proofs.Common.{◌≡◌, ℕ, List, [], ◌∷◌, ◌++◌, Option, Some, None, refl, ap, ◌∙◌}
+use Rattle.std.proofs.Common.{◌≡◌, ℕ, List, [], ◌∷◌, ◌++◌, Option, Some, None, refl, ap, ◌∙◌, map, flat_map, append-nil}
 use mathlib.Core.Path.{fun_ext}
-use Rattle.std.specs.Prelude.{map}
-use Rattle.std.specs.List.{flat_map}
-use Rattle.std.proofs.lemmas.List.{append-nil}
 use Rattle.il_ast.specs.Mentions.{temps_of, labels_of, temps_in_value, temps_in_phi, temps_in_inst, temps_in_jump, temps_at_end, temps_in_block, labels_in_jump, labels_at_end, labels_in_block}
 use Rattle.il_ast.specs.Symbols.{symbols_of, symbols_in_value, symbols_in_phi, symbols_in_inst, symbols_in_jump, symbols_at_end, symbols_in_block, symbols_in_item, symbols_in_field, symbols_in_definition}
 use Rattle.il_ast.specs.declared.operand.Val.{Val}

@@ -1,6 +1,5 @@
 -- The names of a function, and of a text, stand in order of first appearance, each once.
-use Rattle.std.proofs.Common.{◌≡◌, ℕ, Bool, List, [], length, Some, IsTrue, refl, sym, ap, ◌∙◌, subst}
-use Rattle.std.specs.Prelude.{map}
+use Rattle.std.proofs.Common.{◌≡◌, ℕ, Bool, List, [], length, Some, IsTrue, refl, sym, ap, ◌∙◌, subst, map}
 use Rattle.il_ast.specs.Mentions.{come_after, are_distinct}
 use Rattle.il_ast.specs.Symbols.{symbols_of}
 use Rattle.il_ast.specs.declared.text.Definition.{Definition}

@@ -1,6 +1,5 @@
 -- Rules of one token.
-use Rattle.std.proofs.Common.{◌≡◌, inl, inr, ℕ, true, cond, eqb, List, ◌∷◌, drop, Option, Some, None, refl, sym, ap, ◌∙◌, ⊎_elim, subst}
-use Rattle.std.specs.Prelude.{nat_eq}
+use Rattle.std.proofs.Common.{◌≡◌, inl, inr, ℕ, true, cond, eqb, List, ◌∷◌, drop, Option, Some, None, refl, sym, ap, ◌∙◌, ⊎_elim, subst, nat_eq}
 use Rattle.std.specs.Cmp.Lexicographic.{pointwise}
 use Rattle.std.proofs.lemmas.Option.{same_Some, none-some, some_pair_parts}
 use Rattle.std.specs.Cmp.Lexicographic.{bytes_decides}

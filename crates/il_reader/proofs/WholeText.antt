@@ -1,6 +1,5 @@
 -- A text that is read up to its end.
-use Rattle.std.proofs.Common.{◌≡◌, ℕ, ◌+◌, Bool, true, false, cond, List, length, Option, Some, None, refl, ap}
-use Rattle.std.specs.Prelude.{option_and_then}
+use Rattle.std.proofs.Common.{◌≡◌, ℕ, ◌+◌, Bool, true, false, cond, List, length, Option, Some, None, refl, ap, option_and_then}
 use Rattle.std.proofs.lemmas.Option.{same_Some}
 use Rattle.il_lex.specs.Scan.{scan}
 use Rattle.il_lex.specs.Line.{lines_in}

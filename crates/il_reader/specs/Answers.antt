@@ -1,6 +1,5 @@
 -- What reading a text answers.
-use Rattle.std.specs.Prelude.{◌≡◌, ℕ, ◌+◌, ◌≤◌, List, Result}
-use Rattle.std.specs.Result.{MatchResult}
+use Rattle.std.specs.Prelude.{◌≡◌, ℕ, ◌+◌, ◌≤◌, List, Result, MatchResult}
 use Rattle.il_lex.specs.Line.{lines_in}
 use Rattle.il_ast.specs.declared.text.Text.{Text}
 use Rattle.il_reader.specs.declared.error.ReadError.{ReadError}

@@ -1,7 +1,6 @@
 -- The rules of a block and its lines as functions of the state, which look at no more than the next
 -- token.
-use Rattle.std.specs.Prelude.{ℕ, zero, suc, length, Bool, true, false, not, if◌then◌else◌, List, [], ◌∷◌, codes, is_some, Option, Some, None, option_and_then}
-use Rattle.std.specs.Option.{option_map}
+use Rattle.std.specs.Prelude.{ℕ, zero, suc, length, Bool, true, false, not, if◌then◌else◌, List, [], ◌∷◌, codes, is_some, Option, Some, None, option_and_then, option_map}
 use Rattle.il_lex.specs.declared.kind.Symbol.TheVariants.{LeftParen, RightParen}
 use Rattle.il_ast.specs.declared.operand.Dest.{Dest}
 use Rattle.il_ast.specs.declared.block.Phi.{Phi}

@@ -1,6 +1,5 @@
 -- The rules of functions, data definitions and whole texts as functions of the state.
-use Rattle.std.specs.Prelude.{◌≡◌, ℕ, ◌+◌, Bool, true, false, if◌then◌else◌, List, [], ◌∷◌, length, map, codes, unwrap_or, Option, Some, None, option_and_then, Result}
-use Rattle.std.specs.Result.{MatchResult}
+use Rattle.std.specs.Prelude.{◌≡◌, ℕ, ◌+◌, Bool, true, false, if◌then◌else◌, List, [], ◌∷◌, length, map, codes, unwrap_or, Option, Some, None, option_and_then, Result, MatchResult}
 use Rattle.il_lex.specs.declared.kind.Symbol.TheVariants.{Equals, LeftBrace, RightBrace, LeftParen, RightParen, Plus}
 use Rattle.il_lex.specs.declared.kind.Kind.{Kind}
 use Rattle.il_lex.specs.declared.kind.Kind.TheVariants.{Symbol, Natural, Negative, Global as GlobalKind, Quoted}

@@ -1,8 +1,6 @@
 -- What a function of the reader answers.
-use Rattle.std.specs.Prelude.{◌≡◌, ℕ, Bool, true, false, if◌then◌else◌, List, [], ◌∷◌, ◌++◌, map, Option, Some, None, option_and_then, Result}
+use Rattle.std.specs.Prelude.{◌≡◌, ℕ, Bool, true, false, if◌then◌else◌, List, [], ◌∷◌, ◌++◌, map, Option, Some, None, option_and_then, Result, option_map, MatchResult}
 use Rattle.std.specs.Borrow.{Bor}
-use Rattle.std.specs.Option.{option_map}
-use Rattle.std.specs.Result.{MatchResult}
 use Rattle.il_reader.specs.declared.fault.Unread.{Unread}
 use Rattle.il_reader.specs.declared.fault.Unread.TheVariants.{Syntax}
 use Rattle.il_lex.specs.Scan.{scan}

@@ -1,7 +1,6 @@
 -- The rules as functions of the state, which the code computes: what is read, and the state
 -- afterwards.
-use Rattle.std.specs.Prelude.{ℕ, zero, suc, length, ◌+◌, Bool, false, if◌then◌else◌, nat_eq, List, [], ◌∷◌, take, drop, Option, Some, None, option_and_then}
-use Rattle.std.specs.Option.{option_map}
+use Rattle.std.specs.Prelude.{ℕ, zero, suc, length, ◌+◌, Bool, false, if◌then◌else◌, nat_eq, List, [], ◌∷◌, take, drop, Option, Some, None, option_and_then, option_map}
 use Rattle.std.specs.Cmp.Lexicographic.{pointwise}
 use Rattle.il_lex.specs.declared.kind.Symbol.{Symbol as Mark}
 use Rattle.il_lex.specs.declared.kind.Kind.{Kind}

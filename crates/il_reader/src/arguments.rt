@@ -1,6 +1,5 @@
 //! Reading the lists of arguments.
-ghost use Rattle.std.specs.Prelude.{◌≡◌, None, Some, suc, length};
-ghost use Rattle.std.specs.Result.{MatchResult};
+ghost use Rattle.std.specs.Prelude.{◌≡◌, None, Some, suc, length, MatchResult};
 ghost use Rattle.il_reader.specs.declared.fault.Unread.TheVariants.{Syntax};
 ghost use Rattle.il_reader.specs.Gives.{Gives, appended};
 ghost use Rattle.il_reader.specs.Steps.{sees, separated, commas};

@@ -1,6 +1,5 @@
 //! Reading blocks.
-ghost use Rattle.std.specs.Prelude.{◌≡◌, None, Some, suc, length, false};
-ghost use Rattle.std.specs.Result.{MatchResult};
+ghost use Rattle.std.specs.Prelude.{◌≡◌, None, Some, suc, length, false, MatchResult};
 ghost use Rattle.il_reader.specs.declared.fault.Unread.TheVariants.{Syntax};
 ghost use Rattle.il_reader.specs.Gives.{Gives, with_lines, with_line};
 ghost use Rattle.il_reader.specs.Steps.{maybe, sees, label};

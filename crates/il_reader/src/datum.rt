@@ -1,6 +1,5 @@
 //! Reading data definitions. Between their tokens the ends of lines are spacing.
-ghost use Rattle.std.specs.Prelude.{◌≡◌, None, Some, suc, length, unwrap_or};
-ghost use Rattle.std.specs.Result.{MatchResult};
+ghost use Rattle.std.specs.Prelude.{◌≡◌, None, Some, suc, length, unwrap_or, MatchResult};
 ghost use Rattle.il_reader.specs.declared.fault.Unread.TheVariants.{Syntax};
 ghost use Rattle.il_reader.specs.Gives.{Gives, appended, pushed, some};
 ghost use Rattle.il_reader.specs.Steps.{sees, separated, repeated, maybe, piece, keyword, word, natural, integer, string, symbol, commas};

@@ -1,6 +1,5 @@
 //! Reading operands and destinations.
-ghost use Rattle.std.specs.Prelude.{◌≡◌, None, Some};
-ghost use Rattle.std.specs.Result.{MatchResult};
+ghost use Rattle.std.specs.Prelude.{◌≡◌, None, Some, MatchResult};
 ghost use Rattle.il_reader.specs.declared.fault.Unread.TheVariants.{Syntax};
 ghost use Rattle.il_reader.specs.Gives.{Gives, pushed};
 ghost use Rattle.il_reader.specs.Reading.{class, value, destination, argument, phi_argument};

@@ -1,6 +1,5 @@
 //! Where the reading of a text stands.
-ghost use Rattle.std.specs.Prelude.{◌≡◌, Some, None};
-ghost use Rattle.std.specs.Result.{MatchResult};
+ghost use Rattle.std.specs.Prelude.{◌≡◌, Some, None, MatchResult};
 ghost use Rattle.il_lex.specs.Line.{line_ends};
 ghost use Rattle.il_reader.specs.declared.fault.Unread.TheVariants.{Syntax};
 

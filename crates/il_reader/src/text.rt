@@ -1,6 +1,5 @@
 //! Reading texts.
-ghost use Rattle.std.specs.Prelude.{◌≡◌, None, Some, suc, length, map};
-ghost use Rattle.std.specs.Result.{MatchResult};
+ghost use Rattle.std.specs.Prelude.{◌≡◌, None, Some, suc, length, map, MatchResult};
 ghost use Rattle.il_reader.specs.declared.fault.Unread.TheVariants.{Syntax};
 ghost use Rattle.il_reader.specs.Gives.{Gives, appended, pushed, parts_of, definition_list, whole_text};
 ghost use Rattle.il_reader.specs.Steps.{sees, separated};

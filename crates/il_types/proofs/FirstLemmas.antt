@@ -1,6 +1,5 @@
 -- The first place that breaks a rule, found from front to back.
-use Rattle.std.proofs.Common.{◌≡◌, ℕ, zero, suc, ◌+◌, ◌<◌, Bool, false, List, [], ◌∷◌, length, drop, get_or, refl, ap, sym, ◌∙◌, arith}
-use Rattle.std.specs.Prelude.{◌&&◌, Option}
+use Rattle.std.proofs.Common.{◌≡◌, ℕ, zero, suc, ◌+◌, ◌<◌, Bool, false, List, [], ◌∷◌, length, drop, get_or, refl, ap, sym, ◌∙◌, arith, ◌&&◌, Option}
 use Rattle.std.specs.List.{list_all}
 use Rattle.il_types.specs.First.{or_else, first}
 

@@ -1,6 +1,5 @@
 -- How often numbers are named, as far as it matters.
-use Rattle.std.specs.Prelude.{◌≡◌, ℕ, zero, suc, Bool, true, false, nat_eq, List, slice_index_or}
-use Rattle.std.specs.List.{count_by}
+use Rattle.std.specs.Prelude.{◌≡◌, ℕ, zero, suc, Bool, true, false, nat_eq, List, slice_index_or, count_by}
 use Rattle.il_types.specs.declared.tally.Often.{Often}
 use Rattle.il_types.specs.declared.tally.Often.TheVariants.{Never, Once, Again}
 

@@ -1,6 +1,5 @@
 //! The arguments of a phi by their labels.
-ghost use Rattle.std.specs.Prelude.{◌≡◌, nat_eq, true, Some, IfSome};
-ghost use Rattle.std.specs.List.{find};
+ghost use Rattle.std.specs.Prelude.{◌≡◌, nat_eq, true, Some, IfSome, find};
 ghost use Rattle.il_ast.specs.declared.block.PhiArg.{PhiArg as PhiArgOf};
 ghost use Rattle.il_types.specs.Arguments.{are_distinct};
 

@@ -1,6 +1,5 @@
 //! Places that name something by a number, in the order of the text.
-ghost use Rattle.std.specs.Prelude.{◌≡◌, ◌++◌, OnOk, IfOk};
-ghost use Rattle.std.specs.List.{flat_map};
+ghost use Rattle.std.specs.Prelude.{◌≡◌, ◌++◌, OnOk, IfOk, flat_map};
 ghost use Rattle.il_types.specs.Sites.{end_sites, block_targets, targets_of, phi_sources, sources_in, sources_of};
 ghost use Rattle.il_types.specs.Locals.{param_sites, label_sites, phi_sites};
 

@@ -1,5 +1,5 @@
 -- Code with a call in place beside the code with the call: how it goes from a state, and what it has spent.
-use Rattle.std.proofs.Common.{◌≡◌, ℕ, suc, ◌+◌, ◌≤◌, List, [], ◌∷◌, ◌++◌, slice_get, Some, None, refl, sym, ◌∙◌, ap, subst, arith}
+use Rattle.std.proofs.Common.{◌≡◌, ℕ, suc, ◌+◌, ◌≤◌, List, [], ◌∷◌, ◌++◌, slice_get, Some, None, refl, sym, ◌∙◌, ap, subst, arith, append_assoc, append-nil}
 use Rattle.il_ast.specs.declared.value.Callee.{Callee}
 use Rattle.il_ast.specs.declared.value.Value.{Value}
 use Rattle.il_ast.specs.declared.value.Value.TheVariants.{Function}
@@ -13,7 +13,6 @@ use Rattle.vcode.specs.Step.{State, step}
 use Rattle.vcode.specs.InPlace.{IsCheaper, GoesSo, HasRoom, RunsAs}
 use Rattle.inlining.specs.InPlace.{Site, IsSite, in_place}
 use Rattle.inlining.specs.Candidates.{IsCandidateOf}
-use Rattle.std.proofs.lemmas.List.{append_assoc, append-nil}
 
 -- ---- what is given
 

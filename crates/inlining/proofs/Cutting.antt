@@ -1,6 +1,5 @@
 -- A block that is cut at a call of one of the candidates.
-use Rattle.std.proofs.Common.{◌≡◌, ℕ, length, slice_get, Option, Some, None, Result, Ok, Err}
-use Rattle.std.specs.Prelude.{IfOk, IfSome}
+use Rattle.std.proofs.Common.{◌≡◌, ℕ, length, slice_get, Option, Some, None, Result, Ok, Err, IfOk, IfSome}
 use Rattle.vcode.specs.declared.code.Block.{Block}
 use Rattle.vcode.specs.declared.function.VFunc.{VFunc}
 use Rattle.inlining.specs.declared.growth.Growth.{Growth}

@@ -1,6 +1,5 @@
 -- Functions with calls of candidates in place run as they did, where calls go so.
-use Rattle.std.proofs.Common.{◌≡◌, ℕ, ◌<◌, ◌++◌, List, length, Result, Ok, Err, refl, subst}
-use Rattle.std.specs.Prelude.{IfOk, slice_set, slice_index_or}
+use Rattle.std.proofs.Common.{◌≡◌, ℕ, ◌<◌, ◌++◌, List, length, Result, Ok, Err, refl, subst, IfOk, slice_set, slice_index_or}
 use Rattle.vcode.specs.declared.code.Block.{Block}
 use Rattle.vcode.specs.declared.code.Code.{Code}
 use Rattle.vcode.specs.declared.function.VFunc.{VFunc}

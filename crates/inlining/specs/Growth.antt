@@ -1,7 +1,6 @@
 -- A function that grows by calls in place.
-use Rattle.std.specs.Prelude.{◌≡◌, ℕ, ◌+◌, ◌<◌, not, ◌∷◌, map, length, take, drop, slice_get, Some, IsTrue}
+use Rattle.std.specs.Prelude.{◌≡◌, ℕ, ◌+◌, ◌<◌, not, ◌∷◌, map, length, take, drop, slice_get, Some, IsTrue, option_map}
 use Rattle.std.specs.List.{list_all, list_any, sum_by}
-use Rattle.std.specs.Option.{option_map}
 use Rattle.il_ast.specs.declared.limits.TheConstants.{FUNCTION_WEIGHT}
 use Rattle.il_ast.specs.Meaning.{same_classes, result_fits}
 use Rattle.vcode.specs.declared.limits.TheConstants.{PLACES}

@@ -1,6 +1,5 @@
 -- A function's code at other registers and blocks: where a call of it is done in place.
-use Rattle.std.specs.Prelude.{ℕ, ◌+◌, map}
-use Rattle.std.specs.Option.{option_map}
+use Rattle.std.specs.Prelude.{ℕ, ◌+◌, map, option_map}
 use Rattle.vcode.specs.declared.place.Operand.{Operand}
 use Rattle.vcode.specs.declared.place.Operand.TheVariants.{At, Number, Name}
 use Rattle.vcode.specs.declared.place.Destination.{Destination}

@@ -1,6 +1,5 @@
 //! A function's blocks while calls in it are done in place, and how far it may still grow.
-ghost use Rattle.std.specs.Prelude.{◌≡◌, ℕ, ◌+◌, ◌<◌, ◌++◌, length, slice_set, IfOk, IfSome};
-ghost use Rattle.std.specs.List.{sum_by};
+ghost use Rattle.std.specs.Prelude.{◌≡◌, ℕ, ◌+◌, ◌<◌, ◌++◌, length, slice_set, IfOk, IfSome, sum_by};
 ghost use Rattle.vcode.specs.declared.code.Block.{Block as BlockOf};
 ghost use Rattle.vcode.specs.Regular.{weight_of};
 ghost use Rattle.inlining.specs.Growth.{Takes, line_count};

@@ -1,7 +1,6 @@
 //! A candidate's lines and jumps at other registers and blocks.
-ghost use Rattle.std.specs.Prelude.{◌≡◌, ℕ, ◌+◌, ◌++◌, ◌<◌, map, IsTrue, IfOk, OnOk};
+ghost use Rattle.std.specs.Prelude.{◌≡◌, ℕ, ◌+◌, ◌++◌, ◌<◌, map, IsTrue, IfOk, OnOk, option_map};
 ghost use Rattle.std.specs.List.{list_all};
-ghost use Rattle.std.specs.Option.{option_map};
 ghost use Rattle.vcode.specs.declared.limits.TheConstants.{PLACES};
 ghost use Rattle.vcode.specs.declared.place.Argument.{Argument as ArgumentOf};
 ghost use Rattle.vcode.specs.Named.{operand_keeps, wanted_keeps, line_keeps, jump_keeps, is_below};

@@ -1,7 +1,6 @@
 //! Calls that can be done in place.
-ghost use Rattle.std.specs.Prelude.{◌≡◌, ℕ, ◌+◌, ◌<◌, true, false, map, length, take, drop, IsTrue, IfOk, IfSome};
+ghost use Rattle.std.specs.Prelude.{◌≡◌, ℕ, ◌+◌, ◌<◌, true, false, map, length, take, drop, IsTrue, IfOk, IfSome, option_map};
 ghost use Rattle.std.specs.List.{list_all, list_any};
-ghost use Rattle.std.specs.Option.{option_map};
 ghost use Rattle.il_ast.specs.Meaning.{same_classes, result_fits};
 ghost use Rattle.vcode.specs.declared.place.Argument.{Argument as ArgumentOf};
 ghost use Rattle.vcode.specs.declared.place.Destination.{Destination as DestinationOf};

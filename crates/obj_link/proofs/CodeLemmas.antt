@@ -1,7 +1,6 @@
 -- The words of functions, one further.
-use Rattle.std.proofs.Common.{◌≡◌, ℕ, ◌+◌, ◌*◌, ◌<◌, ◌&&◌, List, ◌∷◌, ◌++◌, length, drop, map, get_or, ◌∙◌, ap}
+use Rattle.std.proofs.Common.{◌≡◌, ℕ, ◌+◌, ◌*◌, ◌<◌, ◌&&◌, List, ◌∷◌, ◌++◌, length, drop, map, get_or, ◌∙◌, ap, Bor}
 use Rattle.std.proofs.lemmas.List.{drop_more}
-use Rattle.std.specs.Borrow.{Bor}
 use Rattle.il_ast.specs.declared.function.Func.{Func}
 use Rattle.il_ast.specs.declared.program.InText.{InText}
 use Rattle.il_ast.specs.declared.program.Target.{Target}

@@ -1,7 +1,5 @@
 -- What symbols mean, one further.
-use Rattle.std.proofs.Common.{◌≡◌, ℕ, ◌+◌, ◌<◌, List, [], ◌∷◌, ◌++◌, length, drop, get_or, refl, ap, sym, ◌∙◌, append_assoc}
-use Rattle.std.specs.Prelude.{Option, Some, None, slice_get}
-use Rattle.std.specs.Option.{option_map, option_and_then}
+use Rattle.std.proofs.Common.{◌≡◌, ℕ, ◌+◌, ◌<◌, List, [], ◌∷◌, ◌++◌, length, drop, get_or, refl, ap, sym, ◌∙◌, append_assoc, Option, Some, None, slice_get, option_map, option_and_then}
 use Rattle.std.proofs.lemmas.List.{drop_more, append-nil}
 use Rattle.il_ast.specs.declared.program.Target.{Target}
 use Rattle.il_types.specs.declared.checked.Checked.{Checked}

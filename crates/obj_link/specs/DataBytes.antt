@@ -1,7 +1,6 @@
 -- The bytes of data, item by item.
-use Rattle.std.specs.Prelude.{ℕ, ◌+◌, ◌%◌, ◌^◌, nat_eq, if◌then◌else◌, List, replicate, slice_index, Option, Some, None}
+use Rattle.std.specs.Prelude.{ℕ, ◌+◌, ◌%◌, ◌^◌, nat_eq, if◌then◌else◌, List, replicate, slice_index, Option, Some, None, flat_map}
 use Rattle.std.specs.Int.{w64, to_le_bytes}
-use Rattle.std.specs.List.{flat_map}
 use Rattle.il_ast.specs.declared.datum.Item.{Item}
 use Rattle.il_ast.specs.declared.datum.Item.TheVariants.{Int, Bytes, Address}
 use Rattle.il_ast.specs.declared.datum.Field.{Field}

@@ -1,6 +1,5 @@
 -- The limits over all texts of a program.
-use Rattle.std.specs.Prelude.{ℕ, Bool, nat_le, ◌&&◌, List, length}
-use Rattle.std.specs.List.{sum_by}
+use Rattle.std.specs.Prelude.{ℕ, Bool, nat_le, ◌&&◌, List, length, sum_by}
 use Rattle.il_ast.specs.declared.limits.TheConstants.{TEXTS, FUNCTIONS, PROGRAM_WEIGHT, DATA_BYTES}
 use Rattle.il_ast.specs.declared.operation.Size.{Size}
 use Rattle.il_ast.specs.declared.datum.Item.{Item}

@@ -1,9 +1,7 @@
 -- Global names over texts: what defines them, which are exported, and what each means (QBE IL,
 -- "Linkage"; names that no text defines are this project's choice).
-use Rattle.std.specs.Prelude.{◌≡◌, ℕ, ◌+◌, Bool, nat_eq, ◌&&◌, if◌then◌else◌, List, [], ◌∷◌, ◌++◌, slice_get, slice_index_or, codes, count_by, Option, Some, None}
-use Rattle.std.specs.List.{flat_map, find}
+use Rattle.std.specs.Prelude.{◌≡◌, ℕ, ◌+◌, Bool, nat_eq, ◌&&◌, if◌then◌else◌, List, [], ◌∷◌, ◌++◌, slice_get, slice_index_or, codes, count_by, Option, Some, None, flat_map, find, bytes_eq}
 use Rattle.std.specs.Option.{option_map, option_and_then, option_or, is_some}
-use Rattle.std.specs.Str.{bytes_eq}
 use Rattle.il_ast.specs.declared.function.Func.{Func}
 use Rattle.il_ast.specs.declared.datum.DataDef.{DataDef}
 use Rattle.il_ast.specs.declared.text.Definition.{Definition}

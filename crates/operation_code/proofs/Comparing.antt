@@ -1,6 +1,5 @@
 -- What the code of comparisons does.
-use Rattle.std.proofs.Common.{◌≡◌, ℕ, ◌+◌, ◌-◌, ◌%◌, ◌^◌, ◌<◌, Bool, true, false, List, [], ◌∷◌, refl, ◌∙◌, ap, subst, arith}
-use Rattle.std.specs.Prelude.{not, nat_eq, nat_lt, nat_le, int_lt, int_le, ℤ, pos, negsuc}
+use Rattle.std.proofs.Common.{◌≡◌, ℕ, ◌+◌, ◌-◌, ◌%◌, ◌^◌, ◌<◌, Bool, true, false, List, [], ◌∷◌, refl, ◌∙◌, ap, subst, arith, not, nat_eq, nat_lt, nat_le, int_lt, int_le, ℤ, pos, negsuc}
 use Rattle.std.specs.Int.{cast_signed, w64}
 use Rattle.std.proofs.lemmas.Bool.Decides.{nat_tests}
 use Rattle.il_ast.specs.declared.operation.Class.TheVariants.{L}

@@ -1,6 +1,5 @@
 -- The numbers that constants and offsets are made of.
-use Rattle.std.proofs.Common.{◌≡◌, refl, ap, ℕ, ◌+◌, ◌-◌, ◌*◌, ◌/◌, ◌%◌, ◌^◌, ◌<◌, ◌≤◌, Bool, true, false, arith, inl, inr, pos, negsuc, lit<, mod-lt}
-use Rattle.std.specs.Prelude.{nat_lt, if◌then◌else◌, ℤ, ◌⊎◌}
+use Rattle.std.proofs.Common.{◌≡◌, refl, ap, ℕ, ◌+◌, ◌-◌, ◌*◌, ◌/◌, ◌%◌, ◌^◌, ◌<◌, ◌≤◌, Bool, true, false, arith, inl, inr, pos, negsuc, lit<, mod-lt, nat_lt, if◌then◌else◌, ℤ, ◌⊎◌}
 use Rattle.std.specs.Int.{cast_unsigned, w64}
 use Rattle.std.proofs.lemmas.Int.{ints}
 use Rattle.std.proofs.lemmas.Bool.Decides.{nat_tests}

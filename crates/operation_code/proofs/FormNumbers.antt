@@ -1,6 +1,5 @@
 -- The numbers of operations that are done by forms.
-use Rattle.std.proofs.Common.{◌≡◌, ◌≢◌, ℕ, ◌+◌, ◌-◌, ◌*◌, ◌%◌, ◌^◌, ◌<◌, ◌≤◌, Bool, true, false, refl, ◌∙◌, sym, ap, arith, mod-lt, lit<}
-use Rattle.std.specs.Prelude.{◌&&◌, not, nat_eq, nat_lt, nat_le, int_lt, int_le}
+use Rattle.std.proofs.Common.{◌≡◌, ◌≢◌, ℕ, ◌+◌, ◌-◌, ◌*◌, ◌%◌, ◌^◌, ◌<◌, ◌≤◌, Bool, true, false, refl, ◌∙◌, sym, ap, arith, mod-lt, lit<, ◌&&◌, not, nat_eq, nat_lt, nat_le, int_lt, int_le}
 use Rattle.std.specs.Int.{cast_signed, cast_unsigned, w64, trailing_zeros}
 use Rattle.std.proofs.lemmas.Int.{ints}
 use Rattle.std.proofs.lemmas.Bool.{and_parts}

@@ -1,7 +1,5 @@
 -- Items that were put one after another.
-use Rattle.std.proofs.Common.{◌≡◌, ℕ, ◌%◌, ◌^◌, ◌<◌, Bool, true, false, List, [], ◌∷◌, ◌++◌, refl, ◌+◌, sym, ◌∙◌, ap, arith, append_assoc}
-use Rattle.std.specs.Prelude.{if◌then◌else◌, nat_eq, length}
-use Rattle.std.proofs.lemmas.List.{length-append}
+use Rattle.std.proofs.Common.{◌≡◌, ℕ, ◌%◌, ◌^◌, ◌<◌, Bool, true, false, List, [], ◌∷◌, ◌++◌, refl, ◌+◌, sym, ◌∙◌, ap, arith, append_assoc, if◌then◌else◌, nat_eq, length, length-append}
 use Rattle.rv_isa.specs.declared.labelled.Item.{Item}
 use Rattle.operation_code.specs.Constants.{long_constant, is_word, word_constant, shifted_by, added, zeros_of}
 use Rattle.operation_code.specs.Fields.{add_low}

@@ -1,6 +1,5 @@
 -- What labelled code does from a state, wherever it stands: it leads the machine to what follows it, within its size, where something holds.
-use Rattle.std.proofs.Common.{◌≡◌, ◌≢◌, ℕ, ◌+◌, ◌%◌, ◌^◌, ◌<◌, ◌≤◌, Bool, true, false, List, [], ◌∷◌, ◌++◌, refl, sym, ◌∙◌, ap, subst, arith, lit<, ne_eqb, zero-add, append_assoc}
-use Rattle.std.specs.Prelude.{◌==◌, if◌then◌else◌, Ok}
+use Rattle.std.proofs.Common.{◌≡◌, ◌≢◌, ℕ, ◌+◌, ◌%◌, ◌^◌, ◌<◌, ◌≤◌, Bool, true, false, List, [], ◌∷◌, ◌++◌, refl, sym, ◌∙◌, ap, subst, arith, lit<, ne_eqb, zero-add, append_assoc, ◌==◌, if◌then◌else◌, Ok}
 use Rattle.rv_isa.specs.State.{State, IsState, register, updated, written, put}
 use Rattle.rv_isa.specs.Step.{step, act}
 use Rattle.rv_isa.specs.Runs.{Comes}

@@ -1,6 +1,5 @@
 -- The phis of a function of a good text: each label has one argument.
-use Rattle.std.proofs.Common.{◌≡◌, ℕ, true, refl}
-use Rattle.std.specs.Prelude.{slice_get, Option, Some, None}
+use Rattle.std.proofs.Common.{◌≡◌, ℕ, true, refl, slice_get, Option, Some, None}
 use Rattle.il_ast.specs.declared.block.Block.{Block}
 use Rattle.il_ast.specs.declared.function.Func.{Func}
 use Rattle.il_types.specs.declared.rule.Rule.TheVariants.{PhiCoversPredecessors}

@@ -1,6 +1,5 @@
 -- A function of a good text is such as can be lowered.
-use Rattle.std.proofs.Common.{◌≡◌, ℕ, ◌*◌, ◌^◌, Bool, true, ◌&&◌, nat_le, List, [], ◌∷◌, refl, sym, ◌∙◌, ap}
-use Rattle.std.specs.Prelude.{zero, suc, slice_get, Option, Some, None}
+use Rattle.std.proofs.Common.{◌≡◌, ℕ, ◌*◌, ◌^◌, Bool, true, ◌&&◌, nat_le, List, [], ◌∷◌, refl, sym, ◌∙◌, ap, zero, suc, slice_get, Option, Some, None}
 use Rattle.std.specs.List.{list_all}
 use Rattle.std.proofs.lemmas.Bool.{and_parts}
 use Rattle.il_ast.specs.declared.function.Func.{Func}

@@ -1,7 +1,5 @@
 -- What a list has.
-use Rattle.std.proofs.Common.{◌≡◌, ◌⊎◌, inl, inr, ℕ, zero, suc, ◌<◌, List, [], ◌∷◌, ◌++◌, length, map, get_or, All, Any, refl, sym, ap, subst, arith}
-use Rattle.std.specs.Prelude.{AllPairs, slice_get, Some}
-use Rattle.std.specs.List.{flat_map}
+use Rattle.std.proofs.Common.{◌≡◌, ◌⊎◌, inl, inr, ℕ, zero, suc, ◌<◌, List, [], ◌∷◌, ◌++◌, length, map, get_or, All, Any, refl, sym, ap, subst, arith, AllPairs, slice_get, Some, flat_map}
 use Rattle.std.proofs.lemmas.List.Elements.{All-head, All-tail, All-nil, All-cons}
 
 abbrev pub Among : {A : Type 0} → A → List A → Type 0

@@ -1,6 +1,5 @@
 -- What a table of the places of labels' blocks is read for.
-use Rattle.std.proofs.Common.{◌≡◌, ℕ, List, ap, sym, ◌∙◌}
-use Rattle.std.specs.Prelude.{slice_get, Option, Some, None}
+use Rattle.std.proofs.Common.{◌≡◌, ℕ, List, ap, sym, ◌∙◌, slice_get, Option, Some, None}
 use Rattle.std.specs.Option.{option_flatten}
 use Rattle.il_ast.specs.declared.block.Block.{Block}
 use Rattle.il_ast.specs.Effect.{place_of}

@@ -1,7 +1,6 @@
 -- What the copies are that stand for the phis of a block, where it is entered from another. Which
 -- copies they are is left open.
-use Rattle.std.specs.Prelude.{◌≡◌, ℕ, zero, suc, ◌+◌, ◌*◌, ◌<◌, ◌≤◌, List, [], ◌∷◌, length, take, slice_get, Option, Some, None}
-use Rattle.std.specs.Option.{option_map}
+use Rattle.std.specs.Prelude.{◌≡◌, ℕ, zero, suc, ◌+◌, ◌*◌, ◌<◌, ◌≤◌, List, [], ◌∷◌, length, take, slice_get, Option, Some, None, option_map}
 use Rattle.il_ast.specs.declared.operand.Val.{Val}
 use Rattle.il_ast.specs.declared.operand.Val.TheVariants.{Int, Temp, Global}
 use Rattle.il_ast.specs.declared.block.Phi.{Phi}

@@ -1,6 +1,5 @@
 -- What a phi takes from a block.
-use Rattle.std.specs.Prelude.{ℕ, nat_eq, Option, Some, None}
-use Rattle.std.specs.List.{find}
+use Rattle.std.specs.Prelude.{ℕ, nat_eq, Option, Some, None, find}
 use Rattle.il_ast.specs.declared.operand.Val.{Val}
 use Rattle.il_ast.specs.declared.operand.Val.TheVariants.{Int}
 use Rattle.il_ast.specs.declared.block.Phi.{Phi}

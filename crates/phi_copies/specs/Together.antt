@@ -9,7 +9,7 @@ use Rattle.il_ast.specs.declared.block.Phi.{Phi}
 use Rattle.il_ast.specs.Values.{same_class}
 use Rattle.phi_copies.specs.declared.ending.Assignment.{Assignment}
 use Rattle.phi_copies.specs.declared.moves.Move.{Move}
-use Rattle.phi_copies.specs.Moves.{HasDistinctDestinations, IsUnnamed, DoesAtOnce, IsBetween, IsRead, ReadsKnown, proper_count}
+use Rattle.phi_copies.specs.Moves.{DoesAtOnce, IsBetween, IsRead, ReadsKnown, proper_count}
 use Rattle.phi_copies.specs.Source.{source}
 
 -- what the phis take from the block with this label
@@ -77,6 +77,3 @@ abbrev pub AddsMoves : Class → ℕ → List Assignment → (before now : List 
 AddsMoves k scratch cs before now =
     (out : List Move) × (now ≡ before ++ map (copy_of k) out)
     × IsSequence (moves_in k cs) scratch out
-
-abbrev pub CanMove : Class → ℕ → List Assignment → Type 0
-CanMove k scratch cs = HasDistinctDestinations (moves_in k cs) × IsUnnamed scratch (moves_in k cs)

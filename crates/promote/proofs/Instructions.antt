@@ -1,8 +1,6 @@
 -- One instruction on both sides.
-use Rattle.std.proofs.Common.{◌≡◌, ℕ, zero, suc, ◌≤◌, true, List, [], ◌∷◌, map, length, refl, sym, ◌∙◌, ap, subst, arith, lit<, mod-lt}
-use Rattle.std.specs.Prelude.{slice_get, slice_set, Option, Some, None}
+use Rattle.std.proofs.Common.{◌≡◌, ℕ, zero, suc, ◌≤◌, true, List, [], ◌∷◌, map, length, refl, sym, ◌∙◌, ap, subst, arith, lit<, mod-lt, slice_get, slice_set, Option, Some, None, flat_map}
 use Rattle.std.specs.Option.{option_map, option_and_then, option_flatten}
-use Rattle.std.specs.List.{flat_map}
 use Rattle.il_ast.specs.declared.operation.Class.{Class}
 use Rattle.il_ast.specs.declared.operation.Class.TheVariants.{L}
 use Rattle.il_ast.specs.declared.operation.Size.{Size}

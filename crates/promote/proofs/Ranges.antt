@@ -1,7 +1,6 @@
 -- Results of operations on integers are integers below 2^64.
-use Rattle.std.proofs.Common.{ℕ, zero, suc, ◌+◌, ◌-◌, ◌*◌, ◌/◌, ◌%◌, ◌^◌, ◌<◌, ◌≤◌, Bool, true, false, cond, nat_eq, arith, pos, negsuc, lit<, mod-lt, div-le_self}
+use Rattle.std.proofs.Common.{ℕ, zero, suc, ◌+◌, ◌-◌, ◌*◌, ◌/◌, ◌%◌, ◌^◌, ◌<◌, ◌≤◌, Bool, true, false, cond, nat_eq, arith, pos, negsuc, lit<, mod-lt, div-le_self, ℤ, int_div, int_rem, bit_and, bit_or, bit_xor, Option, Some, None}
 use Rattle.std.proofs.Math.Nat.{mod-le}
-use Rattle.std.specs.Prelude.{ℤ, int_div, int_rem, bit_and, bit_or, bit_xor, Option, Some, None}
 use Rattle.std.specs.Int.{w8, w16, w32, w64, cast_signed, cast_unsigned, int_shr}
 use Rattle.std.specs.Int.Bits.{and_lt}
 use Rattle.std.proofs.lemmas.Int.{ints}

@@ -1,6 +1,5 @@
 -- Short forms of operations: on two numbers as a number; by a power of two as a shift or a mask.
-use Rattle.std.specs.Prelude.{ℕ, ◌-◌, ◌%◌, ◌^◌, Bool, ◌&&◌, nat_eq, nat_lt, nat_le, if◌then◌else◌, Option, Some, None}
-use Rattle.std.specs.Option.{option_and_then}
+use Rattle.std.specs.Prelude.{ℕ, ◌-◌, ◌%◌, ◌^◌, Bool, ◌&&◌, nat_eq, nat_lt, nat_le, if◌then◌else◌, Option, Some, None, option_and_then}
 use Rattle.std.specs.Int.{w64, trailing_zeros}
 use Rattle.il_ast.specs.Values.{modulus}
 use Rattle.il_ast.specs.Operations.{holds, truth}

@@ -1,7 +1,5 @@
 -- What compiling answers, from what its parts answer.
-use Rattle.std.proofs.Common.{◌≡◌, inr, ℕ, ◌<◌, List, sym, subst, Vec, Global}
-use Rattle.std.specs.Prelude.{Result, Ok, Err, IfOk, IfErr}
-use Rattle.std.specs.Result.{MatchResult}
+use Rattle.std.proofs.Common.{◌≡◌, inr, ℕ, ◌<◌, List, sym, subst, Vec, Global, Result, Ok, Err, IfOk, IfErr, MatchResult}
 use Rattle.il_ast.specs.declared.program.Program.{Program}
 use Rattle.il_types.specs.declared.checked.Checked.{Checked}
 use Rattle.obj_link.specs.declared.linking.error.LinkError.{LinkError}

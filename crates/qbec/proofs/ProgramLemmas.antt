@@ -1,6 +1,5 @@
 -- Texts, as bytes, are at most one program, and no refusal is true of one.
-use Rattle.std.proofs.Common.{◌≡◌, inl, inr, ℕ, zero, suc, List, [], ◌∷◌, refl, sym, ◌∙◌, ap, subst, arith}
-use Rattle.std.specs.Prelude.{slice_get, Some}
+use Rattle.std.proofs.Common.{◌≡◌, inl, inr, ℕ, zero, suc, List, [], ◌∷◌, refl, sym, ◌∙◌, ap, subst, arith, slice_get, Some}
 use Rattle.il_ast.specs.declared.program.Program.{Program}
 use Rattle.il_reader.specs.Reads.{Reads}
 use Rattle.il_reader.proofs.OneTree.{one_tree}

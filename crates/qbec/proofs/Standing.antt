@@ -1,6 +1,5 @@
 -- What words of the pipeline stand for.
-use Rattle.std.proofs.Common.{◌+◌, ◌*◌, ◌≤◌, List, [], length, Option, Some, None, arith}
-use Rattle.std.specs.Prelude.{Result, Ok, Err, IfOk, IfSome}
+use Rattle.std.proofs.Common.{◌+◌, ◌*◌, ◌≤◌, List, [], length, Option, Some, None, arith, Result, Ok, Err, IfOk, IfSome}
 use Rattle.il_ast.specs.declared.function.Func.{Func}
 use Rattle.il_ast.specs.declared.program.InText.{InText}
 use Rattle.il_ast.specs.declared.program.Program.{Program}

@@ -1,8 +1,6 @@
 -- Texts that are read and checked one after another.
-use Rattle.std.proofs.Common.{◌≡◌, inl, ℕ, zero, suc, ◌+◌, ◌<◌, ◌≤◌, List, [], ◌∷◌, ◌++◌, length, map, drop, refl, sym, ◌∙◌, ap, subst, arith, append_assoc, drop_of_length-le}
-use Rattle.std.specs.Prelude.{slice_get, slice_index_or, Some}
+use Rattle.std.proofs.Common.{◌≡◌, inl, ℕ, zero, suc, ◌+◌, ◌<◌, ◌≤◌, List, [], ◌∷◌, ◌++◌, length, map, drop, refl, sym, ◌∙◌, ap, subst, arith, append_assoc, drop_of_length-le, slice_get, slice_index_or, Some, Bor}
 use Rattle.std.proofs.lemmas.Option.{slice_get-get_or}
-use Rattle.std.specs.Borrow.{Bor}
 use Rattle.std.proofs.Props.{props}
 use Rattle.il_ast.specs.declared.text.Text.{Text}
 use Rattle.il_reader.specs.Reads.{Reads}

@@ -1,6 +1,5 @@
 //! Texts, read and checked.
-ghost use Rattle.std.specs.Prelude.{◌≡◌, ◌++◌, ◌∷◌, [], IfOk, IfErr, OnOk, List, map};
-ghost use Rattle.std.specs.Result.{MatchResult};
+ghost use Rattle.std.specs.Prelude.{◌≡◌, ◌++◌, ◌∷◌, [], IfOk, IfErr, OnOk, List, map, MatchResult};
 ghost use Rattle.il_reader.specs.Reads.{Reads};
 ghost use Rattle.il_types.specs.declared.checked.Checked.{Checked as CheckedText};
 ghost use Rattle.qbec.specs.declared.error.CompileError.TheVariants.{Memory};

@@ -1,6 +1,5 @@
 -- `instruction_of` is the inverse of the encoding table: it gives i for the word of i, and i only for that word.
-use Rattle.std.proofs.Common.{◌≡◌, ℕ, ◌+◌, ◌*◌, ◌^◌, ◌<◌, Bool, true, false, arith, refl, ap, sym, ◌∙◌, lit<, eq-eqb, eqb-true, ne_eqb}
-use Rattle.std.specs.Prelude.{Some, None, ◌==◌, ◌↔◌, if◌then◌else◌}
+use Rattle.std.proofs.Common.{◌≡◌, ℕ, ◌+◌, ◌*◌, ◌^◌, ◌<◌, Bool, true, false, arith, refl, ap, sym, ◌∙◌, lit<, eq-eqb, eqb-true, ne_eqb, Some, None, ◌==◌, ◌↔◌, if◌then◌else◌}
 use Rattle.rv_isa.specs.Formats.{part, low_bits}
 use Rattle.rv_isa.specs.Encoding.{word, branch_row, load_row, store_row, imm_row, shift_row, shiftw_row, reg_row, regw_row}
 use Rattle.rv_isa.specs.Decoding.{candidate, instruction_of}

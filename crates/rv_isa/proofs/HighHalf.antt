@@ -1,8 +1,6 @@
 -- The high half of a product of 64-bit numbers, computed in 128 bits, is the product divided by 2^64.
-use Rattle.std.proofs.Common.{◌≡◌, ℕ, ◌-◌, ◌/◌, ◌^◌, ◌<◌, ◌≤◌, refl, arith, ◌*ℤ◌, pos, negsuc, FitsSigned, to_z, of_z, lit<}
-use Rattle.std.specs.Prelude.{ℤ}
+use Rattle.std.proofs.Common.{◌≡◌, ℕ, ◌-◌, ◌/◌, ◌^◌, ◌<◌, ◌≤◌, refl, arith, ◌*ℤ◌, pos, negsuc, FitsSigned, to_z, of_z, lit<, ℤ, unsigned_abs}
 use Rattle.std.specs.Int.{w64, w128, int_shr}
-use Rattle.std.specs.Int.RustNames.{unsigned_abs}
 use Rattle.std.proofs.lemmas.Int.{to_z-of_z, fits_signed_mul}
 use Rattle.std.proofs.lemmas.Nat.{shr_below}
 use lib.Signed.{mag, shr_z}

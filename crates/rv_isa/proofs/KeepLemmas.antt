@@ -1,6 +1,5 @@
 -- A step keeps numbers in range.
-use Rattle.std.proofs.Common.{◌≡◌, ℕ, zero, suc, ◌+◌, ◌/◌, ◌%◌, ◌^◌, ◌<◌, ◌++◌, Bool, true, false, subst, inl, inr, arith, lit<, mod-lt}
-use Rattle.std.specs.Prelude.{Ok, Err, Option, Some, None, ◌==◌, if◌then◌else◌}
+use Rattle.std.proofs.Common.{◌≡◌, ℕ, zero, suc, ◌+◌, ◌/◌, ◌%◌, ◌^◌, ◌<◌, ◌++◌, Bool, true, false, subst, inl, inr, arith, lit<, mod-lt, Ok, Err, Option, Some, None, ◌==◌, if◌then◌else◌}
 use Rattle.rv_isa.specs.State.{State, IsState, register, put, written, updated, a0, a1, a2, a7}
 use Rattle.rv_isa.specs.Memory.{can_read, bytes_at, can_write, can_execute, number_at, stored}
 use Rattle.rv_isa.specs.Arithmetic.{reg_value, regw_value, imm_value, addiw_value, shift_value, shiftw_value, upper_value, taken, moved}

@@ -1,9 +1,7 @@
 -- What the operations compute fits a register.
-use Rattle.std.proofs.Common.{ℕ, zero, suc, ◌+◌, ◌-◌, ◌*◌, ◌/◌, ◌%◌, ◌^◌, ◌<◌, ◌≤◌, Bool, true, false, arith, pos, negsuc, FitsSigned, lit<, mod-lt, div-le_self, mul-le-mul}
+use Rattle.std.proofs.Common.{ℕ, zero, suc, ◌+◌, ◌-◌, ◌*◌, ◌/◌, ◌%◌, ◌^◌, ◌<◌, ◌≤◌, Bool, true, false, arith, pos, negsuc, FitsSigned, lit<, mod-lt, div-le_self, mul-le-mul, ℤ, ◌*ℤ◌, ◌==◌, if◌then◌else◌, int_div, int_rem, unsigned_abs}
 use Rattle.std.proofs.Math.Nat.{mod-le}
-use Rattle.std.specs.Prelude.{ℤ, ◌*ℤ◌, ◌==◌, if◌then◌else◌, int_div, int_rem}
 use Rattle.std.specs.Int.{w8, w16, w32, w64, w128, cast_signed, cast_unsigned, int_shr}
-use Rattle.std.specs.Int.RustNames.{unsigned_abs}
 use Rattle.std.proofs.lemmas.Int.{ints, fits_signed_mul}
 use Rattle.std.proofs.lemmas.Nat.{shr_below, shr_le, or_lt, xor_lt, and_le_l}
 use lib.IntN.{neg_ℤ}

@@ -1,6 +1,5 @@
 -- Where the word of an instruction stands and can be executed, a step acts as that instruction. Fetching and decoding appear here alone.
-use Rattle.std.proofs.Common.{◌≡◌, ℕ, true, refl, ap, sym, ◌∙◌, subst}
-use Rattle.std.specs.Prelude.{Some}
+use Rattle.std.proofs.Common.{◌≡◌, ℕ, true, refl, ap, sym, ◌∙◌, subst, Some}
 use Rattle.std.proofs.lemmas.Bool.{and_parts}
 use Rattle.rv_isa.specs.State.{State}
 use Rattle.rv_isa.specs.Memory.{number_at, allowed, each_of, can_execute, is_code}

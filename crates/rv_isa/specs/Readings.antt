@@ -1,7 +1,6 @@
 -- What is read from a word is in the range of its field, and so are the parts of an address.
 use Rattle.std.proofs.Common.{◌≡◌, ℕ, ◌+◌, ◌*◌, ◌%◌, ◌^◌, ◌<◌, arith, pos, negsuc}
-use Rattle.std.specs.Prelude.{◌≤ℤ◌, ◌<ℤ◌}
-use Rattle.std.specs.Int.RustNames.{unsigned_abs}
+use Rattle.std.specs.Prelude.{◌≤ℤ◌, ◌<ℤ◌, unsigned_abs}
 use Rattle.std.proofs.lemmas.Int.{ints}
 use Rattle.bits.specs.Words.{Fits12, upper_field, lower_field}
 use Rattle.rv_isa.specs.Formats.{part, signed}

@@ -3,8 +3,7 @@
 //! Ranges are those of the unprivileged ISA manual, "RV32I Base Integer Instruction Set", "Base Instruction Formats" and
 //! "Immediate Encoding Variants". Immediates and offsets are signed; branches and jumps reach even offsets alone.
 
-ghost use Rattle.std.specs.Prelude.{◌≡◌, ◌%◌, ◌^◌, ◌<◌, ◌≤ℤ◌, ◌<ℤ◌, pos, negsuc};
-ghost use Rattle.std.specs.Int.RustNames.{unsigned_abs};
+ghost use Rattle.std.specs.Prelude.{◌≡◌, ◌%◌, ◌^◌, ◌<◌, ◌≤ℤ◌, ◌<ℤ◌, pos, negsuc, unsigned_abs};
 ghost use Rattle.bits.specs.Words.{Fits12};
 
 /// One of the registers x0 to x31.

@@ -1,8 +1,6 @@
 //! The text of an instruction, as a disassembler prints it.
 
-ghost use Rattle.std.specs.Prelude.{◌≡◌, ◌++◌, codes, IfOk, Some};
-ghost use Rattle.std.specs.Fmt.{decimal};
-ghost use Rattle.std.specs.String.{string_bytes};
+ghost use Rattle.std.specs.Prelude.{◌≡◌, ◌++◌, codes, IfOk, Some, decimal, string_bytes};
 ghost use Rattle.rv_isa.specs.Text.{
   address_text,
   branch_name,

@@ -1,6 +1,5 @@
 -- What allows something is mapped.
-use Rattle.std.proofs.Common.{◌≡◌, ℕ, Bool, true, false, refl}
-use Rattle.std.specs.Prelude.{◌||◌, not}
+use Rattle.std.proofs.Common.{◌≡◌, ℕ, Bool, true, false, refl, ◌||◌, not}
 use Rattle.std.proofs.lemmas.Bool.{and_parts}
 use Rattle.rv_isa.specs.Memory.{each_of}
 use Rattle.rv_isa.specs.declared.permission.Permission.{Permission}

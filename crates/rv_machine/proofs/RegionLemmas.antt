@@ -1,8 +1,5 @@
 -- Regions made of segments hold what the segments have; bytes written in one region are written in memory.
-use Rattle.std.proofs.Common.{◌≡◌, ℕ, zero, suc, ◌+◌, ◌-◌, ◌<◌, ◌≤◌, Bool, true, false, nat_lt, List, [], ◌∷◌, ◌++◌, length, take, get_or, replicate, refl, sym, ◌∙◌, ap, arith, inl, inr, cond, Some, None, slice_get}
-use Rattle.std.specs.Prelude.{◌&&◌, nat_le, find, ◌⊎◌, slice_index, unwrap_or}
-use Rattle.std.specs.Option.{option_map}
-use Rattle.std.proofs.Common.{subst, add-one}
+use Rattle.std.proofs.Common.{◌≡◌, ℕ, zero, suc, ◌+◌, ◌-◌, ◌<◌, ◌≤◌, Bool, true, false, nat_lt, List, [], ◌∷◌, ◌++◌, length, take, get_or, replicate, refl, sym, ◌∙◌, ap, arith, inl, inr, cond, Some, None, slice_get, ◌&&◌, nat_le, find, ◌⊎◌, slice_index, unwrap_or, option_map, subst, add-one}
 use Rattle.std.proofs.Math.Seq.{take-suc}
 use Rattle.std.proofs.lemmas.Option.{none-some, same_Some}
 use Rattle.rv_isa.specs.Start.{stack_bottom, stack_top}

@@ -1,9 +1,6 @@
 -- The state that a machine starts in is a start of its file.
-use Rattle.std.proofs.Common.{◌≡◌, ℕ, zero, suc, ◌+◌, ◌*◌, ◌^◌, ◌<◌, ◌≤◌, Bool, true, false, refl, ◌∙◌, ap, arith, List, [], ◌∷◌, ◌++◌, length, lit<, mod-lt, inl, inr}
-use Rattle.std.specs.Prelude.{◌&&◌, ◌⊎◌, nat_le, nat_lt, Option, Some, None, slice_get, slice_index, find, replicate, unwrap_or, ◌==◌, if◌then◌else◌}
-use Rattle.std.specs.Option.{option_map}
+use Rattle.std.proofs.Common.{◌≡◌, ℕ, zero, suc, ◌+◌, ◌*◌, ◌^◌, ◌<◌, ◌≤◌, Bool, true, false, refl, ◌∙◌, ap, arith, List, [], ◌∷◌, ◌++◌, length, lit<, mod-lt, inl, inr, ◌&&◌, ◌⊎◌, nat_le, nat_lt, Option, Some, None, slice_get, slice_index, find, replicate, unwrap_or, ◌==◌, if◌then◌else◌, option_map, le-ltb, ltb-true, ltb-false}
 use Rattle.std.specs.Int.{w64, to_le_bytes}
-use Rattle.std.proofs.lemmas.Bool.{le-ltb, ltb-true, ltb-false}
 use Rattle.std.proofs.Math.Bool.{and-false}
 use Rattle.rv_isa.specs.State.{updated}
 use Rattle.rv_isa.specs.Start.{argument_bytes, pointer_bytes, word_bytes, stack_top, stack_bottom}

@@ -1,7 +1,6 @@
 //! What regions hold at an address, and whole numbers in one of them.
 
-ghost use Rattle.std.specs.Prelude.{◌≡◌, ℕ, ◌+◌, ◌-◌, ◌≤◌, ◌<◌, ◌^◌, true, IfSome, IsSome, slice_index, length};
-ghost use Rattle.std.specs.Option.{option_copied};
+ghost use Rattle.std.specs.Prelude.{◌≡◌, ℕ, ◌+◌, ◌-◌, ◌≤◌, ◌<◌, ◌^◌, true, IfSome, IsSome, slice_index, length, option_copied};
 ghost use Rattle.rv_isa.specs.Memory.{number_at, stored};
 ghost use Rattle.rv_machine.specs.Mapped.{IsRead, IsWritten, is_mapped};
 ghost use Rattle.rv_isa.specs.State.{updated};

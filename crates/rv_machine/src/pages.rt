@@ -1,7 +1,6 @@
 //! The pages of a memory.
 
-ghost use Rattle.std.specs.Prelude.{◌≡◌, ℕ, ◌+◌, ◌-◌, ◌*◌, ◌%◌, ◌≤◌, ◌<◌, ◌^◌, true, IsSome, IfSome, List, slice_index, IfOk, OnOk, OnSome, Some, length};
-ghost use Rattle.std.specs.Option.{option_copied};
+ghost use Rattle.std.specs.Prelude.{◌≡◌, ℕ, ◌+◌, ◌-◌, ◌*◌, ◌%◌, ◌≤◌, ◌<◌, ◌^◌, true, IsSome, IfSome, List, slice_index, IfOk, OnOk, OnSome, Some, length, option_copied};
 ghost use Rattle.std.specs.Bool.{OnFalse, OnTrue};
 ghost use Rattle.rv_isa.specs.State.{updated};
 ghost use Rattle.rv_machine.specs.declared.regions.Region.{Region};

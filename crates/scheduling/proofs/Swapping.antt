@@ -1,11 +1,10 @@
 -- Lists in which an item and the next one have changed places.
-use Rattle.std.proofs.Common.{◌≡◌, ℕ, zero, suc, ◌+◌, Bool, true, false, nat_eq, if◌then◌else◌, List, [], ◌∷◌, ◌++◌, length, slice_get, Some, refl, sym, ◌∙◌, ap, subst, arith}
+use Rattle.std.proofs.Common.{◌≡◌, ℕ, zero, suc, ◌+◌, Bool, true, false, nat_eq, if◌then◌else◌, List, [], ◌∷◌, ◌++◌, length, slice_get, Some, refl, sym, ◌∙◌, ap, subst, arith, swap, slice_set, slice_index_or}
 use Rattle.std.proofs.lemmas.Bool.Decides.{nat_tests}
 use Rattle.vcode.specs.declared.place.Location.{Location}
 use Rattle.vcode.specs.declared.line.Line.{Line}
 use Rattle.scheduling.specs.Independent.{is_independent}
 use Rattle.scheduling.specs.Scheduled.{are_independent, is_swap, swapped}
-use Rattle.std.specs.Prelude.{swap, slice_set, slice_index_or}
 
 -- ys is xs with the items l and m from n on in each other's place
 pub record Exchanged {X : Type 0} (n : ℕ) (xs ys : List X) (l m : X) : Type 0 where

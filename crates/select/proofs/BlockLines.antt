@@ -1,7 +1,5 @@
 -- Where the lines of instructions and endings stand in the virtual code.
-use Rattle.std.proofs.Common.{◌≡◌, ℕ, zero, suc, ◌+◌, ◌-◌, List, [], ◌∷◌, ◌++◌, length, map, refl, sym, ◌∙◌, ap, arith, append_assoc}
-use Rattle.std.specs.Prelude.{slice_get, Some, None}
-use Rattle.std.proofs.lemmas.List.{length-append}
+use Rattle.std.proofs.Common.{◌≡◌, ℕ, zero, suc, ◌+◌, ◌-◌, List, [], ◌∷◌, ◌++◌, length, map, refl, sym, ◌∙◌, ap, arith, append_assoc, slice_get, Some, None, length-append}
 use Rattle.il_ast.specs.declared.instruction.Lined.{Lined}
 use Rattle.il_ast.specs.declared.instruction.Inst.{Inst}
 use Rattle.il_ast.specs.declared.block.Block.{Block}

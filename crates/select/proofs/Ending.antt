@@ -1,8 +1,6 @@
 -- The virtual code simulates the endings of blocks, and so the whole function.
-use Rattle.std.proofs.Common.{◌≡◌, ℕ, zero, suc, ◌+◌, ◌-◌, Bool, true, false, not, cond, nat_eq, nat_lt, List, [], ◌∷◌, length, map, replicate, refl, sym, ◌∙◌, ap, subst}
-use Rattle.std.specs.Prelude.{slice_get, slice_set, Option, Some, None}
+use Rattle.std.proofs.Common.{◌≡◌, ℕ, zero, suc, ◌+◌, ◌-◌, Bool, true, false, not, cond, nat_eq, nat_lt, List, [], ◌∷◌, length, map, replicate, refl, sym, ◌∙◌, ap, subst, slice_get, slice_set, Option, Some, None, append-nil}
 use Rattle.std.specs.Option.{option_and_then, option_flatten}
-use Rattle.std.proofs.lemmas.List.{append-nil}
 use Rattle.il_ast.specs.declared.operation.Class.{Class}
 use Rattle.il_ast.specs.declared.operation.Class.TheVariants.{W}
 use Rattle.il_ast.specs.declared.operation.Condition.TheVariants.{NotEqual}

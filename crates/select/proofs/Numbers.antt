@@ -1,6 +1,5 @@
 -- The machine's operations give the source's numbers.
-use Rattle.std.proofs.Common.{◌≡◌, ℕ, ◌-◌, ◌*◌, ◌/◌, ◌%◌, ◌^◌, Bool, true, false, not, cond, nat_eq, ◌&&◌, ◌∙◌, ap, arith}
-use Rattle.std.specs.Prelude.{Some, None, int_div, int_rem}
+use Rattle.std.proofs.Common.{◌≡◌, ℕ, ◌-◌, ◌*◌, ◌/◌, ◌%◌, ◌^◌, Bool, true, false, not, cond, nat_eq, ◌&&◌, ◌∙◌, ap, arith, Some, None, int_div, int_rem}
 use Rattle.std.specs.Int.{w32, w64, cast_signed, cast_unsigned, int_shr}
 use Rattle.il_ast.specs.declared.operation.Class.TheVariants.{W, L}
 use Rattle.il_ast.specs.declared.operation.BinaryOp.{BinaryOp}

@@ -1,6 +1,5 @@
 -- Lines that set a register, and leave all else.
-use Rattle.std.proofs.Common.{◌≡◌, ℕ, ◌+◌, Bool, true, false, cond, nat_eq, List, [], ◌∷◌, refl, sym, ◌∙◌, ap, arith}
-use Rattle.std.specs.Prelude.{slice_get, slice_set, Option, Some}
+use Rattle.std.proofs.Common.{◌≡◌, ℕ, ◌+◌, Bool, true, false, cond, nat_eq, List, [], ◌∷◌, refl, sym, ◌∙◌, ap, arith, slice_get, slice_set, Option, Some}
 use Rattle.std.specs.Option.{option_and_then, option_flatten}
 use Rattle.std.proofs.lemmas.Bool.Decides.{nat_tests}
 use Rattle.il_ast.specs.declared.operation.Class.{Class}

@@ -1,8 +1,7 @@
 -- The class of each temporary of a function without phis: a word where a parameter, a phi or an
 -- instruction assigns it as one, or where it is the own temporary of a phi whose result is a word;
 -- else a long.
-use Rattle.std.specs.Prelude.{ℕ, ◌-◌, nat_lt, if◌then◌else◌, List, length, slice_get, Option, Some, None}
-use Rattle.std.specs.List.{flat_map}
+use Rattle.std.specs.Prelude.{ℕ, ◌-◌, nat_lt, if◌then◌else◌, List, length, slice_get, Option, Some, None, flat_map}
 use Rattle.il_ast.specs.declared.operation.Class.{Class}
 use Rattle.il_ast.specs.declared.operation.Class.TheVariants.{W, L}
 use Rattle.il_ast.specs.declared.block.Phi.{Phi}

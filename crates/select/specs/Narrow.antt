@@ -1,8 +1,7 @@
 -- Virtual code with registers and weights of 32 bits: whatever is longer loses its high bits.
 -- Nothing is in a function of a good text, whose virtual code is then `selected`. No public promise
 -- names what stands here.
-use Rattle.std.specs.Prelude.{ℕ, ◌%◌, ◌^◌, true, List, [], ◌∷◌, ◌++◌, map}
-use Rattle.std.specs.Option.{option_map}
+use Rattle.std.specs.Prelude.{ℕ, ◌%◌, ◌^◌, true, List, [], ◌∷◌, ◌++◌, map, option_map}
 use Rattle.il_ast.specs.declared.operand.Val.{Val}
 use Rattle.il_ast.specs.declared.operand.Val.TheVariants.{Int, Temp, Global}
 use Rattle.il_ast.specs.declared.operand.Dest.{Dest}

@@ -1,6 +1,5 @@
 //! The class of each temporary of a function without phis, in a table.
-ghost use Rattle.std.specs.Prelude.{◌≡◌, ◌<◌, ◌+◌, ◌++◌, ◌&&◌, ℕ, nat_eq, if◌then◌else◌, length, map, IfOk, OnOk};
-ghost use Rattle.std.specs.List.{flat_map};
+ghost use Rattle.std.specs.Prelude.{◌≡◌, ◌<◌, ◌+◌, ◌++◌, ◌&&◌, ℕ, nat_eq, if◌then◌else◌, length, map, IfOk, OnOk, flat_map};
 ghost use Rattle.il_ast.specs.declared.block.Phi.{Phi as PhiOf};
 ghost use Rattle.il_ast.specs.declared.operation.Class.TheVariants.{W};
 ghost use Rattle.il_ast.specs.Cost.{phi_count};

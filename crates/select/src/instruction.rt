@@ -1,6 +1,5 @@
 //! Lines of instructions.
-ghost use Rattle.std.specs.Prelude.{◌≡◌, ◌++◌, [], ◌∷◌, map, OnOk};
-ghost use Rattle.std.specs.Option.{option_map};
+ghost use Rattle.std.specs.Prelude.{◌≡◌, ◌++◌, [], ◌∷◌, map, OnOk, option_map};
 ghost use Rattle.il_ast.specs.Cost.{inst_weight};
 ghost use Rattle.select.specs.Tables.{listed};
 ghost use Rattle.vcode.specs.declared.line.Line.TheVariants.{Call};

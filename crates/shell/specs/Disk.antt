@@ -1,6 +1,5 @@
 -- What files hold, and which calls of a disk failed, and why.
-use Rattle.std.specs.Prelude.{◌≡◌, ℕ, ◌++◌, List, [], ◌∷◌, Option, Some, None, Result, Ok, Err, map}
-use Rattle.std.specs.String.{string_bytes}
+use Rattle.std.specs.Prelude.{◌≡◌, ℕ, ◌++◌, List, [], ◌∷◌, Option, Some, None, Result, Ok, Err, map, string_bytes}
 use Rattle.shell.specs.declared.disk.Access.{Access}
 use Rattle.shell.specs.declared.disk.FileFault.{FileFault}
 use Rattle.shell.specs.declared.disk.FileFault.TheVariants.{Device, Memory}

@@ -1,7 +1,5 @@
 -- What files in memory hold: of two at one path the first.
-use Rattle.std.specs.Prelude.{if◌then◌else◌, List, [], ◌∷◌, Some, None}
-use Rattle.std.specs.Str.{bytes_eq}
-use Rattle.std.specs.String.{string_bytes}
+use Rattle.std.specs.Prelude.{if◌then◌else◌, List, [], ◌∷◌, Some, None, bytes_eq, string_bytes}
 use Rattle.shell.specs.Disk.{Files}
 use Rattle.shell.specs.declared.memory_disk.MemoryFile.{MemoryFile}
 

@@ -1,6 +1,5 @@
 //! Disassembled files.
-ghost use Rattle.std.specs.Prelude.{◌≡◌, ◌+◌, ◌^◌, ◌<◌, ◌++◌, length, map, IfOk, OnOk};
-ghost use Rattle.std.specs.String.{string_bytes};
+ghost use Rattle.std.specs.Prelude.{◌≡◌, ◌+◌, ◌^◌, ◌<◌, ◌++◌, length, map, IfOk, OnOk, string_bytes};
 ghost use Rattle.shell.specs.Lines.{dis_lines, eight_digits, line, lines_of, segment_lines, word_text};
 
 use elf_file::{Loaded, Segment};

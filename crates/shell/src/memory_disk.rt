@@ -1,6 +1,5 @@
 //! Files in memory.
-ghost use Rattle.std.specs.Prelude.{◌≡◌, ◌↔◌, [], Some, None, Err, IfOk, OnOk, OnErr};
-ghost use Rattle.std.specs.Option.{option_map};
+ghost use Rattle.std.specs.Prelude.{◌≡◌, ◌↔◌, [], Some, None, Err, IfOk, OnOk, OnErr, option_map};
 ghost use Rattle.shell.specs.declared.disk.FileFault.TheVariants.{Device};
 ghost use Rattle.shell.specs.Disk.{Holds, Spares, no_failed_calls, told_faults};
 ghost use Rattle.shell.specs.MemoryDisk.{first_at};

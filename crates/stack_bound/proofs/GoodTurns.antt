@@ -1,6 +1,5 @@
 -- A turn of a function whose calls are within what its bound leaves keeps good locals and memory, and makes only such calls.
-use Rattle.std.proofs.Common.{◌≡◌, ℕ, zero, suc, ◌≤◌, Bool, true, false, nat_eq, List, [], ◌∷◌, length, map, refl, sym, subst, arith, cond}
-use Rattle.std.specs.Prelude.{slice_get, slice_set, Option, Some, None}
+use Rattle.std.proofs.Common.{◌≡◌, ℕ, zero, suc, ◌≤◌, Bool, true, false, nat_eq, List, [], ◌∷◌, length, map, refl, sym, subst, arith, cond, slice_get, slice_set, Option, Some, None}
 use Rattle.std.specs.List.{list_all, find}
 use Rattle.std.specs.Option.{option_map, option_and_then, option_flatten}
 use Rattle.std.proofs.lemmas.Bool.{and_parts}

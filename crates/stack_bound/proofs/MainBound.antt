@@ -1,6 +1,5 @@
 -- What the bound of `main` says of its program.
-use Rattle.std.proofs.Common.{◌≡◌, ◌≤◌, ℕ, sym}
-use Rattle.std.specs.Prelude.{Option, Some, None, IfSome}
+use Rattle.std.proofs.Common.{◌≡◌, ◌≤◌, ℕ, sym, Option, Some, None, IfSome}
 use Rattle.il_ast.specs.declared.limits.TheConstants.{STACK_ROOM}
 use Rattle.il_ast.specs.declared.program.Program.{Program}
 use Rattle.il_ast.specs.declared.value.Callee.TheVariants.{Defined}

@@ -1,6 +1,5 @@
 -- The lines of a report, each with its line end.
-use Rattle.std.specs.Prelude.{ℕ, Bool, ◌++◌, List, [], codes, nat_lt, if◌then◌else◌}
-use Rattle.std.specs.Fmt.{decimal}
+use Rattle.std.specs.Prelude.{ℕ, Bool, ◌++◌, List, [], codes, nat_lt, if◌then◌else◌, decimal}
 
 -- how many cases there are, and how many of them failed
 abbrev pub counts : ℕ → ℕ → List ℕ

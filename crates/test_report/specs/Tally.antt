@@ -1,7 +1,5 @@
 -- What checks do to the counts of a report. A count stops at the greatest number of its type.
-use Rattle.std.specs.Prelude.{ℕ, ◌+◌, ◌-◌, ◌^◌, ◌&&◌, min, Bool, if◌then◌else◌}
-use Rattle.std.specs.Str.{bytes_eq}
-use Rattle.std.specs.String.{string_bytes}
+use Rattle.std.specs.Prelude.{ℕ, ◌+◌, ◌-◌, ◌^◌, ◌&&◌, min, Bool, if◌then◌else◌, bytes_eq, string_bytes}
 use Rattle.test_report.specs.declared.told.Told.{Told}
 
 abbrev pub capped_sum : ℕ → ℕ → ℕ

@@ -1,7 +1,5 @@
 //! What is found, line by line.
-ghost use Rattle.std.specs.Prelude.{◌≡◌, ◌&&◌, ◌++◌, false, [], codes, IsTrue, OnOk};
-ghost use Rattle.std.specs.Str.{bytes_eq};
-ghost use Rattle.std.specs.String.{string_bytes};
+ghost use Rattle.std.specs.Prelude.{◌≡◌, ◌&&◌, ◌++◌, false, [], codes, IsTrue, OnOk, bytes_eq, string_bytes};
 ghost use Rattle.test_report.specs.Tally.{capped_sum, one_more, with_failure, after_check, is_same};
 ghost use Rattle.test_report.specs.Printed.{counts, group_line, failure_line, line_unless};
 

@@ -1,7 +1,5 @@
 //! How runs end, in words.
-ghost use Rattle.std.specs.Prelude.{◌≡◌, ◌||◌, [], codes, IfOk};
-ghost use Rattle.std.specs.Str.{bytes_eq};
-ghost use Rattle.std.specs.String.{string_bytes};
+ghost use Rattle.std.specs.Prelude.{◌≡◌, ◌||◌, [], codes, IfOk, bytes_eq, string_bytes};
 
 use std::alloc::{AllocError, Global};
 use std::str;

@@ -1,6 +1,5 @@
 -- All that is known stays true over a tick.
-use Rattle.std.proofs.Common.{◌≡◌, ℕ, Bool, List, [], ◌∷◌, refl, ap}
-use Rattle.std.specs.List.{filter}
+use Rattle.std.proofs.Common.{◌≡◌, ℕ, Bool, List, [], ◌∷◌, refl, ap, filter}
 use Rattle.vcode.specs.declared.line.Line.TheVariants.{Tick}
 use Rattle.value_numbering.specs.declared.fact.Fact.{Fact}
 use Rattle.value_numbering.specs.Known.{stays}

@@ -1,6 +1,5 @@
 -- Extensions of low bits, as loads extend what they read; and what is extended so already.
-use Rattle.std.specs.Prelude.{◌≡◌, ℕ, ◌^◌, Bool, true, false, ◌&&◌, nat_eq, nat_lt, nat_le, if◌then◌else◌, List, Option, Some, None}
-use Rattle.std.specs.Option.{option_and_then, option_map}
+use Rattle.std.specs.Prelude.{◌≡◌, ℕ, ◌^◌, Bool, true, false, ◌&&◌, nat_eq, nat_lt, nat_le, if◌then◌else◌, List, Option, Some, None, option_and_then, option_map}
 use Rattle.il_ast.specs.declared.value.Value.{Value}
 use Rattle.vcode.specs.declared.place.Address.{Address}
 use Rattle.vcode.specs.declared.place.Operand.{Operand}

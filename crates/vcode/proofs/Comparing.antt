@@ -1,6 +1,5 @@
 -- Words compare as their extensions do.
-use Rattle.std.proofs.Common.{◌≡◌, ℕ, ◌^◌, ◌<◌, ◌∙◌, ap, arith}
-use Rattle.std.specs.Prelude.{not, nat_eq, nat_lt, nat_le, int_lt, int_le}
+use Rattle.std.proofs.Common.{◌≡◌, ℕ, ◌^◌, ◌<◌, ◌∙◌, ap, arith, not, nat_eq, nat_lt, nat_le, int_lt, int_le}
 use Rattle.std.specs.Int.{cast_signed, w32, w64}
 use Rattle.std.proofs.lemmas.Int.{ints}
 use Rattle.std.proofs.lemmas.Bool.Decides.{nat_tests}

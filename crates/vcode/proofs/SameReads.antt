@@ -1,6 +1,5 @@
 -- What a line or a jump does with other operands that have the same values, in other values of the places.
-use Rattle.std.proofs.Common.{◌≡◌, ℕ, nat_eq, if◌then◌else◌, List, [], ◌∷◌, map, Option, refl, ◌∙◌, ap}
-use Rattle.std.specs.Option.{option_map, option_and_then}
+use Rattle.std.proofs.Common.{◌≡◌, ℕ, nat_eq, if◌then◌else◌, List, [], ◌∷◌, map, Option, refl, ◌∙◌, ap, option_map, option_and_then}
 use Rattle.il_ast.specs.declared.value.Value.{Value}
 use Rattle.il_ast.specs.Memory.{Memory}
 use Rattle.rv_isa.specs.declared.instruction.RegOp.TheVariants.{Add}

@@ -1,7 +1,6 @@
 -- How values stand in places, and what the operations give: those of the machine on integers
 -- (Unprivileged ISA manual), the source's rules on pointers and functions.
-use Rattle.std.specs.Prelude.{ℕ, ◌%◌, ◌^◌, Bool, false, nat_eq, if◌then◌else◌, Option, Some, None}
-use Rattle.std.specs.Option.{option_and_then}
+use Rattle.std.specs.Prelude.{ℕ, ◌%◌, ◌^◌, Bool, false, nat_eq, if◌then◌else◌, Option, Some, None, option_and_then}
 use Rattle.bits.specs.Words.{sign_extended}
 use Rattle.il_ast.specs.declared.operation.Class.{Class}
 use Rattle.il_ast.specs.declared.operation.Class.TheVariants.{W, L}

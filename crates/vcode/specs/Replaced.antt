@@ -1,7 +1,6 @@
 -- Lines and jumps in which other operands stand: what a pass makes of them that changes only what
 -- they read.
-use Rattle.std.specs.Prelude.{ℕ, map}
-use Rattle.std.specs.Option.{option_map}
+use Rattle.std.specs.Prelude.{ℕ, map, option_map}
 use Rattle.vcode.specs.declared.place.Operand.{Operand}
 use Rattle.vcode.specs.declared.place.ReturnValue.{ReturnValue}
 use Rattle.vcode.specs.declared.place.Address.{Address}

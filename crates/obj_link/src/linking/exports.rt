@@ -1,6 +1,5 @@
 //! What texts can see of one another.
-ghost use Rattle.std.specs.Prelude.{◌≡◌, ◌<◌, ◌≤◌, ℕ, List, [], cond, slice_index_or, Some, OnOk, IfOk, MatchResult, IsTrue};
-ghost use Rattle.std.specs.Str.{bytes_eq};
+ghost use Rattle.std.specs.Prelude.{◌≡◌, ◌<◌, ◌≤◌, ℕ, List, [], cond, slice_index_or, Some, OnOk, IfOk, MatchResult, IsTrue, bytes_eq};
 ghost use Rattle.obj_link.specs.Names.{symbol_name, predefined, visible, times_exported};
 ghost use Rattle.obj_link.specs.Tables.{seen, is_free};
 ghost use Rattle.obj_link.specs.Refusals.{RefusesExports};

@@ -1,6 +1,5 @@
 //! The limits over all texts of a program.
-ghost use Rattle.std.specs.Prelude.{◌≡◌, map};
-ghost use Rattle.std.specs.List.{sum_by};
+ghost use Rattle.std.specs.Prelude.{◌≡◌, map, sum_by};
 ghost use Rattle.il_ast.specs.Values.{byte_count};
 ghost use Rattle.il_types.specs.Capped.{capped};
 ghost use Rattle.obj_link.specs.Shown.{shown};

@@ -1,6 +1,5 @@
 //! The global names that texts define, and what each definition gives its name.
-ghost use Rattle.std.specs.Prelude.{◌≡◌, ◌++◌, map, OnOk, IfOk};
-ghost use Rattle.std.specs.List.{flat_map};
+ghost use Rattle.std.specs.Prelude.{◌≡◌, ◌++◌, map, OnOk, IfOk, flat_map};
 ghost use Rattle.obj_link.specs.Shown.{shown};
 ghost use Rattle.obj_link.specs.Names.{function_in, object_in, functions_of, objects_of, names_of_functions, names_of_objects};
 

@@ -1,6 +1,5 @@
 //! What is known of each register.
-ghost use Rattle.std.specs.Prelude.{◌≡◌, ◌+◌, ◌*◌, ◌^◌, ◌<◌, ◌≤◌, ℕ, true, false, not, ◌&&◌, ◌||◌, nat_le, length, slice_get, slice_set, IfOk, Some, None};
-ghost use Rattle.std.specs.Option.{option_map};
+ghost use Rattle.std.specs.Prelude.{◌≡◌, ◌+◌, ◌*◌, ◌^◌, ◌<◌, ◌≤◌, ℕ, true, false, not, ◌&&◌, ◌||◌, nat_le, length, slice_get, slice_set, IfOk, Some, None, option_map};
 ghost use Rattle.propagation.specs.Facts.{names_it, fact_names, kept_if};
 ghost use Rattle.propagation.specs.FactTable.{cell, is_fresh, stands, counted, facts_of, copy_of, IsTable, IsAtLine, changed, over};
 

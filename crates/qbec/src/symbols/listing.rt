@@ -1,7 +1,6 @@
 //! The symbols of texts as lines, in the form in which `nm -S` prints them.
-ghost use Rattle.std.specs.Prelude.{◌≡◌, ◌++◌, map, IfOk, IfErr, OnOk};
+ghost use Rattle.std.specs.Prelude.{◌≡◌, ◌++◌, map, IfOk, IfErr, OnOk, MatchResult};
 ghost use Rattle.std.specs.List.{concat};
-ghost use Rattle.std.specs.Result.{MatchResult};
 ghost use Rattle.il_ast.specs.declared.program.Program.{Program};
 ghost use Rattle.obj_link.specs.Program.{IsProgram};
 ghost use Rattle.obj_link.specs.ProgramOf.{program};

@@ -1,5 +1,4 @@
-use Rattle.std.proofs.Common.{◌≤◌, sym, subst, List, ℕ}
-use Rattle.std.specs.Prelude.{length}
+use Rattle.std.proofs.Common.{◌≤◌, sym, subst, List, ℕ, length}
 use Rattle.abi_frames.proofs.Joining.{items_are}
 use Rattle.abi_frames.proofs.Saving.{few_saved_registers}
 use Rattle.abi_frames.proofs.frame.frame_items.Goals as goal

@@ -1,5 +1,4 @@
-use Rattle.std.proofs.Common.{◌≡◌, ◌≤◌, ◌<◌, ◌+◌, ◌^◌, true, sym, subst, List, ℕ, arith}
-use Rattle.std.specs.Prelude.{length}
+use Rattle.std.proofs.Common.{◌≡◌, ◌≤◌, ◌<◌, ◌+◌, ◌^◌, true, sym, subst, List, ℕ, arith, length}
 use Rattle.il_ast.specs.declared.limits.TheConstants.{ALLOC_BYTES}
 use Rattle.vcode.specs.Regular.{alloc_bytes, passes_few}
 use Rattle.abi_frames.proofs.Shared.{Location, Destination, Block, Layout, list_all, sum_by, leb-true}

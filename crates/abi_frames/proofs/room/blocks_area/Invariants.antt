@@ -1,5 +1,4 @@
-use Rattle.std.proofs.Common.{◌≡◌, ◌+◌, drop}
-use Rattle.std.specs.List.{sum_by}
+use Rattle.std.proofs.Common.{◌≡◌, ◌+◌, drop, sum_by}
 use Rattle.vcode.specs.Regular.{alloc_bytes}
 use Rattle.abi_frames.proofs.room.blocks_area.Given as goal
 

@@ -1,5 +1,4 @@
-use Rattle.std.proofs.Common.{◌≡◌, drop}
-use Rattle.std.specs.Prelude.{max}
+use Rattle.std.proofs.Common.{◌≡◌, drop, max}
 use Rattle.abi_frames.specs.Layout.{most_in_blocks}
 use Rattle.abi_frames.proofs.room.most_in_blocks.Given as goal
 

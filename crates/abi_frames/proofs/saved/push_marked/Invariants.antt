@@ -1,5 +1,4 @@
-use Rattle.std.proofs.Common.{◌≡◌, ◌++◌, drop}
-use Rattle.std.specs.Prelude.{filter}
+use Rattle.std.proofs.Common.{◌≡◌, ◌++◌, drop, filter}
 use Rattle.abi_frames.specs.Marked.{is_marked}
 use Rattle.abi_frames.proofs.saved.push_marked.Given as goal
 

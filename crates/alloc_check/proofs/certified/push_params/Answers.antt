@@ -1,9 +1,7 @@
-use Rattle.std.proofs.Common.{arith}
-use Rattle.std.proofs.Common.{sym, ◌∙◌, ap, ◌++◌}
+use Rattle.std.proofs.Common.{arith, sym, ◌∙◌, ap, ◌++◌, append-nil}
 use Rattle.std.proofs.lemmas.Grind.{common_steps}
 use Rattle.alloc_check.proofs.Entering.{no_more}
 use Rattle.alloc_check.proofs.certified.push_params.Goals as goal
-use Rattle.std.proofs.lemmas.List.{append-nil}
 
 pub returns-in-None : goal.returns-in-None
 returns-in-None c =

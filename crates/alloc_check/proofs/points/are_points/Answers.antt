@@ -1,5 +1,4 @@
-use Rattle.std.proofs.Common.{arith}
-use Rattle.std.proofs.Common.{sym, ◌∙◌, ◌+◌}
+use Rattle.std.proofs.Common.{arith, sym, ◌∙◌, ◌+◌}
 use Rattle.alloc_check.specs.Certified.{jump_point}
 use Rattle.alloc_check.specs.Accepted.{end_point}
 use Rattle.std.proofs.lemmas.Grind.{common_steps}

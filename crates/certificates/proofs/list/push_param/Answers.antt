@@ -1,9 +1,8 @@
-use Rattle.std.proofs.Common.{◌++◌, [], ◌∷◌, Option, sym, ap, ◌∙◌}
+use Rattle.std.proofs.Common.{◌++◌, [], ◌∷◌, Option, sym, ap, ◌∙◌, append-nil}
 use Rattle.std.specs.Option.{option_map_or}
 use Rattle.std.proofs.lemmas.Option.{slice_get_past}
 use Rattle.vcode.specs.declared.place.Location.{Location}
 use Rattle.certificates.proofs.list.push_param.Goals as goal
-use Rattle.std.proofs.lemmas.List.{append-nil}
 
 pub returns-in-None : goal.returns-in-None
 returns-in-None c =

@@ -1,5 +1,4 @@
-use Rattle.std.proofs.Common.{◌≡◌, ℕ, drop}
-use Rattle.std.specs.Prelude.{◌||◌}
+use Rattle.std.proofs.Common.{◌≡◌, ℕ, drop, ◌||◌}
 use Rattle.bitset.specs.Bits.{is_member}
 use Rattle.cfg_live.specs.Rows.{any_holds}
 use Rattle.cfg_live.proofs.flow.join_points.Given as goal

@@ -1,6 +1,5 @@
-use Rattle.std.proofs.Common.{map, subst, ◌∙◌, ap}
+use Rattle.std.proofs.Common.{map, subst, ◌∙◌, ap, string_bytes}
 use Rattle.std.specs.List.{concat}
-use Rattle.std.specs.String.{string_bytes}
 use Rattle.shell.specs.Sink.{Tells}
 use Rattle.commands.proofs.check.show_verdict.Goals as goal
 

@@ -1,6 +1,5 @@
-use Rattle.std.proofs.Common.{map, take}
+use Rattle.std.proofs.Common.{map, take, string_bytes}
 use Rattle.std.specs.List.{concat}
-use Rattle.std.specs.String.{string_bytes}
 use Rattle.shell.specs.Sink.{Sends}
 use Rattle.commands.proofs.files.put_lines.Given as goal
 

@@ -1,5 +1,4 @@
-use Rattle.std.proofs.Common.{◌≡◌, ℕ, List, Bor, map, take}
-use Rattle.std.specs.String.{string_bytes}
+use Rattle.std.proofs.Common.{◌≡◌, ℕ, List, Bor, map, take, string_bytes}
 use Rattle.commands.specs.Verdicts.{warning_line}
 use Rattle.commands.proofs.verdict_lines.warning_lines.Given as goal
 

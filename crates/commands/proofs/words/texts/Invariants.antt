@@ -1,5 +1,4 @@
-use Rattle.std.proofs.Common.{◌≡◌, ℕ, List, Bor, map, take}
-use Rattle.std.specs.String.{string_bytes}
+use Rattle.std.proofs.Common.{◌≡◌, ℕ, List, Bor, map, take, string_bytes}
 use Rattle.commands.proofs.words.texts.Given as goal
 
 abbrev pub invariant-loop-text : goal.invariant-loop-text

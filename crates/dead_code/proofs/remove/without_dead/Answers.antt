@@ -1,5 +1,4 @@
-use Rattle.std.proofs.Common.{ℕ, List, subst}
-use Rattle.std.specs.Prelude.{IfSome}
+use Rattle.std.proofs.Common.{ℕ, List, subst, IfSome}
 use Rattle.vcode.specs.declared.code.Block.{Block}
 use Rattle.dead_code.specs.Without.{Closed}
 use Rattle.dead_code.proofs.remove.without_dead.Goals as goal

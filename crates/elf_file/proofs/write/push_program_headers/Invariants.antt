@@ -1,5 +1,4 @@
-use Rattle.std.proofs.Common.{◌≡◌, ◌++◌, take}
-use Rattle.std.specs.List.{flat_map}
+use Rattle.std.proofs.Common.{◌≡◌, ◌++◌, take, flat_map}
 use Rattle.elf_file.specs.File.{fields_bytes, program_header_fields}
 use Rattle.elf_file.proofs.write.push_program_headers.Given as goal
 

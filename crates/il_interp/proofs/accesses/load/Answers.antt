@@ -1,5 +1,4 @@
-use Rattle.std.proofs.Common.{◌∙◌, ap}
-use Rattle.std.specs.Prelude.{slice_set, Some}
+use Rattle.std.proofs.Common.{◌∙◌, ap, slice_set, Some}
 use Rattle.il_ast.specs.declared.value.Value.TheVariants.{Integer}
 use Rattle.il_interp.proofs.AccessLemmas.{does_load}
 use Rattle.il_interp.proofs.accesses.load.Goals as goal

@@ -1,5 +1,4 @@
-use Rattle.std.proofs.Common.{◌∙◌, sym, ap, map, List, [], ℕ}
-use Rattle.std.specs.Borrow.{Bor}
+use Rattle.std.proofs.Common.{◌∙◌, sym, ap, map, List, [], ℕ, Bor}
 use Rattle.il_interp.specs.Machine.{On, Over}
 use Rattle.il_interp.specs.Begun.{begun_next}
 use Rattle.il_interp.proofs.RunLemmas.{behaves, run_means}

@@ -1,5 +1,4 @@
-use Rattle.std.proofs.Common.{◌≡◌, ◌∙◌, ap, subst, sym, List, Bool}
-use Rattle.std.specs.Prelude.{Option, Some, None, MatchBool}
+use Rattle.std.proofs.Common.{◌≡◌, ◌∙◌, ap, subst, sym, List, Bool, Option, Some, None, MatchBool}
 use Rattle.il_ast.specs.declared.value.Value.{Value}
 use Rattle.il_ast.specs.Effect.{phi_values, with_phis}
 use Rattle.obj_link.specs.Shown.{shown}

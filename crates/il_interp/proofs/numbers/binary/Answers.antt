@@ -1,5 +1,4 @@
-use Rattle.std.proofs.Common.{◌∙◌, ap, sym}
-use Rattle.std.specs.Prelude.{slice_set, Some}
+use Rattle.std.proofs.Common.{◌∙◌, ap, sym, slice_set, Some}
 use Rattle.il_ast.specs.declared.value.Value.TheVariants.{Integer}
 use Rattle.il_interp.proofs.RowLemmas.{does_binary}
 use Rattle.il_interp.proofs.numbers.binary.Goals as goal

@@ -1,5 +1,4 @@
-use Rattle.std.proofs.Common.{◌≡◌, ◌++◌}
-use Rattle.std.specs.Prelude.{replicate}
+use Rattle.std.proofs.Common.{◌≡◌, ◌++◌, replicate}
 use Rattle.il_ast.specs.declared.value.Cell.TheVariants.{Blank}
 use Rattle.il_interp.proofs.object.push_blanks.Given as goal
 

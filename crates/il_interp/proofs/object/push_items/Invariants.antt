@@ -1,5 +1,4 @@
-use Rattle.std.proofs.Common.{◌≡◌, ◌++◌, take}
-use Rattle.std.specs.List.{flat_map}
+use Rattle.std.proofs.Common.{◌≡◌, ◌++◌, take, flat_map}
 use Rattle.il_ast.specs.Start.{globals_of, item_cells}
 use Rattle.obj_link.specs.ProgramOf.{program}
 use Rattle.il_interp.proofs.object.push_items.Given as goal

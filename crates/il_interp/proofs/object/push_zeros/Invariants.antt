@@ -1,5 +1,4 @@
-use Rattle.std.proofs.Common.{◌≡◌, ◌++◌}
-use Rattle.std.specs.Prelude.{replicate}
+use Rattle.std.proofs.Common.{◌≡◌, ◌++◌, replicate}
 use Rattle.il_ast.specs.declared.value.Cell.TheVariants.{Plain}
 use Rattle.il_interp.proofs.object.push_zeros.Given as goal
 

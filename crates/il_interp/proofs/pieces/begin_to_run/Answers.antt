@@ -1,5 +1,4 @@
-use Rattle.std.proofs.Common.{◌∙◌, ap, map, refl, List, [], ℕ}
-use Rattle.std.specs.Borrow.{Bor}
+use Rattle.std.proofs.Common.{◌∙◌, ap, map, refl, List, [], ℕ, Bor}
 use Rattle.obj_link.specs.ProgramOf.{program}
 use Rattle.il_interp.specs.Machine.{Over}
 use Rattle.il_interp.specs.Begun.{begun_next}

@@ -1,5 +1,4 @@
-use Rattle.std.proofs.Common.{◌≡◌, ◌++◌, map, take, ℕ, List}
-use Rattle.std.specs.Prelude.{Some}
+use Rattle.std.proofs.Common.{◌≡◌, ◌++◌, map, take, ℕ, List, Some}
 use Rattle.il_ast.specs.Start.{word_cells}
 use Rattle.il_interp.proofs.start.add_words.Given as goal
 

@@ -1,6 +1,4 @@
-use Rattle.std.proofs.Common.{◌≡◌, ◌∙◌, sym, ap, ℕ, List, [], ◌∷◌, ◌++◌, length, map}
-use Rattle.std.specs.Prelude.{Some}
-use Rattle.std.specs.Borrow.{Bor}
+use Rattle.std.proofs.Common.{◌≡◌, ◌∙◌, sym, ap, ℕ, List, [], ◌∷◌, ◌++◌, length, map, Some, Bor}
 use Rattle.std.proofs.lemmas.List.{length-map}
 use Rattle.il_ast.specs.Start.{list_cells, object_cells, word_cells}
 use Rattle.il_ast.specs.declared.datum.DataDef.{DataDef}

@@ -1,6 +1,5 @@
-use Rattle.std.proofs.Common.{◌≡◌, ◌∙◌, ap, subst, sym}
+use Rattle.std.proofs.Common.{◌≡◌, ◌∙◌, ap, subst, sym, IfOk, Option, slice_get}
 use Rattle.std.proofs.lemmas.Option.{slice_get_past}
-use Rattle.std.specs.Prelude.{IfOk, Option, slice_get}
 use Rattle.il_ast.specs.declared.instruction.Inst.{Inst}
 use Rattle.il_ast.specs.declared.instruction.Jump.{Jump}
 use Rattle.il_ast.specs.declared.instruction.Lined.{Lined}

@@ -1,5 +1,4 @@
-use Rattle.std.proofs.Common.{◌≡◌, List, ℕ, drop, length, sym, ap, arith}
-use Rattle.std.proofs.lemmas.List.{length-drop}
+use Rattle.std.proofs.Common.{◌≡◌, List, ℕ, drop, length, sym, ap, arith, length-drop}
 use Rattle.il_lex.specs.Scan.{items_len}
 use Rattle.il_lex.proofs.Plain.{item_some, len_stop, len_turn}
 use Rattle.il_lex.proofs.quoted.items_len.Goals as goal

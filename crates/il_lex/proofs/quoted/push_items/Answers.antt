@@ -1,5 +1,4 @@
-use Rattle.std.proofs.Common.{◌≡◌, List, ℕ, ◌++◌, ◌∷◌, [], drop, length, take, sym, ap, ◌∙◌, append_assoc, arith}
-use Rattle.std.proofs.lemmas.List.{append-nil, length-drop}
+use Rattle.std.proofs.Common.{◌≡◌, List, ℕ, ◌++◌, ◌∷◌, [], drop, length, take, sym, ap, ◌∙◌, append_assoc, arith, append-nil, length-drop}
 use Rattle.il_lex.specs.Scan.{items}
 use Rattle.il_lex.proofs.Plain.{item_some, items_stop, items_turn}
 use Rattle.il_lex.proofs.quoted.push_items.Goals as goal

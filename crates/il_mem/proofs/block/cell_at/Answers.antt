@@ -1,5 +1,4 @@
-use Rattle.std.proofs.Common.{ap, refl, ◌∙◌, ◌≡◌, get_or, arith}
-use Rattle.std.specs.Option.{unwrap_or}
+use Rattle.std.proofs.Common.{ap, refl, ◌∙◌, ◌≡◌, get_or, arith, unwrap_or}
 use Rattle.il_ast.specs.declared.value.Value.TheVariants.{Integer}
 use Rattle.il_mem.specs.declared.block.Mark.TheVariants.{Blank, Plain, Part}
 use Rattle.il_mem.proofs.JoinedLemmas.{get-joined}

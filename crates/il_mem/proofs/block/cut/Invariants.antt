@@ -1,5 +1,4 @@
-use Rattle.std.proofs.Common.{◌≡◌, ◌≤◌, List, length}
-use Rattle.std.specs.Prelude.{vec_capacity}
+use Rattle.std.proofs.Common.{◌≡◌, ◌≤◌, List, length, vec_capacity}
 use Rattle.il_ast.specs.declared.value.Value.{Value}
 use Rattle.il_mem.specs.Joined.{joined, overlaid}
 use Rattle.il_mem.proofs.block.cut.Given as goal

@@ -1,5 +1,4 @@
-use Rattle.std.proofs.Common.{ap, ◌∙◌, ◌≡◌, ◌++◌, ◌∷◌, [], arith, true}
-use Rattle.std.specs.Prelude.{is_ok}
+use Rattle.std.proofs.Common.{ap, ◌∙◌, ◌≡◌, ◌++◌, ◌∷◌, [], arith, true, is_ok}
 use Rattle.il_ast.specs.declared.value.Value.TheVariants.{Integer}
 use Rattle.il_mem.specs.Joined.{joined}
 use Rattle.il_mem.proofs.JoinedLemmas.{ShowsSame-push}

@@ -1,5 +1,4 @@
-use Rattle.std.proofs.Common.{◌+◌, ◌-◌, ◌≤◌, length}
-use Rattle.std.specs.Prelude.{vec_capacity}
+use Rattle.std.proofs.Common.{◌+◌, ◌-◌, ◌≤◌, length, vec_capacity}
 use Rattle.il_mem.specs.Shown.{ShowsSame}
 use Rattle.il_mem.proofs.block.grow.Given as goal
 

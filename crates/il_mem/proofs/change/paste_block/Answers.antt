@@ -1,5 +1,4 @@
-use Rattle.std.proofs.Common.{◌∙◌, sym, ap}
-use Rattle.std.specs.Prelude.{Some}
+use Rattle.std.proofs.Common.{◌∙◌, sym, ap, Some}
 use Rattle.il_ast.specs.Memory.{span}
 use Rattle.il_mem.specs.Changed.{cells_put}
 use Rattle.il_mem.proofs.Putting.{inside_of, pasted, changes}

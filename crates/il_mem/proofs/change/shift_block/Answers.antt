@@ -1,5 +1,4 @@
-use Rattle.std.proofs.Common.{◌∙◌, sym, ap, arith}
-use Rattle.std.specs.Prelude.{Some}
+use Rattle.std.proofs.Common.{◌∙◌, sym, ap, arith, Some}
 use Rattle.il_mem.specs.Changed.{within_put}
 use Rattle.il_mem.proofs.Putting.{inside_of, within_same, within_apart, changes}
 use Rattle.il_mem.proofs.change.shift_block.Goals as goal

@@ -1,5 +1,4 @@
-use Rattle.std.proofs.Common.{◌∙◌, sym, ap, refl}
-use Rattle.std.specs.Prelude.{Some}
+use Rattle.std.proofs.Common.{◌∙◌, sym, ap, refl, Some}
 use Rattle.il_ast.specs.declared.value.Value.TheVariants.{Integer}
 use Rattle.il_mem.specs.Changed.{value_put}
 use Rattle.il_mem.proofs.Putting.{integer_inside, value_outside, inside_of, outside_of, changes, changes_nothing}

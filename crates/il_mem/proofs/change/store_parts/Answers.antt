@@ -1,5 +1,4 @@
-use Rattle.std.proofs.Common.{◌∙◌, sym, ap, arith}
-use Rattle.std.specs.Prelude.{Some}
+use Rattle.std.proofs.Common.{◌∙◌, sym, ap, arith, Some}
 use Rattle.il_mem.specs.Changed.{value_put}
 use Rattle.il_mem.proofs.Putting.{parts_inside, value_outside, inside_of, outside_of, changes, changes_nothing}
 use Rattle.il_mem.proofs.change.store_parts.Goals as goal

@@ -1,5 +1,4 @@
-use Rattle.std.proofs.Common.{◌≡◌, ◌∙◌, sym, ◌<◌, ◌+◌, ◌*◌, ◌-◌, ◌^◌, ℕ, suc, length, arith, ap, subst}
-use Rattle.std.specs.Prelude.{Some}
+use Rattle.std.proofs.Common.{◌≡◌, ◌∙◌, sym, ◌<◌, ◌+◌, ◌*◌, ◌-◌, ◌^◌, ℕ, suc, length, arith, ap, subst, Some}
 use Rattle.il_mem.proofs.Reading.{byte_there, number_goes_on, number_stops, more_bytes, fits_long}
 use Rattle.il_mem.proofs.read.read_number.Goals as goal
 

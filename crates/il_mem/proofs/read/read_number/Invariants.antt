@@ -1,6 +1,4 @@
-use Rattle.std.proofs.Common.{◌≡◌, ◌<◌, ◌≤◌, ◌-◌, ◌^◌, take, drop}
-use Rattle.std.specs.Prelude.{Some}
-use Rattle.std.specs.Option.{option_map}
+use Rattle.std.proofs.Common.{◌≡◌, ◌<◌, ◌≤◌, ◌-◌, ◌^◌, take, drop, Some, option_map}
 use Rattle.il_ast.specs.Values.{number_of}
 use Rattle.il_ast.specs.Memory.{plain_bytes}
 use Rattle.il_mem.proofs.read.read_number.Given as goal

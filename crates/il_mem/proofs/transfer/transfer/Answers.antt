@@ -1,5 +1,4 @@
-use Rattle.std.proofs.Common.{◌∙◌, ap, refl, length-set}
-use Rattle.std.specs.Prelude.{slice_set}
+use Rattle.std.proofs.Common.{◌∙◌, ap, refl, length-set, slice_set}
 use Rattle.il_mem.proofs.FoundLemmas.{pasted_across}
 use Rattle.il_mem.proofs.transfer.transfer.Goals as goal
 

@@ -1,5 +1,4 @@
-use Rattle.std.proofs.Common.{◌∙◌, ap, length, take, drop}
-use Rattle.std.proofs.lemmas.List.{length-set}
+use Rattle.std.proofs.Common.{◌∙◌, ap, length, take, drop, length-set}
 use Rattle.il_mem.proofs.Spans.{span_at}
 use Rattle.il_mem.proofs.Writing.{written_next}
 use Rattle.il_mem.proofs.write.copy_across.Goals as goal

@@ -1,6 +1,4 @@
-use Rattle.std.proofs.Common.{◌∙◌, sym, ap, ◌+◌, length, take, drop, arith}
-use Rattle.std.specs.Prelude.{slice_get}
-use Rattle.std.proofs.lemmas.List.{length-set}
+use Rattle.std.proofs.Common.{◌∙◌, sym, ap, ◌+◌, length, take, drop, arith, slice_get, length-set}
 use Rattle.il_mem.proofs.Spans.{span_at}
 use Rattle.il_mem.proofs.Writing.{written_next}
 use Rattle.il_mem.proofs.write.copy_within.Goals as goal

@@ -1,5 +1,4 @@
-use Rattle.std.proofs.Common.{◌∙◌, ap, length}
-use Rattle.std.proofs.lemmas.List.{length-set}
+use Rattle.std.proofs.Common.{◌∙◌, ap, length, length-set}
 use Rattle.il_mem.proofs.Writing.{written_byte}
 use Rattle.il_mem.proofs.write.write_number.Goals as goal
 

@@ -1,6 +1,4 @@
-use Rattle.std.proofs.Common.{◌∙◌, ◌+◌, ℕ, ap, length}
-use Rattle.std.specs.Prelude.{slice_set}
-use Rattle.std.proofs.lemmas.List.{length-set}
+use Rattle.std.proofs.Common.{◌∙◌, ◌+◌, ℕ, ap, length, slice_set, length-set}
 use Rattle.il_ast.specs.declared.value.Cell.TheVariants.{Part}
 use Rattle.il_ast.specs.Memory.{parts}
 use Rattle.il_mem.proofs.Writing.{written_next, parts_next}

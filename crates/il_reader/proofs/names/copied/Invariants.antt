@@ -1,5 +1,4 @@
-use Rattle.std.proofs.Common.{◌≡◌, take}
-use Rattle.std.specs.Prelude.{map}
+use Rattle.std.proofs.Common.{◌≡◌, take, map}
 use Rattle.il_reader.specs.Keys.{key_bytes}
 use Rattle.il_reader.proofs.names.copied.Given as goal
 

@@ -1,5 +1,4 @@
-use Rattle.std.proofs.Common.{◌≡◌, ◌+◌, drop}
-use Rattle.std.specs.Prelude.{map}
+use Rattle.std.proofs.Common.{◌≡◌, ◌+◌, drop, map}
 use Rattle.il_reader.specs.Keys.{key_bytes}
 use Rattle.il_reader.specs.State.{place}
 use Rattle.il_reader.proofs.names.place_among.Given as goal

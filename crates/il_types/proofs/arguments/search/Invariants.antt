@@ -1,5 +1,4 @@
-use Rattle.std.proofs.Common.{◌≡◌, drop, nat_eq}
-use Rattle.std.specs.List.{find}
+use Rattle.std.proofs.Common.{◌≡◌, drop, nat_eq, find}
 use Rattle.il_ast.specs.declared.block.PhiArg.{PhiArg}
 use Rattle.il_types.proofs.arguments.search.Given as goal
 

@@ -1,5 +1,4 @@
-use Rattle.std.proofs.Common.{◌≡◌, ◌∙◌, sym}
-use Rattle.std.specs.Prelude.{Some, None}
+use Rattle.std.proofs.Common.{◌≡◌, ◌∙◌, sym, Some, None}
 use Rattle.il_types.proofs.FaultLemmas.{text_breaks, text_keeps}
 use Rattle.il_types.proofs.check.check.Goals as goal
 

@@ -1,5 +1,4 @@
-use Rattle.std.proofs.Common.{◌≡◌, take}
-use Rattle.std.specs.List.{sum_by}
+use Rattle.std.proofs.Common.{◌≡◌, take, sum_by}
 use Rattle.il_ast.specs.declared.block.Block.{Block}
 use Rattle.il_types.specs.Capped.{capped}
 use Rattle.il_types.specs.Parts.{insts_alloc}

@@ -1,5 +1,4 @@
-use Rattle.std.proofs.Common.{◌≡◌, ◌++◌, take}
-use Rattle.std.specs.List.{flat_map}
+use Rattle.std.proofs.Common.{◌≡◌, ◌++◌, take, flat_map}
 use Rattle.il_types.specs.Sites.{inst_definers}
 use Rattle.il_types.proofs.definers.collect_insts.Given as goal
 

@@ -1,5 +1,4 @@
-use Rattle.std.proofs.Common.{◌∙◌, sym, ap, cond, nat_eq}
-use Rattle.std.specs.Prelude.{Some, None}
+use Rattle.std.proofs.Common.{◌∙◌, sym, ap, cond, nat_eq, Some, None}
 use Rattle.std.specs.Option.{option_or}
 use Rattle.il_types.specs.LabelBlocks.{place_in}
 use Rattle.il_types.proofs.PlaceTable.{places_further}

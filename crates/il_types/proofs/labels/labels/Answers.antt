@@ -1,5 +1,4 @@
-use Rattle.std.proofs.Common.{ap}
-use Rattle.std.specs.Prelude.{nat_eq}
+use Rattle.std.proofs.Common.{ap, nat_eq}
 use Rattle.il_ast.specs.declared.block.Block.{Block}
 use Rattle.il_types.proofs.OneMore.{any_on}
 use Rattle.il_types.proofs.labels.labels.Goals as goal

@@ -1,5 +1,4 @@
-use Rattle.std.proofs.Common.{◌≡◌, ℕ, drop}
-use Rattle.std.specs.Prelude.{not}
+use Rattle.std.proofs.Common.{◌≡◌, ℕ, drop, not}
 use Rattle.std.specs.List.{list_all}
 use Rattle.il_types.specs.Tally.{named, is_never}
 use Rattle.il_types.proofs.phis.are_all_named.Given as goal

@@ -1,5 +1,4 @@
-use Rattle.std.proofs.Common.{◌≡◌, drop}
-use Rattle.std.specs.Prelude.{not, ◌&&◌}
+use Rattle.std.proofs.Common.{◌≡◌, drop, not, ◌&&◌}
 use Rattle.std.specs.List.{list_all}
 use Rattle.il_ast.specs.declared.block.PhiArg.{PhiArg}
 use Rattle.il_types.specs.Tally.{named, is_never, is_once}

@@ -1,5 +1,4 @@
-use Rattle.std.proofs.Common.{◌∙◌, ℕ, ap, sym}
-use Rattle.std.specs.Prelude.{not, ◌&&◌}
+use Rattle.std.proofs.Common.{◌∙◌, ℕ, ap, sym, not, ◌&&◌}
 use Rattle.std.specs.List.{list_all}
 use Rattle.il_types.specs.Tally.{named, is_never}
 use Rattle.il_types.proofs.TallyLemmas.{covers_by_tallies}

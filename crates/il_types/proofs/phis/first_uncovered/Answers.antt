@@ -1,5 +1,4 @@
-use Rattle.std.proofs.Common.{◌∙◌, ap, sym}
-use Rattle.std.specs.Prelude.{not}
+use Rattle.std.proofs.Common.{◌∙◌, ap, sym, not}
 use Rattle.il_ast.specs.declared.block.Phi.{Phi}
 use Rattle.il_types.specs.First.{when}
 use Rattle.il_types.specs.Covering.{covers_by}

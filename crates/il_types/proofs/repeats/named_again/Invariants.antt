@@ -1,5 +1,4 @@
-use Rattle.std.proofs.Common.{◌≡◌, ℕ, take}
-use Rattle.std.specs.Prelude.{nat_lt}
+use Rattle.std.proofs.Common.{◌≡◌, ℕ, take, nat_lt}
 use Rattle.il_types.specs.Marks.{marked}
 use Rattle.il_types.specs.Locals.{times}
 use Rattle.il_types.proofs.repeats.named_again.Given as goal

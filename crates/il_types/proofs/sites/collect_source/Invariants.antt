@@ -1,5 +1,4 @@
-use Rattle.std.proofs.Common.{◌≡◌, ◌++◌, ◌∷◌, [], take}
-use Rattle.std.specs.List.{flat_map}
+use Rattle.std.proofs.Common.{◌≡◌, ◌++◌, ◌∷◌, [], take, flat_map}
 use Rattle.il_ast.specs.declared.block.PhiArg.{PhiArg}
 use Rattle.il_types.proofs.sites.collect_source.Given as goal
 

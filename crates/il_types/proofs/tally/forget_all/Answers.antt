@@ -1,7 +1,5 @@
-use Rattle.std.proofs.Common.{◌∙◌, ap, cond, List, ℕ}
-use Rattle.std.specs.Prelude.{nat_eq}
+use Rattle.std.proofs.Common.{◌∙◌, ap, cond, List, ℕ, nat_eq, take_all}
 use Rattle.std.specs.List.{list_any}
-use Rattle.std.proofs.lemmas.List.{take_all}
 use Rattle.il_types.specs.declared.tally.Often.TheVariants.{Never}
 use Rattle.il_types.specs.Tally.{named}
 use Rattle.il_types.proofs.TallyLemmas.{all_forgotten}

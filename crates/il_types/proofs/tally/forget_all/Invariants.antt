@@ -1,5 +1,4 @@
-use Rattle.std.proofs.Common.{◌≡◌, ℕ, take, cond}
-use Rattle.std.specs.Prelude.{nat_eq}
+use Rattle.std.proofs.Common.{◌≡◌, ℕ, take, cond, nat_eq}
 use Rattle.std.specs.List.{list_any}
 use Rattle.il_types.specs.declared.tally.Often.TheVariants.{Never}
 use Rattle.il_types.specs.Tally.{named}

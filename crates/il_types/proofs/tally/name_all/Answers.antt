@@ -1,5 +1,4 @@
-use Rattle.std.proofs.Common.{◌∙◌, ap, cond, get_or}
-use Rattle.std.specs.Prelude.{nat_eq}
+use Rattle.std.proofs.Common.{◌∙◌, ap, cond, get_or, nat_eq}
 use Rattle.il_types.specs.Tally.{once_more}
 use Rattle.il_types.proofs.TallyLemmas.{named_further}
 use Rattle.il_types.proofs.tally.name_all.Goals as goal

@@ -1,5 +1,4 @@
-use Rattle.std.proofs.Common.{◌≡◌, drop}
-use Rattle.std.specs.Prelude.{not}
+use Rattle.std.proofs.Common.{◌≡◌, drop, not}
 use Rattle.il_types.specs.First.{when, first}
 use Rattle.il_types.specs.declared.site.Operand.{Operand}
 use Rattle.il_types.specs.Tables.{value_fits}

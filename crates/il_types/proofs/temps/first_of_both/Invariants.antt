@@ -1,5 +1,4 @@
-use Rattle.std.proofs.Common.{◌≡◌, drop}
-use Rattle.std.specs.Prelude.{◌&&◌}
+use Rattle.std.proofs.Common.{◌≡◌, drop, ◌&&◌}
 use Rattle.il_types.specs.First.{when, first}
 use Rattle.il_types.specs.Marks.{marked}
 use Rattle.il_types.specs.declared.site.Definer.{Definer}

@@ -1,5 +1,4 @@
-use Rattle.std.proofs.Common.{Option, subst}
-use Rattle.std.specs.Prelude.{IfSome, slice_index_or}
+use Rattle.std.proofs.Common.{Option, subst, IfSome, slice_index_or}
 use Rattle.inlining.specs.declared.growth.Cut.{Cut}
 use Rattle.inlining.specs.Growth.{IsCut}
 use Rattle.inlining.proofs.Placing.{placed_on}

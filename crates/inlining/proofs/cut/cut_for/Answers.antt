@@ -1,5 +1,4 @@
-use Rattle.std.proofs.Common.{rules}
-use Rattle.std.proofs.Common.{ℕ, List, ap, ◌∙◌}
+use Rattle.std.proofs.Common.{rules, ℕ, List, ap, ◌∙◌}
 use Rattle.std.specs.List.{list_all}
 use Rattle.vcode.specs.declared.limits.TheConstants.{PLACES}
 use Rattle.vcode.specs.declared.place.Destination.{Destination}

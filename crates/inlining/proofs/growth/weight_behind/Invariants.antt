@@ -1,5 +1,4 @@
-use Rattle.std.proofs.Common.{◌≡◌, ℕ, ◌+◌, drop}
-use Rattle.std.specs.List.{sum_by}
+use Rattle.std.proofs.Common.{◌≡◌, ℕ, ◌+◌, drop, sum_by}
 use Rattle.vcode.specs.declared.code.Block.{Block}
 use Rattle.vcode.specs.Regular.{weight_of}
 use Rattle.inlining.proofs.growth.weight_behind.Given as goal

@@ -1,5 +1,4 @@
-use Rattle.std.proofs.Common.{ℕ}
-use Rattle.std.specs.Ordering.{nat_cmp}
+use Rattle.std.proofs.Common.{ℕ, nat_cmp}
 use Rattle.std.specs.BTreeMap.{get}
 use Rattle.phi_copies.specs.Order.{IsWritten}
 use Rattle.phi_copies.proofs.sequence.writers.Given as goal

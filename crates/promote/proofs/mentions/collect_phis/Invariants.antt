@@ -1,5 +1,4 @@
-use Rattle.std.proofs.Common.{◌≡◌, ◌++◌, take}
-use Rattle.std.specs.List.{flat_map}
+use Rattle.std.proofs.Common.{◌≡◌, ◌++◌, take, flat_map}
 use Rattle.promote.specs.Uses.{phi_mentions}
 use Rattle.promote.proofs.mentions.collect_phis.Given as goal
 

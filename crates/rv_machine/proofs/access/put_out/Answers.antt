@@ -1,7 +1,5 @@
-use Rattle.std.proofs.Common.{◌≡◌, ℕ, ◌+◌, Bool, true, arith, sym, ◌∙◌, ap, ◌++◌, ◌∷◌, []}
+use Rattle.std.proofs.Common.{◌≡◌, ℕ, ◌+◌, Bool, true, arith, sym, ◌∙◌, ap, ◌++◌, ◌∷◌, [], append-nil, is_ok, not}
 use Rattle.std.proofs.lemmas.Grind.{common_steps}
-use Rattle.std.proofs.lemmas.List.{append-nil}
-use Rattle.std.specs.Prelude.{is_ok, not}
 use Rattle.rv_isa.specs.Memory.{bytes_at}
 use Rattle.rv_isa.proofs.MemoryLemmas.{each_at}
 use Rattle.rv_machine.specs.Mapped.{is_mapped}

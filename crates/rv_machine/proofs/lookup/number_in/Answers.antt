@@ -1,5 +1,4 @@
-use Rattle.std.proofs.Common.{length, ap, arith}
-use Rattle.std.proofs.lemmas.List.{length-take, length-drop}
+use Rattle.std.proofs.Common.{length, ap, arith, length-take, length-drop}
 use Rattle.rv_machine.specs.Width.{bytes_of}
 use Rattle.rv_machine.proofs.WholeLemmas.{number-read, number-room, whole-within}
 use Rattle.rv_machine.proofs.lookup.number_in.Goals as goal

@@ -1,5 +1,4 @@
-use Rattle.std.proofs.Common.{ap}
-use Rattle.std.specs.Prelude.{is_some}
+use Rattle.std.proofs.Common.{ap, is_some}
 use Rattle.rv_machine.proofs.PageLemmas.{makes, unmade, made-bytes, made-permits, made-stay}
 use Rattle.rv_machine.proofs.pages.make_page.Goals as goal
 

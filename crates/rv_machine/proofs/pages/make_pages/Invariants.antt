@@ -1,5 +1,4 @@
-use Rattle.std.proofs.Common.{◌≡◌, ◌<◌, ◌≤◌, ℕ}
-use Rattle.std.specs.Prelude.{IsSome}
+use Rattle.std.proofs.Common.{◌≡◌, ◌<◌, ◌≤◌, ℕ, IsSome}
 use Rattle.rv_machine.specs.Pages.{page_in, paged_byte, AllPermit}
 use Rattle.rv_machine.proofs.pages.make_pages.Given as goal
 

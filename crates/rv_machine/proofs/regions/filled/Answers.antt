@@ -1,5 +1,4 @@
-use Rattle.std.proofs.Common.{arith}
-use Rattle.std.specs.Prelude.{vec_len}
+use Rattle.std.proofs.Common.{arith, vec_len}
 use Rattle.rv_machine.proofs.RegionLemmas.{index-filled}
 use Rattle.rv_machine.proofs.regions.filled.Goals as goal
 

@@ -1,5 +1,4 @@
-use Rattle.std.proofs.Common.{◌++◌, ◌∙◌, ap, length}
-use Rattle.std.specs.List.{flat_map}
+use Rattle.std.proofs.Common.{◌++◌, ◌∙◌, ap, length, flat_map}
 use Rattle.select.specs.Tables.{listed, phi_classes}
 use Rattle.select.proofs.TableOf.{table_long, table_is}
 use Rattle.select.proofs.classes.classes.Goals as goal

@@ -1,5 +1,4 @@
-use Rattle.std.proofs.Common.{◌≡◌, ◌<◌, ℕ, length, take}
-use Rattle.std.specs.Prelude.{if◌then◌else◌}
+use Rattle.std.proofs.Common.{◌≡◌, ◌<◌, ℕ, length, take, if◌then◌else◌}
 use Rattle.il_ast.specs.declared.operation.Class.TheVariants.{W}
 use Rattle.select.specs.Tables.{listed, has_word}
 use Rattle.select.proofs.classes.mark_words.Given as goal

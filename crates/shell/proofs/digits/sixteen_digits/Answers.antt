@@ -1,5 +1,4 @@
-use Rattle.std.proofs.Common.{arith}
-use Rattle.std.proofs.Common.{◌*◌, ◌-◌, ◌/◌, ◌%◌, ◌^◌, false, rules}
+use Rattle.std.proofs.Common.{arith, ◌*◌, ◌-◌, ◌/◌, ◌%◌, ◌^◌, false, rules}
 use Rattle.std.specs.Fmt.{digit_glyph}
 use Rattle.std.proofs.lemmas.List.FromFn.{fill_by_all}
 use Rattle.shell.specs.Digits.{sixteen_digits}

@@ -1,6 +1,5 @@
-use Rattle.std.proofs.Common.{◌≡◌, ◌++◌, ◌∙◌, ap, map, [], ◌∷◌}
+use Rattle.std.proofs.Common.{◌≡◌, ◌++◌, ◌∙◌, ap, map, [], ◌∷◌, string_bytes}
 use Rattle.std.proofs.lemmas.List.{map-append}
-use Rattle.std.specs.String.{string_bytes}
 use Rattle.shell.specs.Lines.{line}
 use Rattle.shell.proofs.LineLemmas.{lines_on, room_on}
 use Rattle.shell.proofs.dis_lines.push_lines.Goals as goal

@@ -1,5 +1,4 @@
-use Rattle.std.proofs.Common.{Bool, List, sym, subst}
-use Rattle.std.specs.Prelude.{IsTrue}
+use Rattle.std.proofs.Common.{Bool, List, sym, subst, IsTrue}
 use Rattle.sign_extensions.specs.Whole.{are_closed}
 use Rattle.sign_extensions.proofs.Keeping.{none_closed}
 use Rattle.sign_extensions.proofs.marks.whole_registers.Goals as goal

@@ -1,6 +1,5 @@
-use Rattle.std.proofs.Common.{◌≡◌, ◌+◌, slice_get, ◌&&◌, true, nat_lt, arith, ap, sym, ◌∙◌, Some, length, subst}
+use Rattle.std.proofs.Common.{◌≡◌, ◌+◌, slice_get, ◌&&◌, true, nat_lt, arith, ap, sym, ◌∙◌, Some, length, subst, length-set}
 use Rattle.std.proofs.lemmas.Bool.Decides.{nat_tests}
-use Rattle.std.proofs.lemmas.List.{length-set}
 use Rattle.alloc_check.specs.declared.first.First.{First}
 use Rattle.alloc_check.specs.Owners.{Owners, where_held, own_put}
 use Rattle.alloc_check.specs.OwnerTable.{in_table, own_of, IsFirst}

@@ -1,5 +1,4 @@
-use Rattle.std.proofs.Common.{◌≡◌, ◌+◌, drop}
-use Rattle.std.specs.List.{sum_by}
+use Rattle.std.proofs.Common.{◌≡◌, ◌+◌, drop, sum_by}
 use Rattle.block_layout.specs.Joined.{burden}
 use Rattle.block_layout.proofs.tails.weigh.left_behind.Given as goal
 

@@ -1,5 +1,4 @@
-use Rattle.std.proofs.Common.{ap, ◌∙◌, ◌≡◌, List, ℕ}
-use Rattle.std.specs.Prelude.{replicate}
+use Rattle.std.proofs.Common.{ap, ◌∙◌, ◌≡◌, List, ℕ, replicate}
 use Rattle.il_mem.specs.declared.block.Mark.{Mark}
 use Rattle.il_mem.specs.declared.block.Mark.TheVariants.{Blank}
 use Rattle.il_mem.specs.Joined.{joined, overlaid}

@@ -1,5 +1,4 @@
-use Rattle.std.proofs.Common.{ap, sym, ◌∙◌, ◌≡◌, length, get_or, arith}
-use Rattle.std.specs.Option.{option_and_then}
+use Rattle.std.proofs.Common.{ap, sym, ◌∙◌, ◌≡◌, length, get_or, arith, option_and_then}
 use Rattle.il_ast.specs.declared.value.Value.TheVariants.{Integer}
 use Rattle.il_mem.specs.Cells.{plain_byte}
 use Rattle.il_mem.proofs.OverlaidLemmas.{as_many, front_cell, behind_mark}

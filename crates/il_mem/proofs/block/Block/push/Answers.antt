@@ -1,5 +1,4 @@
-use Rattle.std.proofs.Common.{◌∙◌, ap, ◌++◌, ◌∷◌, []}
-use Rattle.std.specs.Prelude.{slice_set}
+use Rattle.std.proofs.Common.{◌∙◌, ap, ◌++◌, ◌∷◌, [], slice_set}
 use Rattle.il_ast.specs.declared.value.Cell.TheVariants.{Blank}
 use Rattle.il_mem.proofs.JoinedLemmas.{set_last}
 use Rattle.il_mem.proofs.block.Block.push.Goals as goal

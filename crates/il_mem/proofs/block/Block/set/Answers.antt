@@ -1,5 +1,4 @@
-use Rattle.std.proofs.Common.{◌≡◌, ◌≤◌, length, arith}
-use Rattle.std.specs.Prelude.{vec_capacity}
+use Rattle.std.proofs.Common.{◌≡◌, ◌≤◌, length, arith, vec_capacity}
 use Rattle.il_mem.proofs.OverlaidLemmas.{as_many, set_marked}
 use Rattle.il_mem.proofs.block.Block.set.Goals as goal
 

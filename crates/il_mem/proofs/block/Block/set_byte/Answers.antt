@@ -1,5 +1,4 @@
-use Rattle.std.proofs.Common.{◌≡◌, ◌≤◌, ◌++◌, ◌∷◌, [], length, length-append, ap, ◌+◌, arith, true}
-use Rattle.std.specs.Prelude.{is_ok, vec_capacity}
+use Rattle.std.proofs.Common.{◌≡◌, ◌≤◌, ◌++◌, ◌∷◌, [], length, length-append, ap, ◌+◌, arith, true, is_ok, vec_capacity}
 use Rattle.il_mem.proofs.OverlaidLemmas.{as_many, set_first, set_next, set_later}
 use Rattle.il_mem.proofs.block.Block.set_byte.Goals as goal
 

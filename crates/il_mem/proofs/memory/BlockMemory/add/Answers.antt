@@ -1,5 +1,4 @@
-use Rattle.std.proofs.Common.{◌≡◌, ◌∙◌, sym, ap, length, arith, ◌++◌, ◌∷◌, [], true}
-use Rattle.std.specs.Prelude.{is_ok}
+use Rattle.std.proofs.Common.{◌≡◌, ◌∙◌, sym, ap, length, arith, ◌++◌, ◌∷◌, [], true, is_ok}
 use Rattle.il_mem.proofs.BlocksLemmas.{length-blocks}
 use Rattle.il_mem.proofs.FoundLemmas.{numbered_pushed, fresh_pushed}
 use Rattle.il_mem.proofs.memory.BlockMemory.add.Goals as goal

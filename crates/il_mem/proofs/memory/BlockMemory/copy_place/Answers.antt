@@ -1,5 +1,4 @@
-use Rattle.std.proofs.Common.{subst, length-set}
-use Rattle.std.specs.Prelude.{slice_set}
+use Rattle.std.proofs.Common.{subst, length-set, slice_set}
 use Rattle.il_ast.specs.Memory.{Memory}
 use Rattle.il_mem.specs.Blocks.{blocks}
 use Rattle.il_mem.specs.Changed.{within_put}

@@ -1,6 +1,4 @@
-use Rattle.std.proofs.Common.{subst, length-set}
-use Rattle.std.specs.Prelude.{slice_set}
-use Rattle.std.specs.Option.{option_and_then}
+use Rattle.std.proofs.Common.{subst, length-set, slice_set, option_and_then}
 use Rattle.il_ast.specs.Values.{byte_count}
 use Rattle.il_ast.specs.Memory.{Memory, write_at, cells_for}
 use Rattle.il_mem.specs.Blocks.{blocks}

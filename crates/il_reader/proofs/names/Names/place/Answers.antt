@@ -1,5 +1,4 @@
-use Rattle.std.proofs.Common.{ap, ◌∙◌}
-use Rattle.std.specs.Prelude.{map}
+use Rattle.std.proofs.Common.{ap, ◌∙◌, map}
 use Rattle.il_reader.specs.State.{place, with_name}
 use Rattle.il_reader.specs.Keys.{key_bytes}
 use Rattle.il_reader.proofs.Interning.{place_is, with_name_is, found_stays}

@@ -1,5 +1,4 @@
-use Rattle.std.proofs.Common.{ap}
-use Rattle.std.specs.Str.{bytes_eq}
+use Rattle.std.proofs.Common.{ap, bytes_eq}
 use Rattle.std.specs.Map.{lookup}
 use Rattle.obj_link.specs.Tables.{seen}
 use Rattle.obj_link.proofs.ExportLemmas.{predefined_seen}

@@ -1,5 +1,4 @@
-use Rattle.std.proofs.Common.{◌≡◌, take}
-use Rattle.std.specs.List.{sum_by}
+use Rattle.std.proofs.Common.{◌≡◌, take, sum_by}
 use Rattle.il_types.specs.Capped.{capped}
 use Rattle.obj_link.specs.Limits.{item_size}
 use Rattle.obj_link.proofs.linking.limits.items_size.Given as goal

@@ -1,5 +1,4 @@
-use Rattle.std.proofs.Common.{◌≡◌, ◌++◌, map, take}
-use Rattle.std.specs.List.{flat_map}
+use Rattle.std.proofs.Common.{◌≡◌, ◌++◌, map, take, flat_map}
 use Rattle.obj_link.specs.Shown.{shown}
 use Rattle.obj_link.specs.Names.{function_in}
 use Rattle.obj_link.proofs.linking.names.collect_functions.Given as goal

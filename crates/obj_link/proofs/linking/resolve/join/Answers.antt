@@ -1,6 +1,5 @@
-use Rattle.std.proofs.Common.{sym, ◌∙◌, ap}
+use Rattle.std.proofs.Common.{sym, ◌∙◌, ap, codes, Some}
 use Rattle.std.specs.Option.{option_or}
-use Rattle.std.specs.Prelude.{codes, Some}
 use Rattle.obj_link.specs.Names.{own}
 use Rattle.obj_link.specs.Tables.{seen, meaning_in}
 use Rattle.obj_link.specs.Joined.{meaning_by}

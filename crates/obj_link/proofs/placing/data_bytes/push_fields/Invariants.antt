@@ -1,5 +1,4 @@
-use Rattle.std.proofs.Common.{◌≡◌, ◌++◌, drop}
-use Rattle.std.specs.List.{flat_map}
+use Rattle.std.proofs.Common.{◌≡◌, ◌++◌, drop, flat_map}
 use Rattle.obj_link.specs.DataBytes.{field_bytes}
 use Rattle.obj_link.proofs.placing.data_bytes.push_fields.Given as goal
 

@@ -1,5 +1,4 @@
-use Rattle.std.proofs.Common.{◌≡◌, ◌++◌, drop, map}
-use Rattle.std.specs.List.{flat_map}
+use Rattle.std.proofs.Common.{◌≡◌, ◌++◌, drop, map, flat_map}
 use Rattle.obj_link.specs.Shown.{shown}
 use Rattle.obj_link.specs.DataBytes.{slot_bytes}
 use Rattle.obj_link.proofs.placing.data_bytes.push_objects.Given as goal

@@ -1,6 +1,4 @@
-use Rattle.std.proofs.Common.{◌≡◌, ℕ, sym, ◌∙◌, ap, subst, to_z, of_z}
-use Rattle.std.specs.Prelude.{ℤ}
-use Rattle.std.specs.Int.{w32}
+use Rattle.std.proofs.Common.{◌≡◌, ℕ, sym, ◌∙◌, ap, subst, to_z, of_z, ℤ, w32}
 use Rattle.rv_isa.specs.State.{State, register}
 use Rattle.rv_isa.specs.Arithmetic.{moved}
 use Rattle.rv_isa.specs.Step.{load, store, act, environment_call}

@@ -1,6 +1,5 @@
-use Rattle.std.proofs.Common.{◌≤◌, nat_le, List, length, sym, ap, ◌∙◌, subst, arith}
+use Rattle.std.proofs.Common.{◌≤◌, nat_le, List, length, sym, ap, ◌∙◌, subst, arith, le-leb}
 use Rattle.std.specs.List.{list_all, sum_by}
-use Rattle.std.proofs.lemmas.Bool.{le-leb}
 use Rattle.il_ast.specs.declared.limits.TheConstants.{FUNCTION_WEIGHT}
 use Rattle.vcode.specs.declared.code.Block.{Block}
 use Rattle.vcode.specs.Cost.{is_paid}

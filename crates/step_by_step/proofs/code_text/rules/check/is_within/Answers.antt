@@ -1,5 +1,4 @@
-use Rattle.std.proofs.Common.{List, ap, arith}
-use Rattle.std.specs.List.{sum_by}
+use Rattle.std.proofs.Common.{List, ap, arith, sum_by}
 use Rattle.std.proofs.lemmas.List.Sums.{sum_by-drop_more}
 use Rattle.vcode.specs.declared.line.Line.{Line}
 use Rattle.vcode.specs.declared.code.Block.{Block}

@@ -1,5 +1,4 @@
-use Rattle.std.proofs.Common.{◌≡◌, ◌+◌, drop}
-use Rattle.std.specs.List.{sum_by}
+use Rattle.std.proofs.Common.{◌≡◌, ◌+◌, drop, sum_by}
 use Rattle.step_by_step.specs.Function.{measured}
 use Rattle.step_by_step.proofs.code_text.rules.check.is_within.Given as goal
 
