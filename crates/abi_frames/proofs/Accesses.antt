@@ -2,9 +2,7 @@
 use Rattle.std.proofs.Common.{◌≡◌, ℕ, zero, suc, ◌+◌, ◌-◌, ◌/◌, ◌%◌, ◌^◌, ◌<◌, ◌≤◌, Bool, true, [], ◌∷◌, refl, sym, ◌∙◌, ap, subst, arith, lit<, nat_le, Ok}
 use Rattle.std.specs.Int.{byte_at}
 use Rattle.abi_frames.proofs.Shared.{State, Immediate, StoreOp, and_from, nat_tests, stored, moved}
-use Rattle.rv_isa.specs.Memory.{each_of, allowed, can_write}
-use Rattle.rv_isa.specs.Step.{act, store, store_size}
-use Rattle.rv_isa.specs.Labelled.{Ground, Fixed}
+use Rattle.rv_isa.specs.Prelude.{each_of, allowed, can_write, act, store, store_size, Ground, Fixed}
 use Rattle.rv_isa.specs.declared.permission.Permission.{Permission}
 use Rattle.rv_isa.specs.declared.instruction.Instr.TheVariants.{Store}
 use Rattle.rv_isa.specs.declared.instruction.StoreOp.TheVariants.{Sb, Sh, Sw, Sd}

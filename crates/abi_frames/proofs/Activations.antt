@@ -1,7 +1,7 @@
 -- An activation of a function: where its places are, and what holds in each state of its run.
 use Rattle.std.proofs.Common.{zero, suc, ◌≡◌, ◌≢◌, ℕ, ◌+◌, ◌-◌, ◌*◌, ◌%◌, ◌^◌, ◌<◌, ◌≤◌, Bool, true, false, List, [], ◌∷◌, refl, sym, ◌∙◌, ap, arith, lit<, ◌&&◌, ◌||◌, not, length, nat_eq, nat_lt, nat_le, if◌then◌else◌, slice_get, Option, Some, None}
 use Rattle.abi_frames.proofs.Shared.{State, Location, InRegister, Slot, Operand, At, Number, Name, Layout, list_all, and_parts, eqb-true, eqb-false, slice_get_within, same_Some, not_both, nat_tests, number_at, stored, is_place, operand_keeps}
-use Rattle.rv_isa.specs.Labelled.{Ground}
+use Rattle.rv_isa.specs.Prelude.{Ground}
 use Rattle.rv_isa.proofs.MemoryLemmas.{stored_below, stored_above, read_below, read_above, read_back}
 use Rattle.flat_code.specs.Spots.{Spot, NoAccess, ThisByte, Spots}
 use Rattle.flat_code.specs.Step.{Numbers, put, number_of}

@@ -4,7 +4,7 @@ use Rattle.abi_frames.proofs.Shared.{State, Location, Operand, Immediate, same_S
 use Rattle.rv_isa.specs.declared.instruction.RegOp.TheVariants.{Add}
 use Rattle.vcode.specs.declared.place.Address.{Address}
 use Rattle.vcode.specs.declared.line.Operation.TheVariants.{Reg}
-use Rattle.vcode.specs.Addresses.{distance}
+use Rattle.vcode.specs.Prelude.{distance}
 use Rattle.flat_code.specs.Spots.{Spots}
 use Rattle.flat_code.specs.Step.{Numbers, number_of, computed, operated, address_of}
 use Rattle.abi_frames.proofs.Activations.{Setting, IsSetting, operand_in, Framed, operand_known}

@@ -3,13 +3,13 @@ use Rattle.std.proofs.Common.{◌≡◌, ℕ, ◌+◌, ◌%◌, ◌^◌, Bool, L
 use Rattle.std.specs.Int.{cast_signed, w64}
 use Rattle.abi_frames.proofs.Shared.{Class, W, L, Condition, State, Item, longest_size, nat_tests}
 use Rattle.il_ast.specs.declared.operation.Condition.TheVariants.{Equal, NotEqual, SignedLessEqual, SignedLess, SignedGreaterEqual, SignedGreater, UnsignedLessEqual, UnsignedLess, UnsignedGreaterEqual, UnsignedGreater}
-use Rattle.il_ast.specs.Operations.{holds}
+use Rattle.il_ast.specs.Prelude.{holds}
 use Rattle.rv_isa.specs.declared.ranges.Register.{Register}
 use Rattle.rv_isa.specs.declared.instruction.BranchOp.{BranchOp}
 use Rattle.rv_isa.specs.declared.instruction.BranchOp.TheVariants.{Beq, Bne, Blt, Bge, Bltu, Bgeu}
 use Rattle.rv_isa.specs.declared.labelled.Item.TheVariants.{Branch}
 use Rattle.operation_code.specs.Fields.{reg}
-use Rattle.rv_isa.specs.Labelled.{Fixed, Stands, Moves}
+use Rattle.rv_isa.specs.Prelude.{Fixed, Stands, Moves}
 use Rattle.vcode.specs.declared.line.Operation.TheVariants.{Compare}
 use Rattle.vcode.proofs.Comparing.{holds_extended}
 use Rattle.flat_code.specs.Step.{taken as taken_as}

@@ -2,15 +2,12 @@
 use Rattle.std.proofs.Common.{◌≡◌, ℕ, suc, ◌+◌, ◌-◌, ◌*◌, ◌%◌, ◌<◌, ◌≤◌, true, List, [], ◌∷◌, ◌++◌, refl, sym, ◌∙◌, ap, subst, arith, append_assoc, ◌&&◌, nat_le, length, map, max, slice_get, Option, Some, None}
 use Rattle.abi_frames.proofs.Shared.{Class, W, L, State, Item, Location, InRegister, Operand, Destination, Argument, Line, Block, Code, Label, option_map, list_all, and_parts, leb-true, longest_size, same_Some, sum_by-cons, Comes, is_place, operand_keeps, line_keeps}
 use Rattle.il_ast.specs.declared.value.End.TheVariants.{Exit, Halt as Halted, Undefined, Stack, Turns}
-use Rattle.il_ast.specs.Run.{Spent, one_call, both}
-use Rattle.il_ast.specs.Logged.{LoggedNext, Logged}
-use Rattle.rv_isa.specs.Step.{Stop, Exited, Broken}
+use Rattle.il_ast.specs.Prelude.{Spent, one_call, both, LoggedNext, Logged}
+use Rattle.rv_isa.specs.Prelude.{Stop, Exited, Broken}
 use Rattle.rv_isa.proofs.RunLemmas.{comes_then}
 use Rattle.vcode.specs.declared.place.Operand.TheVariants.{At as In}
 use Rattle.vcode.specs.declared.line.Line.TheVariants.{Call}
-use Rattle.vcode.specs.Named.{wanted_keeps}
-use Rattle.vcode.specs.Regular.{turns_of, alloc_bytes}
-use Rattle.vcode.specs.Cost.{affords}
+use Rattle.vcode.specs.Prelude.{wanted_keeps, turns_of, alloc_bytes, affords}
 use Rattle.flat_code.specs.Spots.{Spots, SameReach}
 use Rattle.flat_code.specs.Flat.{FlatGiven, FlatAsked, FlatOutcome, FlatReturned, FlatEnded}
 use Rattle.flat_code.specs.Step.{FlatState, Numbers, put, kept, held, number_of, read_all, calls, resumes}

@@ -2,16 +2,13 @@
 use Rattle.std.proofs.Common.{◌≡◌, ◌≢◌, ℕ, zero, suc, ◌+◌, ◌-◌, ◌*◌, ◌%◌, ◌^◌, ◌<◌, ◌≤◌, Bool, true, false, List, [], ◌∷◌, ◌++◌, refl, sym, ◌∙◌, ap, subst, arith, lit<, lit≤, ◌&&◌, nat_eq, nat_le, if◌then◌else◌, length, map, slice_get, Option, Some, None, Ok}
 use Rattle.bits.specs.Words.{sign_extended}
 use Rattle.abi_frames.proofs.Shared.{Class, W, L, State, Immediate, Plain, Item, Location, InRegister, Slot, Operand, At, Number, Name, Argument, option_map, option_and_then, list_all, and_parts, slice_get_within, same_Some, none-some, not_both, none_is_not, nat_tests, number_at, moved, Comes, is_place, operand_keeps, low}
-use Rattle.rv_isa.specs.State.{register, written}
-use Rattle.rv_isa.specs.Step.{act, jump, even_below}
-use Rattle.rv_isa.specs.Labelled.{Fixed, Stand, Stands}
+use Rattle.rv_isa.specs.Prelude.{register, written, act, jump, even_below, Fixed, Stand, Stands}
 use Rattle.rv_isa.specs.declared.instruction.Instr.TheVariants.{Jalr}
 use Rattle.rv_isa.proofs.MemoryLemmas.{number_same, updated_elsewhere}
 use Rattle.rv_isa.proofs.RunLemmas.{comes_by_step}
 use Rattle.vcode.specs.declared.place.Extension.{Extension}
 use Rattle.vcode.specs.declared.place.Extension.TheVariants.{Made, Claimed}
-use Rattle.vcode.specs.Operations.{is_extended}
-use Rattle.vcode.specs.Places.{is_callers}
+use Rattle.vcode.specs.Prelude.{is_extended, is_callers}
 use Rattle.flat_code.specs.Spots.{NoAccess, ThisByte, Spots, SameReach}
 use Rattle.flat_code.specs.Step.{Numbers, kept, number_of, read_all, taken, passed as read_passed}
 use Rattle.abi_frames.specs.Calls.{Ready, Back, is_kept, passed}

@@ -2,8 +2,7 @@
 use Rattle.std.proofs.Common.{inl, inr, ◌≡◌, ◌≢◌, ℕ, zero, suc, ◌+◌, ◌-◌, ◌*◌, ◌/◌, ◌%◌, ◌^◌, ◌<◌, ◌≤◌, ◌⊎◌, Bool, true, false, List, [], ◌∷◌, ◌++◌, refl, sym, ◌∙◌, ap, subst, arith, lit<, append_assoc, nat_lt, if◌then◌else◌}
 use Rattle.std.specs.Int.{byte_at}
 use Rattle.abi_frames.proofs.Shared.{State, LoadOp, StoreOp, Item, Location, InRegister, Slot, Operand, At, Number, Name, nat_tests, number_at, stored, moved, is_place, operand_keeps, low}
-use Rattle.rv_isa.specs.Step.{load, load_size, load_value, store_size}
-use Rattle.rv_isa.specs.Labelled.{Ground, Fixed}
+use Rattle.rv_isa.specs.Prelude.{load, load_size, load_value, store_size, Ground, Fixed}
 use Rattle.rv_isa.specs.declared.instruction.LoadOp.TheVariants.{Ld, Lwu, Lhu, Lbu}
 use Rattle.rv_isa.specs.declared.instruction.StoreOp.TheVariants.{Sb, Sh, Sw, Sd}
 use Rattle.rv_isa.proofs.MemoryLemmas.{stored_below, stored_above}

@@ -2,8 +2,7 @@
 use Rattle.std.proofs.Common.{◌≡◌, ◌≢◌, ℕ, zero, suc, ◌+◌, ◌-◌, ◌*◌, ◌%◌, ◌^◌, ◌<◌, ◌≤◌, Bool, true, false, List, [], ◌∷◌, refl, sym, ◌∙◌, ap, subst, arith, lit<, lit≤, zero-add, Option, ◌&&◌, not, nat_lt, nat_le, if◌then◌else◌, length, slice_get, Some, None}
 use Rattle.abi_frames.proofs.Shared.{State, Location, InRegister, Slot, Destination, Argument, list_all, list_any, and_parts, and_from, eqb-true, both_ways, same_Some, none-some, nat_tests, number_at, stored, is_place}
 use Rattle.rv_isa.proofs.MemoryLemmas.{number_same, stored_above}
-use Rattle.vcode.specs.Places.{same_location, located}
-use Rattle.vcode.specs.Named.{are_distinct}
+use Rattle.vcode.specs.Prelude.{same_location, located, are_distinct}
 use Rattle.flat_code.specs.Step.{Numbers, put, bound, held}
 use Rattle.operation_code.specs.Fields.{sum_to, load_8}
 use Rattle.operation_code.specs.Constants.{constant}

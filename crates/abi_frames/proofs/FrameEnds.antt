@@ -1,12 +1,11 @@
 -- What the begin and the end of a frame do.
 use Rattle.std.proofs.Common.{◌≡◌, ◌≢◌, ℕ, zero, suc, ◌+◌, ◌-◌, ◌*◌, ◌%◌, ◌^◌, ◌<◌, ◌≤◌, Bool, true, false, List, [], ◌∷◌, ◌++◌, refl, sym, ◌∙◌, ap, subst, arith, lit<, ◌||◌, ◌&&◌, not, nat_eq, nat_lt, if◌then◌else◌, slice_get, length, Some, Ok, append_assoc}
 use Rattle.abi_frames.proofs.Shared.{State, Item, list_all, and_parts, eqb-true, not-true, eqb-false, or_parts, longest_size, not_both, same_Some, all_at, nat_tests, number_at, moved, Comes, low}
-use Rattle.rv_isa.specs.Step.{act, jump, even_below}
-use Rattle.rv_isa.specs.Labelled.{Fixed, Stand, Stands}
+use Rattle.rv_isa.specs.Prelude.{act, jump, even_below, Fixed, Stand, Stands}
 use Rattle.rv_isa.specs.declared.instruction.Instr.TheVariants.{Jalr}
 use Rattle.rv_isa.proofs.MemoryLemmas.{number_same, stored_below, stored_above, read_back}
 use Rattle.rv_isa.proofs.RunLemmas.{comes_by_step, comes_then}
-use Rattle.vcode.specs.Cost.{is_immediate}
+use Rattle.vcode.specs.Prelude.{is_immediate}
 use Rattle.abi_frames.specs.Calls.{is_kept}
 use Rattle.operation_code.specs.Fields.{reg, add_low, sum_to}
 use Rattle.operation_code.specs.Constants.{constant}

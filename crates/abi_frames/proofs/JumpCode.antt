@@ -1,8 +1,8 @@
 -- What the code of jumps does.
 use Rattle.std.proofs.Common.{lit≤, ◌≡◌, ℕ, ◌+◌, ◌≤◌, Bool, true, false, List, [], ◌∷◌, ◌++◌, refl, sym, ◌∙◌, ap, subst, arith, lit<, append_assoc, ◌&&◌, not, nat_eq, if◌then◌else◌, Some}
 use Rattle.abi_frames.proofs.Shared.{Class, Condition, L, State, Item, Label, Location, ReturnValue, Operation, Comparison, Layout, longest_size, and_parts, eqb-true, Comes, is_place, operand_keeps}
-use Rattle.il_ast.specs.Operations.{holds}
-use Rattle.rv_isa.specs.Labelled.{Ground, Fixed, Stand, Stands, Moves}
+use Rattle.il_ast.specs.Prelude.{holds}
+use Rattle.rv_isa.specs.Prelude.{Ground, Fixed, Stand, Stands, Moves}
 use Rattle.rv_isa.specs.declared.labelled.Item.TheVariants.{Goto as GoTo}
 use Rattle.rv_isa.proofs.RunLemmas.{comes_here, comes_then}
 use Rattle.vcode.specs.declared.line.Operation.TheVariants.{Compare}

@@ -1,11 +1,11 @@
 -- The labelled code of a function keeps the invariants of such code.
 use Rattle.std.proofs.Common.{suc, ◌≡◌, ℕ, ◌+◌, ◌^◌, ◌<◌, ◌≤◌, Bool, true, false, List, [], ◌∷◌, ◌++◌, refl, sym, subst, arith, lit≤, zero-add, ◌&&◌, not, nat_eq, nat_le, nat_lt, if◌then◌else◌, length, Some, None}
 use Rattle.abi_frames.proofs.Shared.{Condition, Item, Plain, Label, Location, Destination, Comparison, Jump, Block, Code, Layout, list_all, and_parts, and_from, leb-true, lt-ltb, all_append, longest_size, nat_tests}
-use Rattle.rv_isa.specs.Labels.{IsLabelled, times_labelled, has_label_below}
+use Rattle.rv_isa.specs.Prelude.{IsLabelled, times_labelled, has_label_below}
 use Rattle.rv_isa.specs.declared.instruction.Instr.TheVariants.{Ebreak}
 use Rattle.rv_isa.specs.declared.labelled.Item.TheVariants.{Branch as BranchTo, Goto as GoTo, Call as CallTo, Relocated}
 use Rattle.vcode.specs.declared.line.Jump.TheVariants.{Goto, Branch, Return, Halt}
-use Rattle.vcode.specs.Regular.{leads_inside, is_target}
+use Rattle.vcode.specs.Prelude.{leads_inside, is_target}
 use Rattle.abi_frames.specs.Layout.{layout, saved_registers}
 use Rattle.abi_frames.specs.Emission.{lines_items, raise_pointer, restore_all, go_back, prologue, epilogue, goto_items, branch_when, inverted, ways_items, branch_items, compared_source, leave_items, left_behind, copies_end, left_by_value, jump_items, body_items, rows, blocks_items}
 use Rattle.abi_frames.specs.Functions.{entry_items, function_items}

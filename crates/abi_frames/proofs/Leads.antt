@@ -1,7 +1,7 @@
 -- What code leads to, one piece behind the other, and what follows from it.
 use Rattle.std.proofs.Common.{List, ◌++◌}
 use Rattle.abi_frames.proofs.Shared.{State, Item}
-use Rattle.rv_isa.specs.Labelled.{Fixed}
+use Rattle.rv_isa.specs.Prelude.{Fixed}
 use Rattle.operation_code.proofs.Leading.{Site, Leads, leads_then, leads_so, leads_fixed}
 
 pub leads_on : {c : Site} {is js : List Item} {s : State} {P Q : State → Type 0} → Leads c is s P → ((u : State) → Fixed c.ground u → P u → Leads c js u Q) → Leads c (is ++ js) s Q

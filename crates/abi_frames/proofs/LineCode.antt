@@ -6,9 +6,7 @@ use Rattle.operation_code.proofs.FormNumbers.{same_word, word_is_small}
 use Rattle.operation_code.proofs.Forms.{made, as_read, computed_is, IsFormOf, leads_form, nothing_given, number_form_is, left_form_is}
 use Rattle.operation_code.specs.declared.immediate.Form.{Form}
 use Rattle.operation_code.specs.Immediates.{swapped, right_form, left_form, form_items}
-use Rattle.rv_isa.specs.Step.{load_size, load_value}
-use Rattle.rv_isa.specs.Relocations.{lower_part}
-use Rattle.rv_isa.specs.Labelled.{Fixed}
+use Rattle.rv_isa.specs.Prelude.{load_size, load_value, lower_part, Fixed}
 use Rattle.rv_isa.specs.declared.relocation.Partial.TheVariants.{Load as LoadBy}
 use Rattle.vcode.specs.declared.place.Address.{Address}
 use Rattle.vcode.specs.declared.line.Operation.TheVariants.{Reg as RegOperation, RegW as RegWOperation, Compare}

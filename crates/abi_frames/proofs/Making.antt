@@ -1,11 +1,11 @@
 -- A block of memory is made: its address comes to its place, and its bytes, in the frame's area, may be accessed.
 use Rattle.std.proofs.Common.{◌≡◌, ◌≢◌, ℕ, ◌+◌, ◌-◌, ◌%◌, ◌^◌, ◌<◌, ◌≤◌, Bool, true, false, List, [], ◌∷◌, refl, ◌∙◌, arith, nat_lt, if◌then◌else◌, Option, Some, None}
-use Rattle.il_ast.specs.Cost.{round_16}
+use Rattle.il_ast.specs.Prelude.{round_16}
 use Rattle.abi_frames.proofs.Shared.{State, Plain, Location, Line, Block, Code, list_all, and_parts, same_Some, nat_tests, sum_by-cons, is_place, line_keeps}
-use Rattle.rv_isa.specs.Arithmetic.{upper_value}
+use Rattle.rv_isa.specs.Prelude.{upper_value}
 use Rattle.rv_isa.specs.declared.instruction.Instr.TheVariants.{Lui}
 use Rattle.vcode.specs.declared.line.Line.TheVariants.{Alloc}
-use Rattle.vcode.specs.Regular.{alloc_bytes}
+use Rattle.vcode.specs.Prelude.{alloc_bytes}
 use Rattle.flat_code.specs.Spots.{NoAccess, AnyByte, ThisByte, Spots}
 use Rattle.flat_code.specs.Flat.{FlatGiven, FlatOutcome}
 use Rattle.flat_code.specs.Step.{FlatState, Numbers, put, made_in, is_in, opened, goes_on}

@@ -1,8 +1,8 @@
 -- The labelled code of code with marks keeps the invariants of such code.
 use Rattle.std.proofs.Common.{◌≡◌, ℕ, ◌+◌, ◌^◌, ◌<◌, ◌≤◌, true, List, [], ◌∷◌, arith, lit<, lit≤, length}
-use Rattle.rv_isa.specs.Labels.{IsLabelled}
+use Rattle.rv_isa.specs.Prelude.{IsLabelled}
 use Rattle.abi_frames.proofs.Shared.{Label, Location, Block, Code, Layout, Mark, leb-true, longest_size, nat_tests}
-use Rattle.vcode.specs.Regular.{leads_inside}
+use Rattle.vcode.specs.Prelude.{leads_inside}
 use Rattle.frame_ways.specs.declared.mark.Mark.TheVariants.{Bare, Begin, Framed}
 use Rattle.frame_ways.specs.Marks.{mark_at, IsMarked}
 use Rattle.abi_frames.specs.Layout.{layout, saved_registers}

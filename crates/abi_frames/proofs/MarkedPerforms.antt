@@ -3,12 +3,10 @@ use Rattle.std.proofs.Common.{◌≡◌, ℕ, ◌+◌, ◌-◌, ◌%◌, ◌^◌
 use Rattle.std.specs.List.{list_any}
 use Rattle.il_ast.specs.declared.limits.TheConstants.{FUNCTION_WEIGHT}
 use Rattle.abi_frames.proofs.Shared.{State, Item, Label, Location, Block, Code, Layout, Mark, sum_by, and_parts, not-true, leb-true, all_at, is_place}
-use Rattle.rv_isa.specs.Labelled.{Stand}
+use Rattle.rv_isa.specs.Prelude.{Stand}
 use Rattle.rv_isa.proofs.RunLemmas.{comes_then}
 use Rattle.vcode.specs.declared.limits.TheConstants.{PLACES}
-use Rattle.vcode.specs.Cost.{affords, is_paid}
-use Rattle.vcode.specs.Named.{block_keeps}
-use Rattle.vcode.specs.Regular.{area, turns_of, is_alloc, leads_inside}
+use Rattle.vcode.specs.Prelude.{affords, is_paid, block_keeps, area, turns_of, is_alloc, leads_inside}
 use Rattle.flat_code.specs.Spots.{Spots}
 use Rattle.flat_code.specs.Step.{flat_begin, flat_step}
 use Rattle.frame_ways.specs.declared.mark.Mark.TheVariants.{Bare, Begin, Framed}

@@ -1,7 +1,7 @@
 -- Bytes that the program may access change, and the frame stays: its slots and saved registers, and what lies above it, may not be accessed.
 use Rattle.std.proofs.Common.{◌≡◌, ◌≢◌, ℕ, zero, suc, ◌+◌, ◌*◌, ◌<◌, ◌≤◌, ◌⊎◌, Bool, true, false, inl, inr, refl, sym, ◌∙◌, ap, arith, lit<, eq-or-lt_of_le, length, ◌&&◌, nat_le, nat_lt, Some}
 use Rattle.abi_frames.proofs.Shared.{State, Location, InRegister, Slot, and_parts, slice_get_within, nat_tests, number_at, is_place}
-use Rattle.rv_isa.specs.Labelled.{Ground}
+use Rattle.rv_isa.specs.Prelude.{Ground}
 use Rattle.rv_isa.proofs.MemoryLemmas.{number_same}
 use Rattle.flat_code.specs.Spots.{Spot, NoAccess, ThisByte, Spots}
 use Rattle.flat_code.specs.Step.{Numbers, is_there, all_there, is_in}

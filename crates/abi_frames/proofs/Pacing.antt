@@ -2,7 +2,7 @@
 use Rattle.std.proofs.Common.{◌≡◌, ℕ, zero, suc, ◌+◌, ◌≤◌, Bool, true, false, List, [], ◌∷◌, refl, sym, ◌∙◌, ap, arith, if◌then◌else◌, slice_get, Some}
 use Rattle.il_ast.specs.declared.limits.TheConstants.{FUNCTION_WEIGHT}
 use Rattle.abi_frames.proofs.Shared.{Location, Block, Code, sum_by, sum_by-cons, nat_tests}
-use Rattle.vcode.specs.Regular.{turns_of}
+use Rattle.vcode.specs.Prelude.{turns_of}
 use Rattle.abi_frames.specs.Layout.{turns_in, falls_through}
 
 abbrev pub block_turns : Block Location → ℕ

@@ -2,13 +2,11 @@
 use Rattle.std.proofs.Common.{◌≡◌, ℕ, ◌-◌, ◌^◌, ◌<◌, List, subst, arith, slice_get, Option, Some}
 use Rattle.il_ast.specs.declared.limits.TheConstants.{FUNCTION_WEIGHT}
 use Rattle.il_ast.specs.declared.value.End.TheVariants.{Exit, Halt, Undefined, Stack, Turns}
-use Rattle.il_ast.specs.Run.{one_call}
-use Rattle.il_ast.specs.Logged.{Logged}
-use Rattle.rv_isa.specs.Labelled.{Stand}
+use Rattle.il_ast.specs.Prelude.{one_call, Logged}
+use Rattle.rv_isa.specs.Prelude.{Stand}
 use Rattle.abi_frames.proofs.Shared.{Class, Location, Code, Item, leb-true}
 use Rattle.vcode.specs.declared.function.LFunc.{LFunc}
-use Rattle.vcode.specs.Regular.{area, code_weight}
-use Rattle.vcode.specs.Coded.{classes_in}
+use Rattle.vcode.specs.Prelude.{area, code_weight, classes_in}
 use Rattle.flat_code.specs.Flat.{FlatOutcome, FlatReturned, FlatEnded, flat_after}
 use Rattle.flat_code.specs.Step.{flat_begin, flat_step}
 use Rattle.abi_frames.specs.Calls.{World, IsWorld}

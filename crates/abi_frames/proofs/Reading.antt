@@ -1,8 +1,7 @@
 -- Bytes that are known are those that the machine reads.
 use Rattle.std.proofs.Common.{◌≡◌, ◌≢◌, ℕ, zero, suc, ◌+◌, ◌*◌, refl, subst, arith, inl, inr, eq-or-lt_of_le, Option, Some, None}
 use Rattle.abi_frames.proofs.Shared.{option_map, same_Some, none_is_not, number_at}
-use Rattle.rv_isa.specs.State.{State}
-use Rattle.rv_isa.specs.Labelled.{Ground}
+use Rattle.rv_isa.specs.Prelude.{State, Ground}
 use Rattle.flat_code.specs.Spots.{Spot, NoAccess, AnyByte, ThisByte, Spots}
 use Rattle.flat_code.specs.Step.{read_spot, known_number}
 use Rattle.abi_frames.specs.Calls.{IsUsable, HoldsSpots}

@@ -1,6 +1,6 @@
 -- Where blocks stand that stand one behind the other, each behind its label.
 use Rattle.std.proofs.Common.{◌≡◌, ℕ, zero, suc, ◌+◌, List, [], ◌∷◌, ◌++◌, refl, sym, ◌∙◌, ap, subst, arith, append_assoc, length, slice_get, Some}
-use Rattle.rv_isa.specs.Labelled.{Stand, Stands}
+use Rattle.rv_isa.specs.Prelude.{Stand, Stands}
 use Rattle.abi_frames.proofs.Shared.{Item, Label, Location, Block, Layout, same_Some}
 use Rattle.abi_frames.specs.Emission.{body_items, rows}
 use Rattle.operation_code.proofs.Leading.{Site, StandAt}

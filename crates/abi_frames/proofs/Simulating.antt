@@ -2,13 +2,9 @@
 use Rattle.std.proofs.Common.{◌≡◌, ◌≢◌, ℕ, zero, suc, ◌+◌, ◌-◌, ◌*◌, ◌<◌, ◌≤◌, Bool, true, false, List, [], ◌∷◌, ◌++◌, refl, sym, ◌∙◌, ap, subst, arith, lit<, zero-add, append_assoc, append-nil, not, ◌&&◌, nat_eq, nat_lt, if◌then◌else◌, slice_get, Option, Some, None, Err}
 use Rattle.il_ast.specs.declared.limits.TheConstants.{FUNCTION_WEIGHT}
 use Rattle.abi_frames.proofs.Shared.{Class, State, Item, Label, Location, Operand, ReturnValue, Operation, Line, Comparison, Jump, Block, Code, LoadOp, option_map, option_and_then, list_all, list_any, and_parts, leb-true, longest_size, none_is_not, same_Some, nat_tests, sum_by-cons, number_at, is_place, operand_keeps, line_keeps}
-use Rattle.il_ast.specs.Operations.{holds, truth}
+use Rattle.il_ast.specs.Prelude.{holds, truth, Spent, one_turn, both, Over, Does, Logged}
 use Rattle.il_ast.specs.declared.value.End.TheVariants.{Halt as Halted, Turns}
-use Rattle.il_ast.specs.Run.{Spent, one_turn, both}
-use Rattle.il_ast.specs.Logged.{Over, Does, Logged}
-use Rattle.rv_isa.specs.Step.{step, Broken}
-use Rattle.rv_isa.specs.Runs.{runs, then_run}
-use Rattle.rv_isa.specs.Labelled.{Stand, Stands}
+use Rattle.rv_isa.specs.Prelude.{step, Broken, runs, then_run, Stand, Stands, load_size, load_value}
 use Rattle.rv_isa.specs.declared.instruction.Instr.TheVariants.{Ebreak}
 use Rattle.rv_isa.proofs.RunLemmas.{comes_then}
 use Rattle.rv_isa.proofs.StepLemmas.{step_at}
@@ -16,12 +12,9 @@ use Rattle.vcode.specs.declared.place.Address.{Address}
 use Rattle.vcode.specs.declared.line.Line.TheVariants.{Tick, Set, Operate, Load, Store, Alloc, Blit, Call}
 use Rattle.vcode.specs.declared.line.Operation.TheVariants.{Compare}
 use Rattle.vcode.specs.declared.line.Jump.TheVariants.{Goto, Branch, Return, Halt}
-use Rattle.vcode.specs.Regular.{area, turns_of, alloc_bytes, is_alloc, is_target}
-use Rattle.vcode.specs.Cost.{jump_cost}
-use Rattle.vcode.specs.Step.{weighs}
+use Rattle.vcode.specs.Prelude.{area, turns_of, alloc_bytes, is_alloc, is_target, jump_cost, weighs}
 use Rattle.flat_code.specs.Spots.{NoAccess, ThisByte, Spots}
 use Rattle.flat_code.specs.Flat.{FlatGiven, FlatOutcome, FlatReturned, FlatEnded}
-use Rattle.rv_isa.specs.Step.{load_size, load_value}
 use Rattle.abi_frames.proofs.Reading.{read_is}
 use Rattle.flat_code.specs.Step.{known_number, FlatState, Numbers, put, number_of, taken, passed as read_passed, operated, computed, closed, is_in, sets, ticks, fails, goes_on, enters, compared, branches, returns, returns_as, flat_line, flat_jump, block_step, step_in, flat_step, address_of}
 use Rattle.abi_frames.specs.Calls.{ResultIn, passed, HoldsSpots}

@@ -2,13 +2,11 @@
 use Rattle.std.proofs.Common.{◌≡◌, ℕ, suc, ◌+◌, ◌-◌, ◌*◌, ◌%◌, ◌<◌, ◌≤◌, Bool, true, false, refl, List, ◌∷◌, ◌++◌, ◌∙◌, ap, subst, arith, lit<, append_assoc, ◌&&◌, ◌||◌, nat_le, length, slice_get, Some, max}
 use Rattle.il_ast.specs.declared.limits.TheConstants.{FUNCTION_WEIGHT}
 use Rattle.il_ast.specs.declared.value.End.TheVariants.{Undefined}
-use Rattle.il_ast.specs.Run.{Spent, one_call}
-use Rattle.il_ast.specs.Logged.{Entry, LoggedEvent, Logged}
+use Rattle.il_ast.specs.Prelude.{Spent, one_call, Entry, LoggedEvent, Logged}
 use Rattle.abi_frames.proofs.Shared.{State, Item, Location, InRegister, Slot, Line, Jump, Block, Code, Label, list_all, list_any, sum_by, and_parts, leb-true, longest_size, sum_by-cons, Comes, number_at, is_place, line_keeps, jump_keeps}
-use Rattle.rv_isa.specs.Labelled.{Fixed}
+use Rattle.rv_isa.specs.Prelude.{Fixed}
 use Rattle.rv_isa.proofs.RunLemmas.{comes_then}
-use Rattle.vcode.specs.Regular.{area, turns_of, alloc_bytes, is_alloc, leads_inside}
-use Rattle.vcode.specs.Cost.{line_cost, jump_cost, affords}
+use Rattle.vcode.specs.Prelude.{area, turns_of, alloc_bytes, is_alloc, leads_inside, line_cost, jump_cost, affords}
 use Rattle.flat_code.specs.Spots.{Spots}
 use Rattle.flat_code.specs.Flat.{FlatGiven, FlatAsked, FlatOutcome, FlatEnded, flat_after}
 use Rattle.flat_code.specs.Step.{FlatState, FlatEvent, Numbers, flat_step}

@@ -12,10 +12,8 @@ use Rattle.vcode.specs.declared.place.Address.{Address as MemoryAddress}
 use Rattle.vcode.specs.declared.line.Operation.TheVariants.{Reg as RegOperation, RegW as RegWOperation, Compare}
 use Rattle.vcode.specs.declared.line.Line.TheVariants.{Tick, Set, Operate, Load, Store, Alloc, Blit, Call}
 use Rattle.vcode.specs.declared.line.Jump.TheVariants.{Goto, Branch, Return, Halt}
-use Rattle.il_ast.specs.Cost.{round_16}
-use Rattle.vcode.specs.Cost.{branch_cost, is_immediate, operand_cost, operation_cost, line_cost, jump_cost, affords, is_paid}
-use Rattle.vcode.specs.Regular.{weight_of, alloc_bytes, code_weight}
-use Rattle.vcode.specs.Named.{is_near, are_near}
+use Rattle.il_ast.specs.Prelude.{round_16}
+use Rattle.vcode.specs.Prelude.{branch_cost, is_immediate, operand_cost, operation_cost, line_cost, jump_cost, affords, is_paid, weight_of, alloc_bytes, code_weight, is_near, are_near}
 use Rattle.abi_frames.specs.Layout.{layout, saved_registers}
 use Rattle.abi_frames.proofs.Saving.{few_saved_registers}
 use Rattle.abi_frames.specs.Laws.{IsCode}

@@ -1,11 +1,7 @@
 -- What loads and stores do, of eight bytes of the stack above all.
 use Rattle.std.proofs.Common.{◌≡◌, ◌≢◌, ℕ, ◌+◌, ◌-◌, ◌%◌, ◌^◌, ◌<◌, ◌≤◌, Bool, true, false, [], ◌∷◌, refl, sym, ◌∙◌, ap, subst, arith, lit<, nat_le, nat_lt, if◌then◌else◌, Ok}
 use Rattle.abi_frames.proofs.Shared.{State, Immediate, LoadOp, Plain, and_from, nat_tests, number_at, stored, moved, low}
-use Rattle.rv_isa.specs.State.{register, put}
-use Rattle.rv_isa.specs.Memory.{each_of, allowed, can_read, can_write}
-use Rattle.rv_isa.specs.Arithmetic.{upper_value}
-use Rattle.rv_isa.specs.Step.{act, load, load_size, load_value, store}
-use Rattle.rv_isa.specs.Labelled.{Ground, Fixed}
+use Rattle.rv_isa.specs.Prelude.{register, put, each_of, allowed, can_read, can_write, upper_value, act, load, load_size, load_value, store, Ground, Fixed}
 use Rattle.rv_isa.specs.declared.permission.Permission.{Permission}
 use Rattle.rv_isa.specs.declared.instruction.Instr.TheVariants.{Lui, Load, Store}
 use Rattle.rv_isa.specs.declared.instruction.LoadOp.TheVariants.{Lb, Lh, Lw, Ld, Lbu, Lhu, Lwu}

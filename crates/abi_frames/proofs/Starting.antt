@@ -2,12 +2,10 @@
 use Rattle.il_ast.specs.declared.limits.TheConstants.{FUNCTION_WEIGHT, ALLOC_BYTES}
 use Rattle.std.proofs.Common.{◌≡◌, ℕ, zero, suc, ◌+◌, ◌-◌, ◌*◌, ◌^◌, ◌<◌, ◌≤◌, Bool, true, false, List, [], ◌∷◌, ◌++◌, refl, sym, ◌∙◌, ap, subst, arith, zero-add, append_assoc, append-nil, ◌%◌, not, nat_le, nat_lt, if◌then◌else◌, map, length, slice_get, Some, None}
 use Rattle.abi_frames.proofs.Shared.{Class, State, Item, Label, Location, Destination, Jump, Block, Code, Layout, list_all, list_any, sum_by, and_parts, not-true, leb-true, longest_size, all_at, same_Some, sum_by-cons, nat_tests, number_at, is_place, line_keeps, jump_keeps}
-use Rattle.rv_isa.specs.Labelled.{Stand}
+use Rattle.rv_isa.specs.Prelude.{Stand}
 use Rattle.vcode.specs.declared.line.Jump.TheVariants.{Goto, Branch, Return, Halt}
 use Rattle.vcode.specs.declared.limits.TheConstants.{PLACES}
-use Rattle.vcode.specs.Named.{block_keeps}
-use Rattle.vcode.specs.Cost.{affords, is_paid}
-use Rattle.vcode.specs.Regular.{area, turns_of, is_alloc, allocs_first, alloc_bytes, leads_inside}
+use Rattle.vcode.specs.Prelude.{block_keeps, affords, is_paid, area, turns_of, is_alloc, allocs_first, alloc_bytes, leads_inside}
 use Rattle.flat_code.specs.Spots.{Spots, Clear}
 use Rattle.flat_code.specs.Flat.{FlatGiven}
 use Rattle.flat_code.specs.Step.{Numbers, bound, flat_begin, flat_step}

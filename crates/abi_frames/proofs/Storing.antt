@@ -3,12 +3,9 @@ use Rattle.std.proofs.Common.{inl, inr, ◌≡◌, ℕ, zero, suc, ◌+◌, ◌-
 use Rattle.std.specs.Int.{byte_at}
 use Rattle.il_ast.specs.declared.operation.Size.{Size}
 use Rattle.il_ast.specs.declared.operation.Size.TheVariants.{Byte, Half, Word, Long}
-use Rattle.il_ast.specs.Values.{byte_count}
-use Rattle.il_ast.specs.Effect.{stored_class}
+use Rattle.il_ast.specs.Prelude.{byte_count, stored_class}
 use Rattle.abi_frames.proofs.Shared.{State, Immediate, StoreOp, Item, Location, Operand, Number, Name, Line, Block, Code, list_all, option_map, option_and_then, and_parts, stored, moved, is_place, operand_keeps, line_keeps}
-use Rattle.rv_isa.specs.Step.{store_size}
-use Rattle.rv_isa.specs.Relocations.{lower_part}
-use Rattle.rv_isa.specs.Labelled.{Fixed}
+use Rattle.rv_isa.specs.Prelude.{store_size, lower_part, Fixed}
 use Rattle.rv_isa.specs.declared.relocation.Partial.TheVariants.{Store as StoreBy}
 use Rattle.rv_isa.proofs.MemoryLemmas.{stored_below, stored_above}
 use Rattle.vcode.specs.declared.place.Address.{Address}

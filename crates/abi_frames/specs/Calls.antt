@@ -6,9 +6,7 @@ use Rattle.bits.specs.Words.{sign_extended}
 use Rattle.rv_isa.specs.declared.abi.TheConstants.{RETURN_ADDRESS, STACK_POINTER, THREAD_POINTER, FIRST_SAVED, SECOND_SAVED, FIRST_ARGUMENT, ARGUMENT_REGISTERS, RESULT, THIRD_SAVED, LAST_SAVED}
 use Rattle.il_ast.specs.declared.operation.Class.{Class}
 use Rattle.il_ast.specs.declared.operation.Class.TheVariants.{W, L}
-use Rattle.rv_isa.specs.State.{State}
-use Rattle.rv_isa.specs.Memory.{number_at}
-use Rattle.rv_isa.specs.Labelled.{Ground, Fixed}
+use Rattle.rv_isa.specs.Prelude.{State, number_at, Ground, Fixed}
 use Rattle.flat_code.specs.Spots.{NoAccess, ThisByte, Spots}
 use Rattle.flat_code.specs.Flat.{FlatGiven}
 

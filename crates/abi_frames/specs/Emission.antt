@@ -36,9 +36,7 @@ use Rattle.vcode.specs.declared.line.Comparison.{Comparison}
 use Rattle.vcode.specs.declared.line.Jump.{Jump}
 use Rattle.vcode.specs.declared.line.Jump.TheVariants.{Goto, Branch, Return, Halt}
 use Rattle.vcode.specs.declared.code.Block.{Block}
-use Rattle.vcode.specs.Addresses.{low}
-use Rattle.vcode.specs.Cost.{is_immediate, line_cost}
-use Rattle.vcode.specs.Regular.{alloc_bytes}
+use Rattle.vcode.specs.Prelude.{low, is_immediate, line_cost, alloc_bytes}
 use Rattle.abi_frames.specs.declared.layout.Layout.{Layout}
 use Rattle.abi_frames.specs.declared.price.TheConstants.{COPIED_RESTORES}
 use Rattle.operation_code.specs.declared.immediate.Form.{Form}

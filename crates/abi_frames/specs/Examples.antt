@@ -6,7 +6,7 @@ use Rattle.il_ast.specs.declared.operation.Condition.TheVariants.{NotEqual, Sign
 use Rattle.il_ast.specs.declared.operation.Size.TheVariants.{Long}
 use Rattle.rv_isa.specs.declared.instruction.LoadOp.TheVariants.{Ld}
 use Rattle.rv_isa.specs.declared.instruction.RegOp.TheVariants.{Add}
-use Rattle.rv_isa.specs.Labels.{longest_size}
+use Rattle.rv_isa.specs.Prelude.{longest_size}
 use Rattle.vcode.specs.declared.place.Location.{Location}
 use Rattle.vcode.specs.declared.place.Location.TheVariants.{Register, Slot}
 use Rattle.vcode.specs.declared.place.Argument.{Argument}
@@ -17,8 +17,7 @@ use Rattle.vcode.specs.declared.line.Operation.TheVariants.{Reg, Compare}
 use Rattle.vcode.specs.declared.line.Line.TheVariants.{Tick, Set, Operate, Call, Load, Store, Alloc, Blit}
 use Rattle.vcode.specs.declared.line.Jump.TheVariants.{Goto, Branch, Return}
 use Rattle.vcode.specs.declared.code.Code.{Code}
-use Rattle.vcode.specs.Addresses.{at_once}
-use Rattle.vcode.specs.ExampleCodes.{block, code, destination, returned}
+use Rattle.vcode.specs.Prelude.{at_once, block, code, destination, returned}
 use Rattle.abi_frames.specs.Laws.{IsCode}
 use Rattle.abi_frames.specs.Functions.{frame_items}
 

@@ -3,8 +3,7 @@ use Rattle.std.specs.Prelude.{ℕ, List}
 use Rattle.rv_isa.specs.declared.labelled.Item.{Item}
 use Rattle.vcode.specs.declared.place.Location.{Location}
 use Rattle.vcode.specs.declared.code.Code.{Code}
-use Rattle.vcode.specs.Coded.{classes_in}
-use Rattle.vcode.specs.Regular.{area}
+use Rattle.vcode.specs.Prelude.{classes_in, area}
 use Rattle.flat_code.specs.Step.{flat_begin, flat_step}
 use Rattle.abi_frames.specs.Layout.{frame_bound, frame_size}
 use Rattle.abi_frames.specs.Promise.{FramePromise}

@@ -13,7 +13,7 @@ use Rattle.vcode.specs.declared.place.Operand.TheVariants.{At}
 use Rattle.il_ast.specs.declared.operation.Class.TheVariants.{L}
 use Rattle.vcode.specs.declared.code.Block.{Block}
 use Rattle.vcode.specs.declared.code.Code.{Code}
-use Rattle.vcode.specs.Regular.{code_weight}
+use Rattle.vcode.specs.Prelude.{code_weight}
 use Rattle.abi_frames.specs.Layout.{is_register, layout, saved_registers}
 use Rattle.abi_frames.specs.declared.layout.Layout.{Layout}
 use Rattle.operation_code.specs.Fields.{add_low, sum_to, load_8}

@@ -2,12 +2,10 @@
 use Rattle.std.specs.Prelude.{◌≡◌, ℕ, ◌+◌, ◌*◌, ◌^◌, ◌<◌, ◌≤◌, List, IsTrue, nat_le, length}
 use Rattle.il_ast.specs.declared.limits.TheConstants.{FUNCTION_WEIGHT}
 use Rattle.vcode.specs.declared.limits.TheConstants.{PLACES}
-use Rattle.rv_isa.specs.Labels.{IsLabelled, longest_size}
+use Rattle.rv_isa.specs.Prelude.{IsLabelled, longest_size}
 use Rattle.vcode.specs.declared.place.Location.{Location}
 use Rattle.vcode.specs.declared.code.Code.{Code}
-use Rattle.vcode.specs.Places.{located}
-use Rattle.vcode.specs.Named.{keeps_places, is_place, are_near, are_distinct}
-use Rattle.vcode.specs.Regular.{IsRegular, code_weight}
+use Rattle.vcode.specs.Prelude.{located, keeps_places, is_place, are_near, are_distinct, IsRegular, code_weight}
 use Rattle.abi_frames.specs.Frames.{IsFrameOf}
 use Rattle.abi_frames.specs.Functions.{frame_items}
 use Rattle.abi_frames.specs.Layout.{frame_size}

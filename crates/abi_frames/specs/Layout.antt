@@ -4,7 +4,7 @@
 use Rattle.std.specs.Prelude.{ℕ, ◌+◌, ◌-◌, ◌*◌, Bool, true, false, ◌||◌, nat_le, if◌then◌else◌, List, [], ◌∷◌, ◌++◌, length}
 use Rattle.std.specs.List.{list_any, sum_by}
 use Rattle.rv_isa.specs.declared.abi.TheConstants.{RETURN_ADDRESS}
-use Rattle.il_ast.specs.Cost.{round_16}
+use Rattle.il_ast.specs.Prelude.{round_16}
 use Rattle.vcode.specs.declared.place.Location.{Location}
 use Rattle.vcode.specs.declared.place.Destination.{Destination}
 use Rattle.vcode.specs.declared.line.Line.{Line}
@@ -13,7 +13,7 @@ use Rattle.vcode.specs.declared.code.Block.{Block}
 use Rattle.vcode.specs.declared.code.Code.{Code}
 pub use Rattle.vcode.specs.Outgoing.{args_on_stack, most_in_lines, most_in_blocks, outgoing, frame_bound}
 pub use Rattle.frame_ways.specs.Written.{is_register, writes, callee_saved}
-use Rattle.vcode.specs.Regular.{area, turns_of}
+use Rattle.vcode.specs.Prelude.{area, turns_of}
 use Rattle.abi_frames.specs.declared.layout.Layout.{Layout}
 use Rattle.abi_frames.specs.declared.pace.TheConstants.{TURN_BOUND}
 

@@ -3,11 +3,8 @@
 use Rattle.std.specs.Prelude.{◌≡◌, ℕ, ◌+◌, ◌-◌, ◌*◌, ◌%◌, ◌≤◌, List, [], ◌∷◌, ◌++◌, Option}
 use Rattle.il_ast.specs.declared.operation.Class.{Class}
 use Rattle.il_ast.specs.declared.value.End.TheVariants.{Exit, Halt, Undefined, Stack, Turns}
-use Rattle.il_ast.specs.Run.{Spent, one_call}
-use Rattle.il_ast.specs.Logged.{Event, Entry, Logged}
-use Rattle.rv_isa.specs.State.{State}
-use Rattle.rv_isa.specs.Step.{Stop, Exited, Broken}
-use Rattle.rv_isa.specs.Runs.{Stopped, runs, Comes}
+use Rattle.il_ast.specs.Prelude.{Spent, one_call, Event, Entry, Logged}
+use Rattle.rv_isa.specs.Prelude.{State, Stop, Exited, Broken, Stopped, runs, Comes}
 use Rattle.flat_code.specs.Spots.{Spots, Clear, SameReach}
 use Rattle.flat_code.specs.Flat.{FlatGiven, FlatAsked, FlatOutcome, FlatReturned, FlatEnded, flat_after}
 use Rattle.abi_frames.specs.declared.pace.TheConstants.{TURN_BOUND}

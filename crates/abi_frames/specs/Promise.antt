@@ -1,8 +1,8 @@
 -- What the labelled code of a function owes, wherever it stands.
 use Rattle.std.specs.Prelude.{◌≡◌, ℕ, ◌%◌, ◌^◌, ◌<◌, ◌≤◌, List, slice_get, Option, Some}
 use Rattle.il_ast.specs.declared.operation.Class.{Class}
-use Rattle.il_ast.specs.Logged.{Event}
-use Rattle.rv_isa.specs.Labelled.{Stand}
+use Rattle.il_ast.specs.Prelude.{Event}
+use Rattle.rv_isa.specs.Prelude.{Stand}
 use Rattle.rv_isa.specs.declared.labelled.Item.{Item}
 use Rattle.flat_code.specs.Flat.{FlatGiven, FlatAsked, FlatOutcome}
 use Rattle.abi_frames.specs.Calls.{World, IsWorld}

@@ -1,9 +1,9 @@
 //! Functions with their frames.
 ghost use Rattle.il_ast.specs.declared.limits.TheConstants.{ALLOC_BYTES};
 ghost use Rattle.std.specs.Prelude.{◌≡◌, ◌+◌, ◌*◌, ◌^◌, ◌<◌, ◌≤◌, IsTrue, ◌∷◌, ◌++◌, length, nat_le, OnOk, IfOk, IfSome};
-ghost use Rattle.rv_isa.specs.Labels.{longest_size};
+ghost use Rattle.rv_isa.specs.Prelude.{longest_size};
 ghost use Rattle.std.specs.List.{list_all, sum_by};
-ghost use Rattle.vcode.specs.Regular.{area, alloc_bytes, turns_of, passes_few, code_weight};
+ghost use Rattle.vcode.specs.Prelude.{area, alloc_bytes, turns_of, passes_few, code_weight};
 ghost use Rattle.abi_frames.specs.Layout.{layout, outgoing, saved_registers, frame_size, frame_bound};
 ghost use Rattle.abi_frames.specs.Emission.{left_behind, lines_items, jump_items, epilogue, block_items, blocks_items};
 ghost use Rattle.abi_frames.specs.Functions.{function_items, frame_items};

@@ -2,7 +2,7 @@
 ghost use Rattle.il_ast.specs.declared.limits.TheConstants.{ALLOC_BYTES};
 ghost use Rattle.std.specs.Prelude.{◌≡◌, ◌^◌, ◌<◌, ◌≤◌, IsTrue, [], ◌∷◌, ◌++◌, OnOk, ◌+◌};
 ghost use Rattle.std.specs.List.{list_all, sum_by};
-ghost use Rattle.vcode.specs.Regular.{alloc_bytes, passes_few};
+ghost use Rattle.vcode.specs.Prelude.{alloc_bytes, passes_few};
 ghost use Rattle.vcode.specs.declared.place.Location.TheVariants.{Slot};
 ghost use Rattle.abi_frames.specs.Emission.{operand_into, operand_source, on_registers, by_form, set_items, operate_items, base_items, load_by, store_by, load_items, store_op, store_items, alloc_items, line_items, lines_items};
 

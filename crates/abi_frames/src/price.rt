@@ -1,8 +1,8 @@
 //! Whether code stays within the price of its function.
 ghost use Rattle.il_ast.specs.declared.limits.TheConstants.{FUNCTION_WEIGHT};
 ghost use Rattle.std.specs.Prelude.{◌≡◌, ◌+◌, ◌*◌, ◌^◌, ◌<◌, ◌≤◌, nat_le, sum_by};
-ghost use Rattle.rv_isa.specs.Labels.{longest, longest_size};
-ghost use Rattle.vcode.specs.Regular.{weight_of, code_weight};
+ghost use Rattle.rv_isa.specs.Prelude.{longest, longest_size};
+ghost use Rattle.vcode.specs.Prelude.{weight_of, code_weight};
 ghost use Rattle.abi_frames.specs.Emission.{left_by, left_behind};
 ghost use Rattle.abi_frames.specs.Functions.{price};
 

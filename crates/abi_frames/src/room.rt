@@ -1,7 +1,7 @@
 //! How much room a function's blocks of memory and the arguments of its calls take in its frame.
 ghost use Rattle.il_ast.specs.declared.limits.TheConstants.{ALLOC_BYTES};
 ghost use Rattle.std.specs.Prelude.{◌≡◌, ◌≤◌, sum_by};
-ghost use Rattle.vcode.specs.Regular.{alloc_bytes, area};
+ghost use Rattle.vcode.specs.Prelude.{alloc_bytes, area};
 ghost use Rattle.abi_frames.specs.Layout.{args_on_stack, most_in_lines, most_in_blocks, outgoing};
 
 use rv_isa::abi;

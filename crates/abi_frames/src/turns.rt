@@ -1,7 +1,7 @@
 //! How many turns of the source begin in a function's code.
 ghost use Rattle.std.specs.Prelude.{◌≡◌, ◌≤◌, IsTrue, nat_le};
 ghost use Rattle.std.specs.List.{list_all, sum_by};
-ghost use Rattle.vcode.specs.Regular.{turns_of};
+ghost use Rattle.vcode.specs.Prelude.{turns_of};
 ghost use Rattle.abi_frames.specs.declared.pace.TheConstants.{TURN_BOUND};
 ghost use Rattle.abi_frames.specs.Layout.{falls_through};
 

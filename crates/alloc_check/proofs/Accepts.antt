@@ -5,14 +5,9 @@ use Rattle.std.proofs.lemmas.Bool.{and_parts}
 use Rattle.vcode.specs.declared.place.Location.{Location}
 use Rattle.vcode.specs.declared.code.Code.{Code}
 use Rattle.vcode.specs.declared.function.VFunc.{VFunc}
-use Rattle.vcode.specs.Cost.{is_paid}
-use Rattle.vcode.specs.Named.{keeps_places, is_below, is_place, are_near, are_distinct}
-use Rattle.vcode.specs.Places.{located}
+use Rattle.vcode.specs.Prelude.{is_paid, keeps_places, is_below, is_place, are_near, are_distinct, located}
 use Rattle.certificates.specs.declared.certificate.Certificate.{Certificate}
-use Rattle.alloc_check.specs.Certified.{placed_by, is_sound}
-use Rattle.alloc_check.specs.Owners.{are_apart}
-use Rattle.alloc_check.specs.Accepted.{exists_in, equalities_exist, names_once, has_lengths, is_whole, is_placed, is_accepted}
-use Rattle.alloc_check.specs.Walk.{sound_in}
+use Rattle.alloc_check.specs.Prelude.{placed_by, is_sound, are_apart, exists_in, equalities_exist, names_once, has_lengths, is_whole, is_placed, is_accepted, sound_in}
 use Rattle.alloc_check.proofs.Certifies.{from_true}
 use Rattle.alloc_check.proofs.Walks.{sound_is}
 use Rattle.il_ast.proofs.Truth.{and_assoc}

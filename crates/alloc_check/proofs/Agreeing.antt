@@ -5,8 +5,7 @@ use Rattle.std.proofs.lemmas.Bool.Decides.{nat_tests}
 use Rattle.std.proofs.lemmas.Bool.{and_parts}
 use Rattle.il_ast.specs.declared.operation.Class.{Class}
 use Rattle.il_ast.specs.declared.value.Value.{Value}
-use Rattle.il_ast.specs.Values.{in_place}
-use Rattle.il_ast.specs.Keeps.{AreArgs}
+use Rattle.il_ast.specs.Prelude.{in_place, AreArgs}
 use Rattle.vcode.specs.declared.place.Location.{Location}
 use Rattle.vcode.specs.declared.place.Location.TheVariants.{Register, Slot}
 use Rattle.vcode.specs.declared.place.Operand.{Operand}
@@ -14,15 +13,11 @@ use Rattle.vcode.specs.declared.place.ReturnValue.{ReturnValue}
 use Rattle.vcode.specs.declared.place.Operand.TheVariants.{At, Number, Name}
 use Rattle.vcode.specs.declared.place.Argument.{Argument}
 use Rattle.vcode.specs.declared.place.Destination.{Destination}
-use Rattle.vcode.specs.Operations.{held, passed}
-use Rattle.vcode.specs.Places.{Values, put, assign, kept, virtual, located, same_location, is_callers}
+use Rattle.vcode.specs.Prelude.{held, passed, Values, put, assign, kept, virtual, located, same_location, is_callers, bound, value_of, read, read_argument, read_result, read_all}
 use Rattle.vcode.proofs.Following.{Follows, follows_then, follows_map}
-use Rattle.vcode.specs.Step.{bound, value_of, read, read_argument, read_result, read_all}
 use Rattle.certificates.specs.declared.certificate.Equality.{Equality}
 use Rattle.certificates.specs.declared.certificate.Transfer.{Transfer}
-use Rattle.alloc_check.specs.Placed.{Layout, placed_operand, placed_argument, placed_returned}
-use Rattle.alloc_check.specs.Owners.{Owners, nobody, Agrees, other_than, own_put, own_move, own_kept, own_also, known, owns, operand_held, args_held, all_hold}
-use Rattle.alloc_check.specs.Certified.{certified_params, own_params, is_param, params_placed}
+use Rattle.alloc_check.specs.Prelude.{Layout, placed_operand, placed_argument, placed_returned, Owners, nobody, Agrees, other_than, own_put, own_move, own_kept, own_also, known, owns, operand_held, args_held, all_hold, certified_params, own_params, is_param, params_placed}
 use Rattle.il_ast.proofs.Truth.{neither_holds}
 
 -- ---- tests

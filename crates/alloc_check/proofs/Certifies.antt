@@ -11,13 +11,10 @@ use Rattle.vcode.specs.declared.line.Line.{Line}
 use Rattle.vcode.specs.declared.line.Line.TheVariants.{Tick, Set, Operate, Load, Store, Alloc, Blit, Call}
 use Rattle.vcode.specs.declared.code.Block.{Block}
 use Rattle.vcode.specs.declared.code.Code.{Code}
-use Rattle.vcode.specs.Cost.{is_paid}
-use Rattle.vcode.specs.Regular.{leads_inside, is_alloc, allocs_first, alloc_bytes, area, turns_of, passes_few, weight_of, code_weight, IsRegular}
+use Rattle.vcode.specs.Prelude.{is_paid, leads_inside, is_alloc, allocs_first, alloc_bytes, area, turns_of, passes_few, weight_of, code_weight, IsRegular}
 use Rattle.certificates.specs.declared.certificate.Transfer.{Transfer}
 use Rattle.certificates.specs.declared.certificate.Certificate.{Certificate}
-use Rattle.alloc_check.specs.Placed.{Layout, placed_line}
-use Rattle.alloc_check.specs.Certified.{moves_at, layout_at, transfers, next_point, jump_point, certified_lines, certified_block, certified_blocks, certified_params, placed_by}
-use Rattle.alloc_check.specs.Walk.{moves_before}
+use Rattle.alloc_check.specs.Prelude.{Layout, placed_line, moves_at, layout_at, transfers, next_point, jump_point, certified_lines, certified_block, certified_blocks, certified_params, placed_by, moves_before}
 use Rattle.alloc_check.proofs.Regular.{leads_same, alloc_same, bytes_same, turns_same, few_same}
 use Rattle.alloc_check.proofs.Walks.{lines_on, append_three}
 

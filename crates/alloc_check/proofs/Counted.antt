@@ -1,7 +1,7 @@
 -- Points only grow.
 use Rattle.std.proofs.Common.{◌≡◌, ℕ, ◌≤◌, Bool, true, false, nat_le, nat_eq, Some, None, refl, ap, arith, if◌then◌else◌}
 use Rattle.std.proofs.lemmas.Bool.Decides.{nat_tests}
-use Rattle.alloc_check.specs.Walk.{bounded}
+use Rattle.alloc_check.specs.Prelude.{bounded}
 
 pub beyond : (limit p q : ℕ) → bounded limit p ≡ None → p ≤ q → bounded limit q ≡ None
 beyond limit p q h low =

@@ -3,10 +3,8 @@ use Rattle.std.proofs.Common.{◌≡◌, ℕ, zero, suc, ◌≤◌, Bool, true, 
 use Rattle.std.proofs.lemmas.Bool.Decides.{nat_tests}
 use Rattle.vcode.specs.declared.place.Location.{Location}
 use Rattle.vcode.specs.declared.place.Destination.{Destination}
-use Rattle.vcode.specs.Places.{same_location}
-use Rattle.alloc_check.specs.Owners.{Owners, other_than, own_put}
-use Rattle.alloc_check.specs.Certified.{certified_params, own_params, params_placed}
-use Rattle.alloc_check.specs.Walk.{owner_put}
+use Rattle.vcode.specs.Prelude.{same_location}
+use Rattle.alloc_check.specs.Prelude.{Owners, other_than, own_put, certified_params, own_params, params_placed, owner_put}
 
 abbrev no_places : List Location
 no_places = []

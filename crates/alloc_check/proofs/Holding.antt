@@ -7,14 +7,13 @@ use Rattle.std.proofs.lemmas.Option.{slice_get_past, slice_get_within}
 use Rattle.rv_isa.specs.declared.abi.TheConstants.{LAST_SAVED}
 use Rattle.vcode.specs.declared.place.Location.{Location}
 use Rattle.vcode.specs.declared.place.Location.TheVariants.{Register, Slot}
-use Rattle.vcode.specs.Places.{same_location, is_callers}
+use Rattle.vcode.specs.Prelude.{same_location, is_callers}
 use Rattle.certificates.specs.declared.certificate.Equality.{Equality}
 use Rattle.certificates.specs.declared.certificate.Transfer.{Transfer}
 use Rattle.alloc_check.specs.declared.first.First.{First}
 use Rattle.alloc_check.specs.declared.table.Held.{Held}
 use Rattle.alloc_check.specs.declared.table.OwnerTable.{OwnerTable}
-use Rattle.alloc_check.specs.Owners.{Owners, nobody, other_than, own_put, own_also, own_move, own_kept, known}
-use Rattle.alloc_check.specs.OwnerTable.{item, cell_at, first_at, latest, counts, counted, own_by, own_of, forgets, Forgotten, IsFirst, IsTable, Rewrites}
+use Rattle.alloc_check.specs.Prelude.{Owners, nobody, other_than, own_put, own_also, own_move, own_kept, known, item, cell_at, first_at, latest, counts, counted, own_by, own_of, forgets, Forgotten, IsFirst, IsTable, Rewrites}
 use Rattle.il_ast.proofs.Listed.{get_set_same, get_set_other, get_below}
 
 -- ---- lists

@@ -4,13 +4,7 @@ use Rattle.il_ast.specs.declared.operation.Class.{Class}
 use Rattle.il_ast.specs.declared.value.Value.{Value}
 use Rattle.il_ast.specs.declared.value.Value.TheVariants.{Integer, Pointer, Function}
 use Rattle.il_ast.specs.declared.value.End.TheVariants.{Turns}
-use Rattle.il_ast.specs.Values.{in_place, byte_count}
-use Rattle.il_ast.specs.Memory.{Memory, store, copy, fresh}
-use Rattle.il_ast.specs.Effect.{stored_class}
-use Rattle.il_ast.specs.Run.{one_turn, both, Outcome, Returned, Ended}
-use Rattle.il_ast.specs.Logged.{Over, Event, Does, Calls}
-use Rattle.il_ast.specs.Keeps.{Asked, Given, Fine}
-use Rattle.il_ast.specs.Simulation.{TogetherNext, Together, Lockstep}
+use Rattle.il_ast.specs.Prelude.{in_place, byte_count, Memory, store, copy, fresh, stored_class, one_turn, both, Outcome, Returned, Ended, Over, Event, Does, Calls, Asked, Given, Fine, TogetherNext, Together, Lockstep}
 use Rattle.il_ast.proofs.Simulated.{lockstep_keeps}
 use Rattle.vcode.specs.declared.place.Location.{Location}
 use Rattle.vcode.specs.declared.place.Location.TheVariants.{Slot}
@@ -27,12 +21,8 @@ use Rattle.vcode.specs.declared.line.Jump.{Jump}
 use Rattle.vcode.specs.declared.line.Jump.TheVariants.{Goto, Branch, Return, Halt}
 use Rattle.vcode.specs.declared.code.Block.{Block}
 use Rattle.vcode.specs.declared.code.Code.{Code}
-use Rattle.vcode.specs.Addresses.{distance}
-use Rattle.vcode.specs.Operations.{held, passed, operate, loaded}
-use Rattle.vcode.specs.Places.{Values, unknown, put, assign, kept, virtual, located}
-use Rattle.vcode.specs.Step.{State, bound, begin, value_of, read, read_argument, read_result, read_all, operated, address_of, goes_on, sets, takes, changes, weighs, ticks, receives, resumes, calls, line_step, compared, branches, returns, jump_step, block_step, step_in, step}
-use Rattle.alloc_check.specs.Placed.{placed_operand, placed_address, placed_argument, placed_destination, placed_line, placed_jump, placed_block, in_slots}
-use Rattle.alloc_check.specs.Kept.{RunsAlike}
+use Rattle.vcode.specs.Prelude.{distance, held, passed, operate, loaded, Values, unknown, put, assign, kept, virtual, located, State, bound, begin, value_of, read, read_argument, read_result, read_all, operated, address_of, goes_on, sets, takes, changes, weighs, ticks, receives, resumes, calls, line_step, compared, branches, returns, jump_step, block_step, step_in, step}
+use Rattle.alloc_check.specs.Prelude.{placed_operand, placed_address, placed_argument, placed_destination, placed_line, placed_jump, placed_block, in_slots, RunsAlike}
 use Rattle.std.proofs.lemmas.Option.{slice_get-map}
 
 -- ---- states side by side

@@ -2,8 +2,7 @@
 -- With every register in a slot it also weighs and takes the same.
 use Rattle.std.proofs.Common.{◌≡◌, ℕ, ◌+◌, ◌*◌, ◌-◌, true, List, [], ◌∷◌, map, refl, ◌∙◌, ap, max, sum_by}
 use Rattle.il_ast.specs.declared.operation.Class.{Class}
-use Rattle.il_ast.specs.Cost.{round_16}
-use Rattle.il_ast.specs.Passes.{Keeps}
+use Rattle.il_ast.specs.Prelude.{round_16, Keeps}
 use Rattle.vcode.specs.declared.place.Location.{Location}
 use Rattle.vcode.specs.declared.place.Location.TheVariants.{Slot}
 use Rattle.vcode.specs.declared.place.Destination.{Destination}
@@ -11,13 +10,9 @@ use Rattle.vcode.specs.declared.line.Line.{Line}
 use Rattle.vcode.specs.declared.line.Line.TheVariants.{Tick, Set, Operate, Load, Store, Alloc, Blit, Call}
 use Rattle.vcode.specs.declared.code.Block.{Block}
 use Rattle.vcode.specs.declared.code.Code.{Code}
-use Rattle.vcode.specs.Coded.{classes_in, coded}
-use Rattle.vcode.specs.Outgoing.{args_on_stack, most_in_lines, most_in_blocks, outgoing, frame_bound}
-use Rattle.vcode.specs.Places.{virtual, located}
-use Rattle.vcode.specs.Regular.{area, weight_of, code_weight}
+use Rattle.vcode.specs.Prelude.{classes_in, coded, args_on_stack, most_in_lines, most_in_blocks, outgoing, frame_bound, virtual, located, area, weight_of, code_weight}
 use Rattle.certificates.specs.declared.certificate.Certificate.{Certificate}
-use Rattle.alloc_check.specs.Placed.{Layout, placed_argument, placed_destination, placed_line, placed_block, in_slots}
-use Rattle.alloc_check.specs.Certified.{certified_params, placed_by, params_placed, is_sound}
+use Rattle.alloc_check.specs.Prelude.{Layout, placed_argument, placed_destination, placed_line, placed_block, in_slots, certified_params, placed_by, params_placed, is_sound}
 use Rattle.alloc_check.proofs.Certifies.{weight_same}
 use Rattle.alloc_check.proofs.InSlots.{slots_keep}
 use Rattle.alloc_check.proofs.Regular.{map_length, sum_map, area_same}

@@ -15,17 +15,12 @@ use Rattle.vcode.specs.declared.line.Jump.{Jump}
 use Rattle.vcode.specs.declared.line.Jump.TheVariants.{Goto, Branch, Return, Halt}
 use Rattle.vcode.specs.declared.code.Block.{Block}
 use Rattle.vcode.specs.declared.function.VFunc.{VFunc}
-use Rattle.vcode.specs.Cost.{is_immediate, operand_cost, branch_cost, jump_cost}
-use Rattle.vcode.specs.Named.{operand_keeps, wanted_keeps, line_keeps, jump_keeps, block_keeps, is_place}
+use Rattle.vcode.specs.Prelude.{is_immediate, operand_cost, branch_cost, jump_cost, operand_keeps, wanted_keeps, line_keeps, jump_keeps, block_keeps, is_place}
 use Rattle.certificates.specs.declared.certificate.Equality.{Equality}
 use Rattle.certificates.specs.declared.certificate.Transfer.{Transfer}
 use Rattle.certificates.specs.declared.certificate.Certificate.{Certificate}
 use Rattle.certificates.specs.Listed.{has}
-use Rattle.alloc_check.specs.Placed.{placed_operand, placed_argument, placed_destination, placed_line, placed_jump}
-use Rattle.alloc_check.specs.Certified.{place_by, places_at, layout_at, transfers, next_point, jump_point, certified_lines, certified_block, certified_blocks, placed_by, is_sound}
-use Rattle.alloc_check.specs.Accepted.{exists_in, equalities_exist, names_once, has_lengths, is_placed, is_accepted}
-use Rattle.alloc_check.specs.Laws.{lines_named, blocks_named}
-use Rattle.alloc_check.specs.Walk.{moves_before}
+use Rattle.alloc_check.specs.Prelude.{placed_operand, placed_argument, placed_destination, placed_line, placed_jump, place_by, places_at, layout_at, transfers, next_point, jump_point, certified_lines, certified_block, certified_blocks, placed_by, is_sound, exists_in, equalities_exist, names_once, has_lengths, is_placed, is_accepted, lines_named, blocks_named, moves_before}
 use Rattle.alloc_check.proofs.Accepts.{accepted_parts, parts}
 use Rattle.alloc_check.proofs.Certifies.{line_on}
 

@@ -14,11 +14,8 @@ use Rattle.vcode.specs.declared.line.Jump.{Jump}
 use Rattle.vcode.specs.declared.line.Jump.TheVariants.{Goto, Branch, Return, Halt}
 use Rattle.vcode.specs.declared.code.Block.{Block}
 use Rattle.vcode.specs.declared.code.Code.{Code}
-use Rattle.vcode.specs.Cost.{operand_cost, line_cost, jump_cost, affords, is_paid}
-use Rattle.vcode.specs.Named.{operand_keeps, wanted_keeps, line_keeps, jump_keeps, block_keeps, keeps_places, is_below, is_place, is_near, are_near, are_low, are_distinct}
-use Rattle.vcode.specs.Places.{virtual, located}
-use Rattle.vcode.specs.Regular.{leads_inside, is_alloc, allocs_first, alloc_bytes, area, turns_of, passes_few, IsRegular}
-use Rattle.alloc_check.specs.Placed.{Layout, placed_operand, placed_argument, placed_destination, placed_line, placed_jump, placed_block, in_slots}
+use Rattle.vcode.specs.Prelude.{operand_cost, line_cost, jump_cost, affords, is_paid, operand_keeps, wanted_keeps, line_keeps, jump_keeps, block_keeps, keeps_places, is_below, is_place, is_near, are_near, are_low, are_distinct, virtual, located, leads_inside, is_alloc, allocs_first, alloc_bytes, area, turns_of, passes_few, IsRegular}
+use Rattle.alloc_check.specs.Prelude.{Layout, placed_operand, placed_argument, placed_destination, placed_line, placed_jump, placed_block, in_slots}
 
 -- ---- lists
 

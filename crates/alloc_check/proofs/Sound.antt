@@ -7,13 +7,7 @@ use Rattle.il_ast.specs.declared.operation.Class.{Class}
 use Rattle.il_ast.specs.declared.value.Value.{Value}
 use Rattle.il_ast.specs.declared.value.Value.TheVariants.{Integer, Pointer, Function}
 use Rattle.il_ast.specs.declared.value.End.TheVariants.{Turns}
-use Rattle.il_ast.specs.Values.{byte_count}
-use Rattle.il_ast.specs.Memory.{Memory, store, copy, fresh}
-use Rattle.il_ast.specs.Effect.{stored_class}
-use Rattle.il_ast.specs.Run.{one_turn, both, Outcome, Returned, Ended}
-use Rattle.il_ast.specs.Logged.{Next, On, Over, Event, Does, Calls}
-use Rattle.il_ast.specs.Keeps.{Asked, Given, Fine, AreArgs}
-use Rattle.il_ast.specs.Simulation.{Leads, Matches, MatchesEvent, Simulates, TogetherNext, Together}
+use Rattle.il_ast.specs.Prelude.{byte_count, Memory, store, copy, fresh, stored_class, one_turn, both, Outcome, Returned, Ended, Next, On, Over, Event, Does, Calls, Asked, Given, Fine, AreArgs, Leads, Matches, MatchesEvent, Simulates, TogetherNext, Together}
 use Rattle.il_ast.proofs.Simulated.{simulation_keeps}
 use Rattle.vcode.specs.declared.place.Location.{Location}
 use Rattle.vcode.specs.declared.place.Operand.{Operand}
@@ -29,20 +23,14 @@ use Rattle.vcode.specs.declared.line.Jump.{Jump}
 use Rattle.vcode.specs.declared.line.Jump.TheVariants.{Goto, Branch, Return, Halt}
 use Rattle.vcode.specs.declared.code.Block.{Block}
 use Rattle.vcode.specs.declared.code.Code.{Code}
-use Rattle.vcode.specs.Addresses.{distance}
-use Rattle.vcode.specs.Operations.{held, operate, loaded}
-use Rattle.vcode.specs.Places.{Values, unknown, put, assign, kept, virtual, located}
-use Rattle.vcode.specs.Step.{State, bound, begin, value_of, read, read_result, read_all, operated, address_of, goes_on, sets, takes, changes, weighs, ticks, receives, resumes, calls, line_step, enters, compared, branches, returns, jump_step, step}
+use Rattle.vcode.specs.Prelude.{distance, held, operate, loaded, Values, unknown, put, assign, kept, virtual, located, State, bound, begin, value_of, read, read_result, read_all, operated, address_of, goes_on, sets, takes, changes, weighs, ticks, receives, resumes, calls, line_step, enters, compared, branches, returns, jump_step, step}
 use Rattle.vcode.proofs.Following.{Follows, follows_then}
 use Rattle.vcode.proofs.Lists.{head_at, tail_at, nothing_at, same_some}
 use Rattle.vcode.proofs.Stepping.{step_line, step_jump, step_nowhere}
 use Rattle.certificates.specs.declared.certificate.Equality.{Equality}
 use Rattle.certificates.specs.declared.certificate.Transfer.{Transfer}
 use Rattle.certificates.specs.declared.certificate.Certificate.{Certificate}
-use Rattle.alloc_check.specs.Placed.{Layout, placed_operand, placed_address, placed_argument, placed_destination, placed_line, placed_comparison, placed_jump, placed_returned}
-use Rattle.alloc_check.specs.Kept.{RunsAlike}
-use Rattle.alloc_check.specs.Owners.{Owners, nobody, Agrees, own_put, own_move, own_kept, moved, known, owns, operand_held, args_held, all_hold, where_held, received, after_line}
-use Rattle.alloc_check.specs.Certified.{moves_at, starts_at, layout_at, transfers, certified_lines, jump_point, certified_block, certified_blocks, certified_params, placed_by, jump_right, lines_right, blocks_right, own_params, is_param, entry_right, params_placed, is_sound}
+use Rattle.alloc_check.specs.Prelude.{Layout, placed_operand, placed_address, placed_argument, placed_destination, placed_line, placed_comparison, placed_jump, placed_returned, RunsAlike, Owners, nobody, Agrees, own_put, own_move, own_kept, moved, known, owns, operand_held, args_held, all_hold, where_held, received, after_line, moves_at, starts_at, layout_at, transfers, certified_lines, jump_point, certified_block, certified_blocks, certified_params, placed_by, jump_right, lines_right, blocks_right, own_params, is_param, entry_right, params_placed, is_sound}
 use Rattle.alloc_check.proofs.Agreeing.{operand_follows, read_follows, args_follow, put_agrees, move_agrees, kept_agrees, AllFollow, known_agrees, all_follow, nobody_agrees, params_agree, other_unknown, owned_follows, result_follows}
 
 -- ---- a state with the next line and the values of the other code

@@ -18,8 +18,7 @@ use Rattle.vcode.specs.declared.line.Jump.TheVariants.{Goto, Branch, Return, Hal
 use Rattle.vcode.specs.declared.code.Block.{Block}
 use Rattle.vcode.specs.declared.code.Code.{Code}
 use Rattle.vcode.specs.declared.function.VFunc.{VFunc}
-use Rattle.vcode.specs.Named.{operand_keeps, line_keeps, jump_keeps, block_keeps, keeps_places, is_below}
-use Rattle.vcode.specs.Places.{same_location}
+use Rattle.vcode.specs.Prelude.{operand_keeps, line_keeps, jump_keeps, block_keeps, keeps_places, is_below, same_location}
 use Rattle.vcode.proofs.Lists.{one_more}
 use Rattle.certificates.specs.declared.certificate.Equality.{Equality}
 use Rattle.certificates.specs.Listed.{place_in, has, with_place, with_places, with_written, point_places, live_places, listed_params, listed_starts, no_moves, slots, slotted}
@@ -31,9 +30,7 @@ use Rattle.cfg_live.specs.Points.{starts_after, starts}
 use Rattle.cfg_live.specs.Paths.{writes, leads}
 use Rattle.cfg_live.specs.Rows.{holds, AreLive}
 use Rattle.cfg_live.proofs.Counting.{block_count, uses_count}
-use Rattle.alloc_check.specs.Certified.{place_by, starts_at, places_at, next_point, jump_point}
-use Rattle.alloc_check.specs.Accepted.{end_point, names_once, has_lengths}
-use Rattle.alloc_check.specs.Slotted.{is_empty, is_own, own_at, lines_own, blocks_own, start_wanted, targets_wanted, writes_to, LinesWant, names, BlocksWant, IsSlotted}
+use Rattle.alloc_check.specs.Prelude.{place_by, starts_at, places_at, next_point, jump_point, end_point, names_once, has_lengths, is_empty, is_own, own_at, lines_own, blocks_own, start_wanted, targets_wanted, writes_to, LinesWant, names, BlocksWant, IsSlotted}
 use Rattle.alloc_check.proofs.Certifies.{from_true}
 use Rattle.alloc_check.proofs.Regular.{map_length}
 use Rattle.alloc_check.proofs.Agreeing.{same_is}

@@ -5,14 +5,10 @@ use Rattle.std.specs.Option.{option_map_or}
 use Rattle.std.proofs.lemmas.Bool.Decides.{nat_tests}
 use Rattle.std.proofs.lemmas.Bool.{and_parts}
 use Rattle.std.proofs.lemmas.List.Folds.{list_all-append}
-use Rattle.alloc_check.specs.Owners.{Owners, own_also, known, stand_also, standing, all_hold, owns}
-use Rattle.alloc_check.specs.Certified.{is_param}
-use Rattle.alloc_check.specs.Walk.{entry_holds}
+use Rattle.alloc_check.specs.Prelude.{Owners, own_also, known, stand_also, standing, all_hold, owns, is_param, entry_holds, exists_in}
 use Rattle.vcode.specs.declared.place.Destination.{Destination}
 use Rattle.vcode.specs.declared.place.Location.{Location}
-use Rattle.vcode.specs.Named.{is_place}
-use Rattle.vcode.specs.Places.{same_location}
-use Rattle.alloc_check.specs.Accepted.{exists_in}
+use Rattle.vcode.specs.Prelude.{is_place, same_location}
 use Rattle.certificates.specs.declared.certificate.Equality.{Equality}
 
 pub both_hold : (own : Owners) (xs ys : List Equality) → all_hold own (xs ++ ys) ≡ (all_hold own xs && all_hold own ys)

@@ -9,18 +9,12 @@ use Rattle.vcode.specs.declared.place.Location.{Location}
 use Rattle.vcode.specs.declared.place.Location.TheVariants.{Register, Slot}
 use Rattle.vcode.specs.declared.line.Line.{Line}
 use Rattle.vcode.specs.declared.line.Line.TheVariants.{Tick, Set, Operate, Load, Store, Alloc, Blit, Call}
-use Rattle.vcode.specs.Named.{is_place}
-use Rattle.vcode.specs.Places.{same_location, is_callers}
+use Rattle.vcode.specs.Prelude.{is_place, same_location, is_callers}
 use Rattle.cfg_live.specs.Registers.{line_writes}
 use Rattle.certificates.specs.declared.certificate.Equality.{Equality}
 use Rattle.certificates.specs.declared.certificate.Transfer.{Transfer}
 use Rattle.certificates.specs.declared.certificate.Certificate.{Certificate}
-use Rattle.alloc_check.specs.Placed.{Layout}
-use Rattle.alloc_check.specs.Owners.{Owners, nobody, nowhere, other_than, own_put, own_move, own_also, own_kept, known, stand_also, standing, owns, operand_held, args_held, all_hold, is_at, are_apart, where_held}
-use Rattle.alloc_check.specs.Certified.{moves_at, begins_at, layout_at, next_point, jump_point}
-use Rattle.alloc_check.specs.Accepted.{exists_in}
-use Rattle.alloc_check.specs.OwnerTable.{in_table}
-use Rattle.alloc_check.specs.Walk.{put_in, moves_before, moved_in, known_in, after_reads, line_in, point_in, lines_in, place_stays, register_stays, moves_stay, starts_stay, write_stays, line_stays, lines_stay, machine_stays, block_stays}
+use Rattle.alloc_check.specs.Prelude.{Layout, Owners, nobody, nowhere, other_than, own_put, own_move, own_also, own_kept, known, stand_also, standing, owns, operand_held, args_held, all_hold, is_at, are_apart, where_held, moves_at, begins_at, layout_at, next_point, jump_point, exists_in, in_table, put_in, moves_before, moved_in, known_in, after_reads, line_in, point_in, lines_in, place_stays, register_stays, moves_stay, starts_stay, write_stays, line_stays, lines_stay, machine_stays, block_stays}
 use Rattle.alloc_check.proofs.Agreeing.{same_is}
 use Rattle.il_ast.proofs.Truth.{same_tests}
 

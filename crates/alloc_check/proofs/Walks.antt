@@ -13,16 +13,11 @@ use Rattle.vcode.specs.declared.line.Jump.{Jump}
 use Rattle.vcode.specs.declared.line.Jump.TheVariants.{Goto, Branch, Return, Halt}
 use Rattle.vcode.specs.declared.code.Block.{Block}
 use Rattle.vcode.specs.declared.code.Code.{Code}
-use Rattle.vcode.specs.Named.{operand_keeps, wanted_keeps, line_keeps, jump_keeps, block_keeps, keeps_places, is_below, is_place}
+use Rattle.vcode.specs.Prelude.{operand_keeps, wanted_keeps, line_keeps, jump_keeps, block_keeps, keeps_places, is_below, is_place}
 use Rattle.certificates.specs.declared.certificate.Equality.{Equality}
 use Rattle.certificates.specs.declared.certificate.Transfer.{Transfer}
 use Rattle.certificates.specs.declared.certificate.Certificate.{Certificate}
-use Rattle.alloc_check.specs.Placed.{Layout, placed_operand, placed_argument, placed_destination, placed_line, placed_jump}
-use Rattle.alloc_check.specs.Owners.{Owners, nobody, own_put, own_move, own_kept, own_also, moved, known, operand_held, args_held, all_hold, are_apart, where_held, received, after_line}
-use Rattle.alloc_check.specs.Certified.{moves_at, begins_at, starts_at, layout_at, transfers, next_point, jump_point, certified_lines, certified_block, certified_blocks, certified_params, placed_by, jump_right, lines_right, blocks_right, params_placed, entry_right, is_sound}
-use Rattle.alloc_check.specs.Accepted.{exists_in, equalities_exist}
-use Rattle.alloc_check.specs.OwnerTable.{in_table}
-use Rattle.alloc_check.specs.Walk.{put_in, moved_in, known_in, after_reads, receives_in, line_in, lines_in, block_stays, targets_in, jump_in, block_in, blocks_in, entry_in, sound_in, certified_line}
+use Rattle.alloc_check.specs.Prelude.{Layout, placed_operand, placed_argument, placed_destination, placed_line, placed_jump, Owners, nobody, own_put, own_move, own_kept, own_also, moved, known, operand_held, args_held, all_hold, are_apart, where_held, received, after_line, moves_at, begins_at, starts_at, layout_at, transfers, next_point, jump_point, certified_lines, certified_block, certified_blocks, certified_params, placed_by, jump_right, lines_right, blocks_right, params_placed, entry_right, is_sound, exists_in, equalities_exist, in_table, put_in, moved_in, known_in, after_reads, receives_in, line_in, lines_in, block_stays, targets_in, jump_in, block_in, blocks_in, entry_in, sound_in, certified_line}
 use Rattle.alloc_check.proofs.Starting.{both_hold}
 use Rattle.alloc_check.proofs.Untouched.{stays_is}
 use Rattle.vcode.proofs.Lists.{item_next}

@@ -4,9 +4,7 @@ use Rattle.std.specs.List.{list_all}
 use Rattle.vcode.specs.declared.place.Location.{Location}
 use Rattle.vcode.specs.declared.code.Code.{Code}
 use Rattle.vcode.specs.declared.function.VFunc.{VFunc}
-use Rattle.vcode.specs.Cost.{is_paid}
-use Rattle.vcode.specs.Named.{keeps_places, is_place, are_near, are_distinct}
-use Rattle.vcode.specs.Places.{located}
+use Rattle.vcode.specs.Prelude.{is_paid, keeps_places, is_place, are_near, are_distinct, located}
 use Rattle.certificates.specs.declared.certificate.Equality.{Equality}
 use Rattle.certificates.specs.declared.certificate.Certificate.{Certificate}
 use Rattle.certificates.specs.Listed.{has}

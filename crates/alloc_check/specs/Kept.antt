@@ -1,11 +1,10 @@
 -- How code over registers and slots runs: as the virtual code that it was made of.
 use Rattle.std.specs.Prelude.{ℕ, List, map}
 use Rattle.il_ast.specs.declared.value.Value.{Value}
-use Rattle.il_ast.specs.Keeps.{KeepsCode}
+use Rattle.il_ast.specs.Prelude.{KeepsCode}
 use Rattle.vcode.specs.declared.place.Location.{Location}
 use Rattle.vcode.specs.declared.code.Code.{Code}
-use Rattle.vcode.specs.Places.{virtual, located}
-use Rattle.vcode.specs.Step.{begin, step}
+use Rattle.vcode.specs.Prelude.{virtual, located, begin, step}
 
 -- whatever the global names mean: where the virtual code runs as an outcome that is not undefined,
 -- so does the other, with the same calls

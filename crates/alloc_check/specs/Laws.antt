@@ -12,11 +12,8 @@ use Rattle.vcode.specs.declared.line.Jump.{Jump}
 use Rattle.vcode.specs.declared.code.Block.{Block}
 use Rattle.vcode.specs.declared.code.Code.{Code}
 use Rattle.certificates.specs.declared.certificate.Certificate.{Certificate}
-use Rattle.il_ast.specs.Passes.{Keeps}
-use Rattle.vcode.specs.Coded.{coded}
-use Rattle.vcode.specs.Cost.{line_cost, jump_cost}
-use Rattle.vcode.specs.Named.{line_keeps, jump_keeps}
-use Rattle.vcode.specs.Places.{virtual, located}
+use Rattle.il_ast.specs.Prelude.{Keeps}
+use Rattle.vcode.specs.Prelude.{coded, line_cost, jump_cost, line_keeps, jump_keeps, virtual, located}
 use Rattle.bitset.specs.Bits.{Bits}
 use Rattle.cfg_live.specs.Points.{graph_of}
 use Rattle.cfg_live.specs.Rows.{AreLive}

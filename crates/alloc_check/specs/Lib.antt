@@ -7,3 +7,4 @@ pub mod OwnerTable
 pub mod Walk
 pub mod Slotted
 pub mod Laws
+pub mod Prelude

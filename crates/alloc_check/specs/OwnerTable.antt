@@ -4,7 +4,7 @@ use Rattle.std.specs.Option.{option_map_or}
 use Rattle.rv_isa.specs.declared.abi.TheConstants.{LAST_SAVED}
 use Rattle.vcode.specs.declared.place.Location.{Location}
 use Rattle.vcode.specs.declared.place.Location.TheVariants.{Register, Slot}
-use Rattle.vcode.specs.Places.{same_location, is_callers}
+use Rattle.vcode.specs.Prelude.{same_location, is_callers}
 use Rattle.certificates.specs.declared.certificate.Equality.{Equality}
 use Rattle.alloc_check.specs.declared.first.First.{First}
 use Rattle.alloc_check.specs.declared.table.Held.{Held}

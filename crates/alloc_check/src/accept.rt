@@ -1,12 +1,9 @@
 //! Which certificates are taken for code.
 ghost use Rattle.std.specs.Prelude.{◌≡◌, ◌≤◌, ◌<◌, ◌-◌, ◌^◌, ◌&&◌, true, false, IfOk, IfErr};
 ghost use Rattle.alloc_check.specs.declared.accept.Refused.TheVariants.{No};
-ghost use Rattle.alloc_check.specs.Certified.{placed_by};
-ghost use Rattle.alloc_check.specs.Accepted.{end_point, is_whole, is_accepted};
-ghost use Rattle.il_ast.specs.Passes.{Keeps};
-ghost use Rattle.vcode.specs.Coded.{virtual_code, location_code};
-ghost use Rattle.vcode.specs.Named.{keeps_places, is_place};
-ghost use Rattle.alloc_check.specs.Walk.{sound_in};
+ghost use Rattle.alloc_check.specs.Prelude.{placed_by, end_point, is_whole, is_accepted, sound_in};
+ghost use Rattle.il_ast.specs.Prelude.{Keeps};
+ghost use Rattle.vcode.specs.Prelude.{virtual_code, location_code, keeps_places, is_place};
 
 use crate::certified::certified;
 use crate::check::is_sound;

@@ -1,8 +1,6 @@
 //! The code that a certificate makes.
 ghost use Rattle.std.specs.Prelude.{◌≡◌, ◌++◌, ◌<◌, ◌^◌, OnOk, IfOk};
-ghost use Rattle.alloc_check.specs.Certified.{jump_point, transfers, certified_lines, certified_block, certified_blocks, certified_params, placed_by};
-ghost use Rattle.alloc_check.specs.Accepted.{end_point};
-ghost use Rattle.alloc_check.specs.Walk.{moves_before, certified_line};
+ghost use Rattle.alloc_check.specs.Prelude.{jump_point, transfers, certified_lines, certified_block, certified_blocks, certified_params, placed_by, end_point, moves_before, certified_line};
 
 use crate::placing::{jump, line};
 use crate::says::{By, moves_at, moves_before, places_at};

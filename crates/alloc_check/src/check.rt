@@ -1,11 +1,7 @@
 //! Whether a certificate is sound: each line finds what it reads, and each jump what its targets ask for.
 ghost use Rattle.std.specs.Prelude.{◌≡◌, ◌<◌, ◌+◌, ◌^◌, true, IfOk};
 ghost use Rattle.std.specs.List.{list_all};
-ghost use Rattle.alloc_check.specs.Owners.{owns, own_kept, operand_held, args_held, all_hold, where_held};
-ghost use Rattle.alloc_check.specs.Certified.{next_point, jump_point, place_by};
-ghost use Rattle.alloc_check.specs.Accepted.{end_point, exists_in};
-ghost use Rattle.alloc_check.specs.OwnerTable.{own_of, IsFirst, IsTable};
-ghost use Rattle.alloc_check.specs.Walk.{put_in, moved_in, known_in, block_stays, targets_in, receives_in, makes_in, line_in, point_in, lines_in, jump_in, block_in, blocks_in, sound_in};
+ghost use Rattle.alloc_check.specs.Prelude.{owns, own_kept, operand_held, args_held, all_hold, where_held, next_point, jump_point, place_by, end_point, exists_in, own_of, IsFirst, IsTable, put_in, moved_in, known_in, block_stays, targets_in, receives_in, makes_in, line_in, point_in, lines_in, jump_in, block_in, blocks_in, sound_in};
 
 use crate::entry::is_entered_right;
 use crate::says::{begins_at, moves_at, place_by, places_at};

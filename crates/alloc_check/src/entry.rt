@@ -1,8 +1,6 @@
 //! Whether a certificate finds on entry what the first block asks for: which parameter each place holds.
 ghost use Rattle.std.specs.Prelude.{◌≡◌, ◌||◌, not};
-ghost use Rattle.alloc_check.specs.Owners.{nobody, owns};
-ghost use Rattle.alloc_check.specs.Certified.{starts_at, own_params, is_param, params_placed};
-ghost use Rattle.alloc_check.specs.Walk.{entry_holds, entry_in, owner_put};
+ghost use Rattle.alloc_check.specs.Prelude.{nobody, owns, starts_at, own_params, is_param, params_placed, entry_holds, entry_in, owner_put};
 
 use crate::says::{begins_at, is_same};
 use certificates::{Certificate, Equality};

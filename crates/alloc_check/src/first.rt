@@ -3,10 +3,8 @@ ghost use Rattle.std.specs.Prelude.{◌≡◌, ◌<◌, ◌+◌, ℕ, true, leng
 ghost use Rattle.std.specs.List.{list_all};
 ghost use Rattle.rv_isa.specs.declared.abi.TheConstants.{LAST_SAVED};
 ghost use Rattle.vcode.specs.declared.place.Location.{Location};
-ghost use Rattle.vcode.specs.Places.{same_location};
-ghost use Rattle.alloc_check.specs.Accepted.{exists_in};
-ghost use Rattle.alloc_check.specs.Owners.{nobody, own_also, known, nowhere, stand_also, standing};
-ghost use Rattle.alloc_check.specs.OwnerTable.{item, in_table, first_at, stands_at, HasRoom, IsFirst};
+ghost use Rattle.vcode.specs.Prelude.{same_location};
+ghost use Rattle.alloc_check.specs.Prelude.{exists_in, nobody, own_also, known, nowhere, stand_also, standing, item, in_table, first_at, stands_at, HasRoom, IsFirst};
 
 use certificates::Equality;
 use rv_isa::abi;

@@ -1,10 +1,8 @@
 //! Whether location code may be a function's: which places it names, and whether its ticks pay for it.
 ghost use Rattle.std.specs.Prelude.{◌≡◌, ◌≤◌, ◌+◌, ◌^◌, IfSome, ◌<◌};
 ghost use Rattle.std.specs.List.{list_all, list_any};
-ghost use Rattle.vcode.specs.Cost.{is_paid};
-ghost use Rattle.vcode.specs.Named.{operand_keeps, wanted_keeps, made_keeps, line_keeps, jump_keeps, block_keeps, keeps_places, is_place, is_near, are_near, are_distinct};
-ghost use Rattle.vcode.specs.Places.{located, same_location};
-ghost use Rattle.alloc_check.specs.Accepted.{is_placed, exists_in, equalities_exist};
+ghost use Rattle.vcode.specs.Prelude.{is_paid, operand_keeps, wanted_keeps, made_keeps, line_keeps, jump_keeps, block_keeps, keeps_places, is_place, is_near, are_near, are_distinct, located, same_location};
+ghost use Rattle.alloc_check.specs.Prelude.{is_placed, exists_in, equalities_exist};
 
 use crate::says::is_same;
 use certificates::Equality;

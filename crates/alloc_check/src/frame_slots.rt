@@ -1,6 +1,6 @@
 //! How many slots a frame needs.
 ghost use Rattle.std.specs.Prelude.{◌≡◌, ◌≤◌, ◌<◌, ◌-◌, true, false};
-ghost use Rattle.vcode.specs.Named.{keeps_places, is_place};
+ghost use Rattle.vcode.specs.Prelude.{keeps_places, is_place};
 
 use crate::fits::names_places;
 use vcode::{Code, Location};

@@ -1,5 +1,5 @@
 //! What is proved of certificates, each as the contract of a function that does nothing.
-ghost use Rattle.alloc_check.specs.Laws.{EachHasOnePlace, OneMoveIsPaid, SoundKeeps, SlotsAreAccepted, SpillAllIsAccepted};
+ghost use Rattle.alloc_check.specs.Prelude.{EachHasOnePlace, OneMoveIsPaid, SoundKeeps, SlotsAreAccepted, SpillAllIsAccepted};
 
 /// The code that a sound certificate makes, with its places and its moves, keeps the virtual code: with the same parameters and result, and with the same runs.
 pub fn sound_certificates_keep()

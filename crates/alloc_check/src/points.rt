@@ -1,8 +1,6 @@
 //! Points of virtual code: lines but for ticks, and jumps, from 0 in the order of the text.
 ghost use Rattle.std.specs.Prelude.{◌≡◌, ◌<◌, ◌≤◌, ◌+◌, ◌^◌, true, nat_eq};
-ghost use Rattle.alloc_check.specs.Certified.{next_point, jump_point};
-ghost use Rattle.alloc_check.specs.Accepted.{end_point};
-ghost use Rattle.alloc_check.specs.Walk.{bounded};
+ghost use Rattle.alloc_check.specs.Prelude.{next_point, jump_point, end_point, bounded};
 
 use vcode::{Block, Line};
 

@@ -1,8 +1,7 @@
 //! What a certificate says of a point or a block; nothing where it is too short.
 ghost use Rattle.std.specs.Prelude.{◌≡◌};
-ghost use Rattle.vcode.specs.Places.{same_location};
-ghost use Rattle.alloc_check.specs.Certified.{moves_at, begins_at, places_at, place_by};
-ghost use Rattle.alloc_check.specs.Walk.{moves_before};
+ghost use Rattle.vcode.specs.Prelude.{same_location};
+ghost use Rattle.alloc_check.specs.Prelude.{moves_at, begins_at, places_at, place_by, moves_before};
 
 use crate::placing::Placing;
 use certificates::{Certificate, Equality, Transfer};

@@ -1,11 +1,9 @@
 //! Every register in a slot of its own.
 ghost use Rattle.std.specs.Prelude.{◌≡◌, ◌++◌, map, drop, OnOk, IfOk};
 ghost use Rattle.vcode.specs.declared.place.Location.TheVariants.{Slot};
-ghost use Rattle.alloc_check.specs.Placed.{placed_line, placed_block, placed_destination, in_slots};
-ghost use Rattle.il_ast.specs.Passes.{Keeps};
-ghost use Rattle.vcode.specs.Coded.{virtual_code, location_code};
-ghost use Rattle.vcode.specs.Outgoing.{frame_bound};
-ghost use Rattle.vcode.specs.Regular.{code_weight};
+ghost use Rattle.alloc_check.specs.Prelude.{placed_line, placed_block, placed_destination, in_slots};
+ghost use Rattle.il_ast.specs.Prelude.{Keeps};
+ghost use Rattle.vcode.specs.Prelude.{virtual_code, location_code, frame_bound, code_weight};
 
 use crate::placing::{SlotForEach, destination, jump, line};
 use il_ast::Seq;

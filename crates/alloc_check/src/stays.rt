@@ -1,9 +1,6 @@
 //! Whether what holds at the start of every block holds at the end of one too: only what the block may have changed is looked at.
 ghost use Rattle.std.specs.Prelude.{◌≡◌, ◌<◌, ◌+◌, ◌^◌, ◌&&◌};
-ghost use Rattle.alloc_check.specs.Owners.{nobody, known, nowhere, standing, owns, is_at, are_apart};
-ghost use Rattle.alloc_check.specs.Certified.{jump_point, place_by};
-ghost use Rattle.alloc_check.specs.OwnerTable.{own_of, IsFirst};
-ghost use Rattle.alloc_check.specs.Walk.{place_stays, register_stays, moves_stay, starts_stay, write_stays, line_stays, lines_stay, machine_stays, block_stays, moves_before};
+ghost use Rattle.alloc_check.specs.Prelude.{nobody, known, nowhere, standing, owns, is_at, are_apart, jump_point, place_by, own_of, IsFirst, place_stays, register_stays, moves_stay, starts_stay, write_stays, line_stays, lines_stay, machine_stays, block_stays, moves_before};
 
 use crate::first::MACHINE;
 use crate::says::{begins_at, is_same, moves_at, moves_before, place_by, places_at};

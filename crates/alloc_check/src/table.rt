@@ -3,11 +3,8 @@ ghost use Rattle.std.specs.Prelude.{◌≡◌, ◌<◌, ◌≤◌, ◌+◌, ◌^
 ghost use Rattle.std.specs.List.{list_all};
 ghost use Rattle.rv_isa.specs.declared.abi.TheConstants.{LAST_SAVED};
 ghost use Rattle.vcode.specs.declared.place.Location.TheVariants.{Register};
-ghost use Rattle.vcode.specs.Places.{is_callers};
-ghost use Rattle.alloc_check.specs.Owners.{nobody, known, nowhere, standing, own_kept, where_held};
-ghost use Rattle.alloc_check.specs.Accepted.{exists_in};
-ghost use Rattle.alloc_check.specs.OwnerTable.{item, cell_at, first_at, latest, counts, own_of, in_table, forgets, Forgotten, IsFirst, IsTable, Rewrites};
-ghost use Rattle.alloc_check.specs.Walk.{put_in, move_in, also_in};
+ghost use Rattle.vcode.specs.Prelude.{is_callers};
+ghost use Rattle.alloc_check.specs.Prelude.{nobody, known, nowhere, standing, own_kept, where_held, exists_in, item, cell_at, first_at, latest, counts, own_of, in_table, forgets, Forgotten, IsFirst, IsTable, Rewrites, put_in, move_in, also_in};
 
 use crate::first::{First, MACHINE, empty, has_cell, item};
 use certificates::{Equality, Transfer};

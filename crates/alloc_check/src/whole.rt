@@ -2,7 +2,7 @@
 ghost use Rattle.std.specs.Prelude.{◌≡◌, ◌<◌, ◌^◌, true};
 ghost use Rattle.std.specs.List.{list_all};
 ghost use Rattle.certificates.specs.Listed.{has};
-ghost use Rattle.alloc_check.specs.Accepted.{end_point, names_once, has_lengths, is_whole};
+ghost use Rattle.alloc_check.specs.Prelude.{end_point, names_once, has_lengths, is_whole};
 
 use crate::fits::{all_exist, equalities_exist};
 use crate::points::are_points;

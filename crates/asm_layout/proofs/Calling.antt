@@ -3,12 +3,7 @@ use Rattle.std.proofs.Common.{◌≡◌, ℕ, ◌+◌, ◌-◌, ◌*◌, ◌%◌
 use Rattle.std.proofs.lemmas.Int.{ints}
 use Rattle.std.proofs.lemmas.Bool.{and_parts}
 use Rattle.std.proofs.lemmas.Bool.Decides.{nat_tests}
-use Rattle.rv_isa.specs.Arithmetic.{moved}
-use Rattle.rv_isa.specs.Formats.{signed}
-use Rattle.rv_isa.specs.Labelled.{Ground, Fixed, InstrAt, Calls}
-use Rattle.rv_isa.specs.Relocations.{half_distance, jump_part, reaches}
-use Rattle.rv_isa.specs.State.{State, written}
-use Rattle.rv_isa.specs.Step.{step, jump}
+use Rattle.rv_isa.specs.Prelude.{moved, signed, Ground, Fixed, InstrAt, Calls, half_distance, jump_part, reaches, State, written, step, jump}
 use Rattle.rv_isa.specs.declared.instruction.Instr.TheVariants.{Jal}
 use Rattle.rv_isa.specs.declared.ranges.Register.{Register}
 use Rattle.rv_isa.specs.declared.relocation.Filling.TheVariants.{Call}

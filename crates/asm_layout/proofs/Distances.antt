@@ -1,7 +1,7 @@
 -- No two places are farther apart than in the longest form, so that each form which is chosen fits.
 use Rattle.std.proofs.Common.{◌≡◌, ◌≢◌, ℕ, zero, suc, ◌+◌, ◌-◌, ◌^◌, ◌<◌, ◌≤◌, Bool, true, false, List, [], ◌∷◌, length, refl, sym, ◌∙◌, ap, inl, inr, arith, ◌⊎◌, ◌&&◌, nat_le, nat_eq, slice_index, slice_set, if◌then◌else◌, length-set, get_or-set_same, get_or-set_other}
 use Rattle.std.proofs.lemmas.Bool.Decides.{nat_tests}
-use Rattle.rv_isa.specs.Labels.{longest, longest_size}
+use Rattle.rv_isa.specs.Prelude.{longest, longest_size}
 use Rattle.rv_isa.specs.declared.labelled.Item.{Item}
 use Rattle.rv_isa.specs.declared.labelled.Item.TheVariants.{Plain, Label, Branch, Goto, Call, Relocated}
 use Rattle.asm_layout.specs.declared.reach.Reach.{Reach}

@@ -3,12 +3,7 @@ use Rattle.std.proofs.Common.{◌≡◌, ℕ, ◌+◌, ◌%◌, ◌^◌, ◌<◌
 use Rattle.std.specs.List.{list_all}
 use Rattle.std.proofs.lemmas.Bool.{and_parts, and_from}
 use Rattle.std.proofs.lemmas.Int.{ints}
-use Rattle.rv_isa.specs.Arithmetic.{moved, upper_value}
-use Rattle.rv_isa.specs.Labels.{LabelledItems, IsLabelled, longest_size, is_label, times_labelled, has_label_below}
-use Rattle.rv_isa.specs.Labelled.{Ground, Fixed, InstrAt, Calls, Stands, Stand}
-use Rattle.rv_isa.specs.Relocations.{upper_part, lower_part, of_global}
-use Rattle.rv_isa.specs.State.{State, register, put}
-use Rattle.rv_isa.specs.Step.{step, even_below}
+use Rattle.rv_isa.specs.Prelude.{moved, upper_value, LabelledItems, IsLabelled, longest_size, is_label, times_labelled, has_label_below, Ground, Fixed, InstrAt, Calls, Stands, Stand, upper_part, lower_part, of_global, State, register, put, step, even_below}
 use Rattle.rv_isa.specs.declared.instruction.Instr.TheVariants.{Lui, Jalr}
 use Rattle.rv_isa.specs.declared.labelled.Item.{Item}
 use Rattle.rv_isa.specs.declared.labelled.Item.TheVariants.{Plain, Label, Branch, Goto, Call, Relocated}

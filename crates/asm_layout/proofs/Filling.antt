@@ -3,11 +3,7 @@ use Rattle.std.proofs.Common.{◌≡◌, ℕ, ◌+◌, ◌*◌, ◌≤◌, true,
 use Rattle.std.proofs.lemmas.Bool.{and_parts, and_from, leb-true, le-leb}
 use Rattle.std.proofs.lemmas.List.{length-set, set-append_left}
 use Rattle.std.proofs.Math.Seq.{set-append_seam}
-use Rattle.rv_isa.specs.Encoding.{word}
-use Rattle.rv_isa.specs.Relocations.{named, filled_in, reaches}
-use Rattle.rv_isa.specs.Labels.{longest}
-use Rattle.rv_isa.specs.Laid.{fill, filled, all_reach}
-use Rattle.rv_isa.specs.Words.{lie_between}
+use Rattle.rv_isa.specs.Prelude.{word, named, filled_in, reaches, longest, fill, filled, all_reach, lie_between}
 use Rattle.rv_isa.specs.declared.relocation.Filling.{Filling}
 use Rattle.rv_isa.specs.declared.relocation.Filling.TheVariants.{Part, Call as CallOf}
 use Rattle.rv_isa.specs.declared.code.Hole.{Hole}

@@ -4,13 +4,7 @@ use Rattle.std.proofs.lemmas.Int.{ints}
 use Rattle.std.proofs.lemmas.Bool.Decides.{nat_tests}
 use Rattle.std.proofs.lemmas.Option.{slice_get_within}
 use Rattle.bits.specs.Words.{upper_field, lower_field, sign_extended, Fits12}
-use Rattle.rv_isa.specs.State.{State, register, updated, put}
-use Rattle.rv_isa.specs.Arithmetic.{taken, moved, upper_value}
-use Rattle.rv_isa.specs.Encoding.{word}
-use Rattle.rv_isa.specs.Decoding.{instruction_of}
-use Rattle.rv_isa.specs.Step.{step, jump, branch, even_below}
-use Rattle.rv_isa.specs.Labelled.{Ground, Fixed, InstrAt, Moves}
-use Rattle.rv_isa.specs.Laid.{WordsStand}
+use Rattle.rv_isa.specs.Prelude.{State, register, updated, put, taken, moved, upper_value, word, instruction_of, step, jump, branch, even_below, Ground, Fixed, InstrAt, Moves, WordsStand}
 use Rattle.rv_isa.specs.declared.ranges.Register.{Register}
 use Rattle.rv_isa.specs.declared.ranges.Immediate.{Immediate}
 use Rattle.rv_isa.specs.declared.ranges.BranchOffset.{BranchOffset}

@@ -4,10 +4,7 @@ use Rattle.std.specs.List.{list_all}
 use Rattle.std.proofs.lemmas.Bool.{and_parts}
 use Rattle.std.proofs.lemmas.Bool.Decides.{nat_tests}
 use Rattle.std.proofs.lemmas.Option.{slice_get_within, slice_get-get_or, get_or_from_slice_get}
-use Rattle.rv_isa.specs.Relocations.{relocated, jump_part, reaches}
-use Rattle.rv_isa.specs.Labels.{longest, is_label, times_labelled, has_label_below}
-use Rattle.rv_isa.specs.Labelled.{Ground, Stands, Stand}
-use Rattle.rv_isa.specs.Laid.{WordsStand}
+use Rattle.rv_isa.specs.Prelude.{relocated, jump_part, reaches, longest, is_label, times_labelled, has_label_below, Ground, Stands, Stand, WordsStand}
 use Rattle.rv_isa.specs.declared.ranges.Register.{Register}
 use Rattle.rv_isa.specs.declared.instruction.BranchOp.{BranchOp}
 use Rattle.rv_isa.specs.declared.instruction.Instr.TheVariants.{Jal}

@@ -1,7 +1,7 @@
 -- One more item: what loops over items keep, from before it to after it.
 use Rattle.std.proofs.Common.{◌≡◌, ℕ, ◌+◌, ◌<◌, List, ◌∷◌, ◌++◌, length, get_or, drop, refl, sym, ◌∙◌, ap, subst}
 use Rattle.std.proofs.lemmas.List.{drop_more}
-use Rattle.rv_isa.specs.Labels.{longest}
+use Rattle.rv_isa.specs.Prelude.{longest}
 use Rattle.rv_isa.specs.declared.labelled.Item.{Item}
 use Rattle.rv_isa.specs.declared.code.Hole.{Hole}
 use Rattle.asm_layout.specs.Forms.{size, item_words, words_with, item_holes, holes_with, no_address, AllFit}

@@ -2,11 +2,7 @@
 use Rattle.std.proofs.Common.{◌≡◌, ℕ, zero, suc, ◌+◌, ◌*◌, ◌<◌, ◌≤◌, List, [], ◌∷◌, length, refl, subst, arith, replicate, Bool, true, false, slice_index, nat_lt}
 use Rattle.std.proofs.lemmas.List.{length-replicate}
 use Rattle.std.proofs.lemmas.Bool.Decides.{nat_tests}
-use Rattle.rv_isa.specs.Labels.{LabelledItems, IsLabelled, longest, longest_size}
-use Rattle.rv_isa.specs.Labelled.{Stand}
-use Rattle.rv_isa.specs.Laid.{LaysOut, filled}
-use Rattle.rv_isa.specs.Relocations.{filled_in}
-use Rattle.rv_isa.specs.Words.{IsCode}
+use Rattle.rv_isa.specs.Prelude.{LabelledItems, IsLabelled, longest, longest_size, Stand, LaysOut, filled, filled_in, IsCode}
 use Rattle.rv_isa.specs.declared.code.Hole.{Hole}
 use Rattle.rv_isa.specs.declared.labelled.Item.{Item}
 use Rattle.rv_isa.specs.declared.labelled.Item.TheVariants.{Plain, Label, Branch, Goto, Call, Relocated}

@@ -1,11 +1,9 @@
 -- Words of instructions have 32 bits.
 use Rattle.std.proofs.Common.{◌≡◌, ℕ, zero, suc, ◌+◌, ◌-◌, ◌*◌, ◌/◌, ◌^◌, ◌<◌, List, [], ◌∷◌, ◌++◌, length, refl, subst, arith, lit<, mod-lt, ℤ, slice_index}
 use Rattle.bits.specs.Words.{upper_field, lower_field}
-use Rattle.rv_isa.specs.Formats.{part, joined, u_type, i_type, j_type, b_type}
-use Rattle.rv_isa.specs.Encoding.{word, branch_row, load_row, store_row, imm_row, shift_row, shiftw_row, reg_row, regw_row}
+use Rattle.rv_isa.specs.Prelude.{part, joined, u_type, i_type, j_type, b_type, word, branch_row, load_row, store_row, imm_row, shift_row, shiftw_row, reg_row, regw_row, longest}
 use Rattle.rv_isa.specs.declared.relocation.Filling.{Filling}
 use Rattle.rv_isa.specs.declared.relocation.Filling.TheVariants.{Part, Call as CallOf}
-use Rattle.rv_isa.specs.Labels.{longest}
 use Rattle.rv_isa.specs.declared.abi.TheConstants.{JUMP_SCRATCH, ZERO}
 use Rattle.rv_isa.specs.declared.ranges.Register.{Register}
 use Rattle.rv_isa.specs.declared.instruction.Instr.{Instr}

@@ -9,10 +9,7 @@ use Rattle.std.specs.List.{list_all}
 use Rattle.std.specs.Prelude.{ℕ, ◌+◌, ◌-◌, ◌*◌, ◌%◌, ◌^◌, ◌<◌, ◌≤◌, Bool, true, false, IsTrue, ◌&&◌, nat_le, if◌then◌else◌, ℤ, pos, ◌-ℤ◌, List, [], ◌∷◌, ◌++◌, length, slice_index, slice_set, replicate}
 use Rattle.bits.specs.Words.{upper_field, lower_field}
 use Rattle.rv_isa.specs.declared.abi.TheConstants.{ZERO, RETURN_ADDRESS, JUMP_SCRATCH}
-use Rattle.rv_isa.specs.Formats.{u_type, i_type, b_type, j_type}
-use Rattle.rv_isa.specs.Encoding.{branch_row, word}
-use Rattle.rv_isa.specs.Relocations.{of_global, named, filled_in}
-use Rattle.rv_isa.specs.Labels.{LabelledItems, longest}
+use Rattle.rv_isa.specs.Prelude.{u_type, i_type, b_type, j_type, branch_row, word, of_global, named, filled_in, LabelledItems, longest}
 use Rattle.rv_isa.specs.declared.ranges.Register.{Register}
 use Rattle.rv_isa.specs.declared.instruction.BranchOp.{BranchOp}
 use Rattle.rv_isa.specs.declared.instruction.BranchOp.TheVariants.{Beq, Bne, Blt, Bge, Bltu, Bgeu}

@@ -1,7 +1,7 @@
 //! The forms of calls of globals.
 
 ghost use Rattle.std.specs.Prelude.{◌≡◌, ◌++◌, [], drop, IfOk, OnOk};
-ghost use Rattle.rv_isa.specs.Labels.{IsLabelled};
+ghost use Rattle.rv_isa.specs.Prelude.{IsLabelled};
 ghost use Rattle.asm_layout.specs.Forms.{link, far_call, with_far_call, with_far_calls, formed};
 
 use rv_isa::{Item, LabelledCode, Partial, Register, Relocation, abi};

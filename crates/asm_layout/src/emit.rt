@@ -1,7 +1,7 @@
 //! The words and holes of items.
 
 ghost use Rattle.std.specs.Prelude.{◌≡◌, ◌+◌, ◌^◌, ◌<◌, ◌≤◌, ◌++◌, drop, length, OnOk};
-ghost use Rattle.rv_isa.specs.Labels.{longest_size};
+ghost use Rattle.rv_isa.specs.Prelude.{longest_size};
 ghost use Rattle.asm_layout.specs.Forms.{item_words, words_with, item_holes, holes_with, no_address, ItemFits, AllFit};
 
 use crate::jump::{push_branch, push_jump};

@@ -2,8 +2,7 @@
 
 ghost use Rattle.std.specs.Prelude.{◌≡◌, ◌+◌, ◌*◌, ◌-◌, ◌%◌, ◌^◌, ◌<◌, ◌≤◌, ◌++◌, OnOk, pos};
 ghost use Rattle.rv_isa.specs.declared.abi.TheConstants.{JUMP_SCRATCH, ZERO};
-ghost use Rattle.rv_isa.specs.Encoding.{word, branch_row};
-ghost use Rattle.rv_isa.specs.Formats.{j_type, b_type, u_type, i_type};
+ghost use Rattle.rv_isa.specs.Prelude.{word, branch_row, j_type, b_type, u_type, i_type};
 ghost use Rattle.bits.specs.Words.{upper_field, lower_field};
 ghost use Rattle.asm_layout.specs.Forms.{inverse, distance, distance_word, jump_words, branch_words, Fits, JumpFits};
 

@@ -1,8 +1,7 @@
 //! Words for labelled code.
 
 ghost use Rattle.std.specs.Prelude.{◌≡◌, ◌<◌, ◌≤◌, length, IfOk};
-ghost use Rattle.rv_isa.specs.Labels.{longest_size};
-ghost use Rattle.rv_isa.specs.Laid.{LaysOut};
+ghost use Rattle.rv_isa.specs.Prelude.{longest_size, LaysOut};
 ghost use Rattle.asm_layout.specs.Forms.{formed, holes_of, words_of, HaveForm};
 
 use crate::call::{CallForm, formed};

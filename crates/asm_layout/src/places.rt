@@ -1,7 +1,7 @@
 //! Where labels stand.
 
 ghost use Rattle.std.specs.Prelude.{◌≡◌, ◌+◌, ◌^◌, ◌<◌, ◌≤◌, drop, length, replicate, slice_index, slice_set, IfOk};
-ghost use Rattle.rv_isa.specs.Labels.{longest_size};
+ghost use Rattle.rv_isa.specs.Prelude.{longest_size};
 ghost use Rattle.asm_layout.specs.Forms.{marked, longest_places, chosen_places};
 
 use crate::sizes::{longest, size};

@@ -1,7 +1,7 @@
 //! How many words items take.
 
 ghost use Rattle.std.specs.Prelude.{◌≡◌};
-ghost use Rattle.rv_isa.specs.Labels.{longest};
+ghost use Rattle.rv_isa.specs.Prelude.{longest};
 ghost use Rattle.asm_layout.specs.Forms.{jump_size, branch_size, size};
 
 use crate::places::place_of;

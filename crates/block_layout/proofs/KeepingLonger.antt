@@ -13,10 +13,7 @@ use Rattle.vcode.specs.declared.line.Jump.{Jump}
 use Rattle.vcode.specs.declared.line.Jump.TheVariants.{Goto, Branch, Return, Halt}
 use Rattle.vcode.specs.declared.code.Block.{Block}
 use Rattle.vcode.specs.declared.function.VFunc.{VFunc}
-use Rattle.vcode.specs.Becomes.{with_these, Becomes}
-use Rattle.vcode.specs.Cost.{line_cost, affords, is_paid}
-use Rattle.vcode.specs.Named.{line_keeps, jump_keeps, block_keeps, is_below}
-use Rattle.vcode.specs.Regular.{leads_inside, is_target, is_alloc, allocs_first, alloc_bytes, turns_of, passes_few, weight_of, area, code_weight, IsRegular}
+use Rattle.vcode.specs.Prelude.{with_these, Becomes, line_cost, affords, is_paid, line_keeps, jump_keeps, block_keeps, is_below, leads_inside, is_target, is_alloc, allocs_first, alloc_bytes, turns_of, passes_few, weight_of, area, code_weight, IsRegular}
 use Rattle.vcode.proofs.Measuring.{measured_itself, affords_line, still_affords, still_within}
 use Rattle.block_layout.specs.Joined.{joined, with_tail, tail_of, longer, AllLonger, burden, block_burden}
 use Rattle.block_layout.proofs.RunningLonger.{runs}

@@ -11,9 +11,7 @@ use Rattle.vcode.specs.declared.line.Jump.TheVariants.{Goto, Branch, Return, Hal
 use Rattle.vcode.specs.declared.code.Block.{Block}
 use Rattle.vcode.specs.declared.code.Code.{Code}
 use Rattle.vcode.specs.declared.function.VFunc.{VFunc}
-use Rattle.vcode.specs.Cost.{jump_cost, is_paid}
-use Rattle.vcode.specs.Named.{line_keeps, jump_keeps, block_keeps, is_below as is_register}
-use Rattle.vcode.specs.Regular.{is_target, leads_inside, is_alloc, allocs_first, alloc_bytes, turns_of, passes_few, weight_of}
+use Rattle.vcode.specs.Prelude.{jump_cost, is_paid, line_keeps, jump_keeps, block_keeps, is_below as is_register, is_target, leads_inside, is_alloc, allocs_first, alloc_bytes, turns_of, passes_few, weight_of}
 use Rattle.vcode.proofs.Measuring.{measured_itself, within}
 use Rattle.vcode.proofs.Results.{Owed}
 use Rattle.block_layout.specs.Ordered.{Order, place_in, is_named, block_at, led, placed, in_order, begins, names_once, leads_within, is_order}

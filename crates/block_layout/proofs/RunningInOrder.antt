@@ -4,21 +4,14 @@ use Rattle.std.specs.List.{list_all}
 use Rattle.std.proofs.lemmas.Option.{slice_get-map, slice_get_within}
 use Rattle.std.proofs.lemmas.Bool.{and_parts, eqb-true}
 use Rattle.il_ast.specs.declared.value.Value.{Value}
-use Rattle.il_ast.specs.Keeps.{KeepsCode}
+use Rattle.il_ast.specs.Prelude.{KeepsCode}
 use Rattle.vcode.specs.declared.place.Operand.{Operand}
 use Rattle.vcode.specs.declared.line.Line.{Line}
 use Rattle.vcode.specs.declared.line.Jump.{Jump}
 use Rattle.vcode.specs.declared.line.Jump.TheVariants.{Goto, Branch, Return, Halt}
 use Rattle.vcode.specs.declared.code.Block.{Block}
 use Rattle.vcode.specs.declared.code.Code.{Code}
-use Rattle.vcode.specs.Places.{Values, virtual}
-use Rattle.vcode.specs.Coded.{classes_in}
-use Rattle.vcode.specs.Step.{begin, value_of, step}
-use Rattle.vcode.specs.Writes.{line_writes}
-use Rattle.vcode.specs.Acts.{act, written, way}
-use Rattle.vcode.specs.Claims.{Claims}
-use Rattle.vcode.specs.Follows.{Alike, Arrives, LeadAlike, Follows, Jumps, Both}
-use Rattle.vcode.specs.Rewrites.{Rewrites}
+use Rattle.vcode.specs.Prelude.{Values, virtual, classes_in, begin, value_of, step, line_writes, act, written, way, Claims, Alike, Arrives, LeadAlike, Follows, Jumps, Both, Rewrites}
 use Rattle.vcode.proofs.SameReads.{SameValue}
 use Rattle.vcode.proofs.SameActs.{jump_reads_every, jump_itself}
 use Rattle.vcode.proofs.Alike.{lines_alike}

@@ -2,28 +2,19 @@
 use Rattle.std.proofs.Common.{◌≡◌, ℕ, zero, suc, Bool, true, false, List, [], ◌∷◌, ◌++◌, Option, Some, None, slice_get, refl, sym, ap, subst}
 use Rattle.il_ast.specs.declared.operation.Class.{Class}
 use Rattle.il_ast.specs.declared.value.Value.{Value}
-use Rattle.il_ast.specs.Memory.{Memory}
-use Rattle.il_ast.specs.Keeps.{KeepsCode}
+use Rattle.il_ast.specs.Prelude.{Memory, KeepsCode}
 use Rattle.vcode.specs.declared.place.Operand.{Operand}
 use Rattle.vcode.specs.declared.line.Line.{Line}
 use Rattle.vcode.specs.declared.line.Jump.{Jump}
 use Rattle.vcode.specs.declared.line.Jump.TheVariants.{Goto, Branch, Return, Halt}
 use Rattle.vcode.specs.declared.code.Block.{Block}
 use Rattle.vcode.specs.declared.code.Code.{Code}
-use Rattle.vcode.specs.Places.{Values, virtual}
-use Rattle.vcode.specs.Coded.{classes_in}
-use Rattle.vcode.specs.Step.{begin, step, value_of}
-use Rattle.vcode.specs.Writes.{line_writes}
-use Rattle.vcode.specs.Acts.{act, written}
-use Rattle.vcode.specs.Claims.{Claims}
-use Rattle.vcode.specs.Follows.{Alike, LeadAlike, Follows, Jumps, Both, FirstOn}
-use Rattle.vcode.specs.Rewrites.{Rewrites}
+use Rattle.vcode.specs.Prelude.{Values, virtual, classes_in, begin, step, value_of, line_writes, act, written, Claims, Alike, LeadAlike, Follows, Jumps, Both, FirstOn, Rewrites, with_these}
 use Rattle.vcode.proofs.SameReads.{SameValue}
 use Rattle.vcode.proofs.SameActs.{jump_reads_every}
 use Rattle.vcode.proofs.Alike.{lines_alike}
 use Rattle.vcode.proofs.Leading.{LeadsTo, Arriving, jump_itself_alike}
 use Rattle.vcode.proofs.Rewriting.{rewrites_keep}
-use Rattle.vcode.specs.Becomes.{with_these}
 use Rattle.block_layout.specs.Joined.{with_tail, tail_of, longer, AllLonger}
 
 -- registers hold the same

@@ -4,7 +4,7 @@ use Rattle.vcode.specs.declared.line.Line.{Line}
 use Rattle.vcode.specs.declared.line.Jump.{Jump}
 use Rattle.vcode.specs.declared.line.Jump.TheVariants.{Goto}
 use Rattle.vcode.specs.declared.code.Block.{Block}
-use Rattle.vcode.specs.Regular.{weight_of, turns_of}
+use Rattle.vcode.specs.Prelude.{weight_of, turns_of}
 
 -- the lines of both, and the jump of the second
 abbrev pub joined : (b t : Block ℕ) → Block ℕ

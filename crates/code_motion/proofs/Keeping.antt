@@ -7,10 +7,8 @@ use Rattle.vcode.specs.declared.line.Line.{Line}
 use Rattle.vcode.specs.declared.line.Line.TheVariants.{Tick, Set, Operate, Load, Store, Alloc, Blit, Call}
 use Rattle.vcode.specs.declared.code.Block.{Block}
 use Rattle.vcode.specs.declared.function.VFunc.{VFunc}
-use Rattle.vcode.specs.Named.{line_keeps, jump_keeps, block_keeps, is_below}
-use Rattle.vcode.specs.Regular.{leads_inside}
+use Rattle.vcode.specs.Prelude.{line_keeps, jump_keeps, block_keeps, is_below, leads_inside, with_these}
 use Rattle.vcode.proofs.Measuring.{Measured, Empty, Put, SetIn, measure, nothing_taken, within_tested, Each, NoBlocks, OneMore}
-use Rattle.vcode.specs.Becomes.{with_these}
 use Rattle.vcode.proofs.Results.{Serves, Owed, owed_each}
 use Rattle.vcode.proofs.Weaker.{line_weaker, jump_weaker, below_more}
 use Rattle.code_motion.specs.Longer.{is_extra, AreLonger, NoLines, Own, Extra, IsLonger, AllLonger}

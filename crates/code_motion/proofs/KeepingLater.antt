@@ -5,10 +5,8 @@ use Rattle.std.proofs.lemmas.Bool.{and_parts, and_from}
 use Rattle.vcode.specs.declared.line.Line.{Line}
 use Rattle.vcode.specs.declared.code.Block.{Block}
 use Rattle.vcode.specs.declared.function.VFunc.{VFunc}
-use Rattle.vcode.specs.Named.{line_keeps, jump_keeps, is_below}
-use Rattle.vcode.specs.Regular.{leads_inside}
+use Rattle.vcode.specs.Prelude.{line_keeps, jump_keeps, is_below, leads_inside, with_these}
 use Rattle.vcode.proofs.Measuring.{Measured, Empty, Put, LeftOut, SetIn, within_tested, Each, NoBlocks, OneMore}
-use Rattle.vcode.specs.Becomes.{with_these}
 use Rattle.vcode.proofs.Results.{Serves, Owed, owed_each}
 use Rattle.code_motion.specs.declared.later.waiting.Waiting.{Waiting}
 use Rattle.code_motion.specs.Later.{line_of, AreLater, NoLines, Own, PutOff, Waits, Done, IsLater, AllLater}

@@ -4,9 +4,7 @@ use Rattle.std.proofs.lemmas.Bool.{and_parts, eqb-true}
 use Rattle.il_ast.specs.declared.value.Value.{Value}
 use Rattle.il_ast.specs.declared.value.Value.TheVariants.{Integer, Pointer, Function}
 use Rattle.il_ast.specs.declared.operation.BinaryOp.TheVariants.{Add as AddPlaces, Sub as SubPlaces}
-use Rattle.il_ast.specs.Memory.{Memory}
-use Rattle.il_ast.specs.Operations.{on_places}
-use Rattle.il_ast.specs.Keeps.{KeepsCode}
+use Rattle.il_ast.specs.Prelude.{Memory, on_places, KeepsCode}
 use Rattle.il_ast.proofs.Truth.{equals_itself}
 use Rattle.rv_isa.specs.declared.instruction.RegOp.{RegOp}
 use Rattle.rv_isa.specs.declared.instruction.RegOp.TheVariants.{Add, Sub, Sll, Slt, Sltu, Xor, Srl, Sra, Or, And, Mul, Mulh, Mulhsu, Mulhu, Div, Divu, Rem, Remu}
@@ -19,16 +17,7 @@ use Rattle.vcode.specs.declared.line.Jump.{Jump}
 use Rattle.vcode.specs.declared.line.Jump.TheVariants.{Goto, Branch, Return, Halt}
 use Rattle.vcode.specs.declared.code.Block.{Block}
 use Rattle.vcode.specs.declared.code.Code.{Code}
-use Rattle.vcode.specs.Operations.{reg_on_places, operate}
-use Rattle.vcode.specs.Places.{Values, virtual, unknown}
-use Rattle.vcode.specs.Coded.{classes_in}
-use Rattle.vcode.specs.Named.{operand_keeps, line_keeps}
-use Rattle.vcode.specs.Step.{begin, step, bound, value_of, operated}
-use Rattle.vcode.specs.Writes.{line_writes}
-use Rattle.vcode.specs.Acts.{written}
-use Rattle.vcode.specs.Claims.{Claims}
-use Rattle.vcode.specs.Follows.{Alike, MayGo, MayCome, LeadAlike, Follows, Jumps, Both, Gone, Come}
-use Rattle.vcode.specs.Rewrites.{Rewrites}
+use Rattle.vcode.specs.Prelude.{reg_on_places, operate, Values, virtual, unknown, classes_in, operand_keeps, line_keeps, begin, step, bound, value_of, operated, line_writes, written, Claims, Alike, MayGo, MayCome, LeadAlike, Follows, Jumps, Both, Gone, Come, Rewrites}
 use Rattle.vcode.proofs.SameReads.{SameValue}
 use Rattle.vcode.proofs.SameActs.{reads_every, reads_named, jump_reads_every, act_agrees}
 use Rattle.vcode.proofs.Alike.{lines_alike}

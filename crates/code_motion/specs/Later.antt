@@ -6,9 +6,7 @@ use Rattle.vcode.specs.declared.line.Line.TheVariants.{Operate}
 use Rattle.vcode.specs.declared.line.Operation.{Operation}
 use Rattle.vcode.specs.declared.line.Operation.TheVariants.{Compare}
 use Rattle.vcode.specs.declared.code.Block.{Block}
-use Rattle.vcode.specs.Cost.{is_paid}
-use Rattle.vcode.specs.Named.{operand_keeps, line_keeps}
-use Rattle.vcode.specs.Writes.{line_writes}
+use Rattle.vcode.specs.Prelude.{is_paid, operand_keeps, line_keeps, line_writes}
 use Rattle.code_motion.specs.declared.later.waiting.Waiting.{Waiting}
 
 abbrev pub line_of : Waiting → Line ℕ

@@ -3,8 +3,7 @@ use Rattle.std.specs.Prelude.{◌≡◌, ℕ, Bool, true, false, ◌&&◌, nat_l
 use Rattle.vcode.specs.declared.line.Line.{Line}
 use Rattle.vcode.specs.declared.line.Line.TheVariants.{Operate}
 use Rattle.vcode.specs.declared.code.Block.{Block}
-use Rattle.vcode.specs.Cost.{is_paid}
-use Rattle.vcode.specs.Named.{line_keeps, is_below}
+use Rattle.vcode.specs.Prelude.{is_paid, line_keeps, is_below}
 
 -- an operation into a register from `before` on, and below `after` as all that it names
 abbrev pub is_extra : (before after : ℕ) → Line ℕ → Bool

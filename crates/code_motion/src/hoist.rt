@@ -1,8 +1,8 @@
 //! Functions with computations in front of their loops and extensions.
 ghost use Rattle.std.specs.Prelude.{◌≡◌, ◌≤◌, ◌<◌, IfOk, IfSome};
 ghost use Rattle.vcode.specs.declared.limits.TheConstants.{PLACES};
-ghost use Rattle.il_ast.specs.Passes.{Keeps};
-ghost use Rattle.vcode.specs.Coded.{virtual_code};
+ghost use Rattle.il_ast.specs.Prelude.{Keeps};
+ghost use Rattle.vcode.specs.Prelude.{virtual_code};
 
 use crate::choice::choose::choose_plan;
 use crate::longer::{Registers, all_longer};

@@ -2,7 +2,7 @@
 ghost use Rattle.std.specs.Prelude.{◌≡◌, ◌++◌, ◌&&◌, ℕ, List, true, nat_le, nat_lt, IfOk, IfSome, OnOk};
 ghost use Rattle.std.specs.List.{list_all};
 ghost use Rattle.vcode.specs.declared.line.Line.{Line as ALine};
-ghost use Rattle.vcode.specs.Named.{operand_keeps, is_below};
+ghost use Rattle.vcode.specs.Prelude.{operand_keeps, is_below};
 ghost use Rattle.code_motion.specs.Longer.{is_extra, AreLonger, with_front, IsLonger, AllLonger};
 
 use crate::plan::{BlockPlan, Computation};

@@ -2,9 +2,9 @@
 use Rattle.std.proofs.Common.{◌≡◌, ℕ, List, [], ◌∷◌, Bor, Result, Ok, Err, IfErr, OnErr, true, inl, inr, refl, ◌∙◌, subst}
 use Rattle.il_ast.specs.declared.program.Program.{Program}
 use Rattle.il_ast.specs.declared.value.End.{End}
-use Rattle.il_ast.specs.Meaning.{Behaviour, meaning}
-use Rattle.obj_link.specs.Arguments.{are_arguments}
-use Rattle.rv_isa.specs.State.{State}
+use Rattle.il_ast.specs.Prelude.{Behaviour, meaning}
+use Rattle.obj_link.specs.Prelude.{are_arguments}
+use Rattle.rv_isa.specs.Prelude.{State}
 use Rattle.elf_file.specs.Conditions.{Loads}
 use Rattle.elf_file.specs.Loaded.{Executable}
 use Rattle.rv_machine.specs.declared.stop.Stop.{Stop}

@@ -1,13 +1,13 @@
 -- Runs whose output goes out piece by piece.
 use Rattle.std.proofs.Common.{◌≡◌, ◌≢◌, ℕ, ◌+◌, ◌-◌, ◌≤◌, ◌++◌, Bool, List, [], refl, ap, sym, ◌∙◌, subst, arith, append_assoc, append-nil, Option, Some, None}
-use Rattle.rv_isa.specs.State.{State}
+use Rattle.rv_isa.specs.Prelude.{State}
 use Rattle.rv_machine.specs.declared.stop.Stop.{Stop}
 use Rattle.rv_machine.specs.declared.stop.Stop.TheVariants.{Limit}
 use Rattle.rv_machine.specs.Pieces.{IsPiece, emptied}
 use Rattle.rv_machine.proofs.PieceLaws.{Leads, begins, leads_here, leads_on, leads_to_end, leads_to_stop}
 use Rattle.il_ast.specs.declared.value.End.{End}
 use Rattle.il_ast.specs.declared.value.End.TheVariants.{Turns}
-use Rattle.il_ast.specs.Meaning.{Behaviour}
+use Rattle.il_ast.specs.Prelude.{Behaviour}
 use Rattle.il_interp.specs.declared.pieces.Running.{Running}
 use Rattle.il_interp.specs.Pieces.{comes_to, ending_of, held, left_of, put_before}
 use Rattle.il_interp.proofs.PieceLaws.{left_begins, left_goes, left_over, no_turns, whole_piece}

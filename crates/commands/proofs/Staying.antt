@@ -2,7 +2,7 @@
 use Rattle.std.proofs.Common.{◌≡◌, inl, inr, refl}
 use Rattle.il_ast.specs.declared.value.End.{End}
 use Rattle.il_ast.specs.declared.value.End.TheVariants.{Exit, Halt, Undefined, Stack, Turns}
-use Rattle.il_ast.specs.Meaning.{meaning}
+use Rattle.il_ast.specs.Prelude.{meaning}
 use Rattle.commands.specs.Bounded.{DoesAsMuch, StayingIsExecuted}
 
 pub staying_is_executed : StayingIsExecuted

@@ -2,9 +2,8 @@
 use Rattle.std.specs.Prelude.{◌≡◌, ◌≢◌, ◌⊎◌, ℕ, List}
 use Rattle.il_ast.specs.declared.program.Program.{Program}
 use Rattle.il_ast.specs.declared.value.End.TheVariants.{Exit, Undefined}
-use Rattle.il_ast.specs.Meaning.{meaning}
-use Rattle.rv_isa.specs.State.{State}
-use Rattle.rv_isa.specs.Step.{Exited, Broken}
+use Rattle.il_ast.specs.Prelude.{meaning}
+use Rattle.rv_isa.specs.Prelude.{State, Exited, Broken}
 use Rattle.headline.specs.Headline.{Executes, StopsSo, GoesOnSo}
 use Rattle.stack_bound.specs.Laws.{StaysInStack}
 

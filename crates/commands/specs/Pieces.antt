@@ -1,15 +1,15 @@
 -- What runs put out, while they run: all of it went out, or a beginning of it.
 use Rattle.std.specs.Prelude.{◌≡◌, ◌≤◌, ◌⊎◌, ℕ, Bool, true, List}
-use Rattle.rv_isa.specs.State.{State}
+use Rattle.rv_isa.specs.Prelude.{State}
 use Rattle.rv_machine.specs.declared.stop.Stop.{Stop}
 use Rattle.rv_machine.specs.Runs.{RunEnds}
 use Rattle.il_ast.specs.declared.value.End.{End}
 use Rattle.il_ast.specs.declared.value.End.TheVariants.{Turns}
-use Rattle.il_ast.specs.Meaning.{Behaviour}
+use Rattle.il_ast.specs.Prelude.{Behaviour}
 use Rattle.il_interp.specs.declared.error.RunError.{RunError}
 use Rattle.il_interp.specs.declared.error.RunError.TheVariants.{Memory as NotRun}
 use Rattle.il_interp.specs.Begun.{Refuses as RefusesWords}
-use Rattle.obj_link.specs.Arguments.{are_arguments}
+use Rattle.obj_link.specs.Prelude.{are_arguments}
 use Rattle.shell.specs.Sink.{SinkState, Sends, Breaks}
 use Rattle.commands.specs.declared.failure.Failure.{Failure}
 use Rattle.commands.specs.declared.failure.Failure.TheVariants.{Refused, Output}

@@ -1,14 +1,14 @@
 -- Which failure each refusal becomes, and what a failure says of a file or of a text.
 use Rattle.std.specs.Prelude.{◌≡◌, ◌⊎◌, ℕ, false, List}
 use Rattle.il_ast.specs.declared.program.Program.{Program}
-use Rattle.il_types.specs.RuleNumber.{rule_number}
+use Rattle.il_types.specs.Prelude.{rule_number}
 use Rattle.il_interp.specs.declared.error.RunError.{RunError}
 use Rattle.il_interp.specs.declared.error.RunError.TheVariants.{Words as WordsRefused, Memory as NotRun}
 use Rattle.il_interp.specs.Begun.{Refuses as RefusesWords}
 use Rattle.elf_file.specs.Conditions.{Loads}
 use Rattle.elf_file.specs.Refusals.{Refuses as RefusesFile}
 use Rattle.elf_file.specs.Loaded.{Executable}
-use Rattle.obj_link.specs.Arguments.{are_arguments}
+use Rattle.obj_link.specs.Prelude.{are_arguments}
 use Rattle.rv_machine.specs.declared.start.StartError.{StartError}
 use Rattle.rv_machine.specs.declared.start.StartError.TheVariants.{Arguments, Memory as NotStarted}
 use Rattle.qbec.specs.declared.error.CompileError.{CompileError}

@@ -2,10 +2,10 @@
 use Rattle.std.specs.Prelude.{◌≡◌, ℕ, true, List}
 use Rattle.il_ast.specs.declared.program.Program.{Program}
 use Rattle.il_ast.specs.declared.value.End.{End}
-use Rattle.il_ast.specs.Meaning.{meaning}
+use Rattle.il_ast.specs.Prelude.{meaning}
 use Rattle.elf_file.specs.Conditions.{Loads}
 use Rattle.elf_file.specs.Loaded.{Executable}
-use Rattle.obj_link.specs.Arguments.{are_arguments}
+use Rattle.obj_link.specs.Prelude.{are_arguments}
 use Rattle.rv_machine.specs.declared.stop.Stop.{Stop}
 use Rattle.rv_machine.specs.Runs.{RunEnds}
 use Rattle.rv_machine.specs.Start.{start_state}

@@ -5,11 +5,10 @@ use Rattle.il_ast.specs.declared.function.Func.{Func}
 use Rattle.il_ast.specs.declared.program.InText.{InText}
 use Rattle.il_ast.specs.declared.program.Program.{Program}
 use Rattle.il_ast.specs.declared.value.Callee.TheVariants.{Defined}
-use Rattle.il_ast.specs.Cost.{need}
+use Rattle.il_ast.specs.Prelude.{need}
 use Rattle.il_types.specs.declared.checked.Checked.{Checked}
-use Rattle.il_types.specs.Capped.{capped}
-use Rattle.obj_link.specs.Names.{symbol_name}
-use Rattle.obj_link.specs.Program.{IsProgram}
+use Rattle.il_types.specs.Prelude.{capped}
+use Rattle.obj_link.specs.Prelude.{symbol_name, IsProgram}
 use Rattle.stack_bound.specs.declared.bounds.Bounds.{Bounds}
 use Rattle.stack_bound.specs.Bounds.{AreBounds, bound_of}
 use Rattle.stack_bound.specs.Laws.{IsEnough, StaysInStack}

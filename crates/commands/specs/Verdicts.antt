@@ -2,9 +2,8 @@
 use Rattle.std.specs.Prelude.{◌≡◌, ◌≢◌, ◌⊎◌, ℕ, ◌+◌, ◌++◌, false, List, [], ◌∷◌, codes, map, slice_get, unwrap_or, Some, decimal, string_bytes}
 use Rattle.il_ast.specs.declared.program.Program.{Program}
 use Rattle.il_types.specs.declared.checked.Checked.{Checked}
-use Rattle.il_types.specs.RuleNumber.{rule_number}
-use Rattle.obj_link.specs.Limits.{within_limits}
-use Rattle.obj_link.specs.Names.{functions_of, objects_of}
+use Rattle.il_types.specs.Prelude.{rule_number}
+use Rattle.obj_link.specs.Prelude.{within_limits, functions_of, objects_of}
 use Rattle.diagnostics.specs.declared.note.Note.{Note}
 use Rattle.qbec.specs.declared.error.CompileError.{CompileError}
 use Rattle.qbec.specs.declared.error.CompileError.TheVariants.{Syntax, Rule, UnknownName, ExportedTwice, NoMain, Limit, Memory}

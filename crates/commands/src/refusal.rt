@@ -1,6 +1,6 @@
 //! Why texts, a file or argument words are refused.
 ghost use Rattle.std.specs.Prelude.{◌≡◌};
-ghost use Rattle.il_types.specs.RuleNumber.{rule_number};
+ghost use Rattle.il_types.specs.Prelude.{rule_number};
 ghost use Rattle.commands.specs.declared.refusal.Refusal.TheVariants.{Rule};
 
 use elf_file::LoadError;

@@ -1,8 +1,7 @@
 //! Runs of files and of texts, whose output goes out while they run.
 ghost use Rattle.std.specs.Prelude.{◌≡◌, ◌↔◌, ℕ, List, map, true, false, Err, IfOk, OnOk, IfErr};
-ghost use Rattle.il_ast.specs.Meaning.{meaning};
-ghost use Rattle.obj_link.specs.Arguments.{are_arguments};
-ghost use Rattle.obj_link.specs.ProgramOf.{program};
+ghost use Rattle.il_ast.specs.Prelude.{meaning};
+ghost use Rattle.obj_link.specs.Prelude.{are_arguments, program};
 ghost use Rattle.rv_machine.specs.declared.start.StartError.TheVariants.{Arguments};
 ghost use Rattle.rv_machine.specs.Machine.{view};
 ghost use Rattle.rv_machine.specs.Start.{start_state};

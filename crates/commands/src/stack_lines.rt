@@ -1,9 +1,7 @@
 //! The lines that show how much stack a program takes.
 ghost use Rattle.std.specs.Prelude.{◌≡◌, ◌++◌, map, IfOk, IfErr, OnOk, decimal, MatchResult};
 ghost use Rattle.il_ast.specs.declared.program.Program.{Program};
-ghost use Rattle.obj_link.specs.Program.{IsProgram};
-ghost use Rattle.obj_link.specs.ProgramOf.{program};
-ghost use Rattle.obj_link.specs.Shown.{shown};
+ghost use Rattle.obj_link.specs.Prelude.{IsProgram, program, shown};
 ghost use Rattle.qbec.specs.declared.error.CompileError.TheVariants.{Memory};
 ghost use Rattle.qbec.specs.Refusals.{Refuses};
 ghost use Rattle.qbec.specs.Texts.{AreProgram};

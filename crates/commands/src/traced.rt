@@ -1,9 +1,8 @@
 //! Texts that are interpreted, with where and why that ended.
 ghost use Rattle.std.specs.Prelude.{◌≡◌, [], map, true, IfOk, OnOk, IfErr};
-ghost use Rattle.il_ast.specs.Meaning.{meaning};
+ghost use Rattle.il_ast.specs.Prelude.{meaning};
 ghost use Rattle.il_interp.specs.Pieces.{comes_to, held};
-ghost use Rattle.obj_link.specs.Arguments.{are_arguments};
-ghost use Rattle.obj_link.specs.ProgramOf.{program};
+ghost use Rattle.obj_link.specs.Prelude.{are_arguments, program};
 ghost use Rattle.qbec.specs.Texts.{AreTexts};
 ghost use Rattle.commands.specs.Pieces.{LinkedFails, SendingFails, Sent, TextsFail, TextsSend};
 

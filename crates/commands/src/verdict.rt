@@ -1,6 +1,6 @@
 //! What is wrong with texts, and where.
 ghost use Rattle.std.specs.Prelude.{◌≡◌, ◌≢◌, ◌+◌, ◌++◌, ◌∷◌, [], ℕ, List, map, IfOk, OnOk};
-ghost use Rattle.obj_link.specs.Refusals.{Refuses as RefusesLinking};
+ghost use Rattle.obj_link.specs.Prelude.{Refuses as RefusesLinking};
 ghost use Rattle.qbec.specs.declared.error.CompileError.TheVariants.{Memory};
 ghost use Rattle.qbec.specs.Refusals.{Refuses};
 ghost use Rattle.qbec.specs.Reasons.{RefusesText};

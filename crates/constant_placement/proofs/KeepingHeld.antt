@@ -8,9 +8,7 @@ use Rattle.vcode.specs.declared.line.Line.{Line}
 use Rattle.vcode.specs.declared.line.Line.TheVariants.{Set}
 use Rattle.vcode.specs.declared.code.Block.{Block}
 use Rattle.vcode.specs.declared.function.VFunc.{VFunc}
-use Rattle.vcode.specs.Cost.{is_paid}
-use Rattle.vcode.specs.Named.{operand_keeps, line_keeps, jump_keeps, block_keeps, is_below}
-use Rattle.vcode.specs.Replaced.{Replacing, with_line, with_jump}
+use Rattle.vcode.specs.Prelude.{is_paid, operand_keeps, line_keeps, jump_keeps, block_keeps, is_below, Replacing, with_line, with_jump}
 use Rattle.vcode.proofs.Replacing.{measure_stays, line_low, jump_low, inside_same}
 use Rattle.vcode.proofs.Measuring.{Measured, Empty, Put, SetIn, within_tested, Each, NoBlocks, OneMore}
 use Rattle.vcode.proofs.Results.{Serves, Owed, owed_each}

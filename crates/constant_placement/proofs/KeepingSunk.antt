@@ -7,11 +7,8 @@ use Rattle.vcode.specs.declared.line.Line.{Line}
 use Rattle.vcode.specs.declared.line.Jump.{Jump}
 use Rattle.vcode.specs.declared.code.Block.{Block}
 use Rattle.vcode.specs.declared.function.VFunc.{VFunc}
-use Rattle.vcode.specs.Cost.{affords, is_paid}
-use Rattle.vcode.specs.Named.{line_keeps, jump_keeps, is_below}
-use Rattle.vcode.specs.Regular.{leads_inside}
+use Rattle.vcode.specs.Prelude.{affords, is_paid, line_keeps, jump_keeps, is_below, leads_inside, with_these}
 use Rattle.vcode.proofs.Measuring.{Measured, Empty, Put, SetIn, within_tested, Each, NoBlocks, OneMore}
-use Rattle.vcode.specs.Becomes.{with_these}
 use Rattle.vcode.proofs.Results.{Serves, Owed, owed_each}
 use Rattle.constant_placement.specs.declared.sinking.known.Known.{Known}
 use Rattle.constant_placement.specs.declared.sinking.known.Plan.{Plan}

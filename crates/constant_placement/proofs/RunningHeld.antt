@@ -4,7 +4,7 @@ use Rattle.std.specs.List.{list_all}
 use Rattle.std.proofs.lemmas.Bool.{and_parts, not-true, or_right}
 use Rattle.std.proofs.lemmas.Bool.Decides.{nat_tests}
 use Rattle.il_ast.specs.declared.value.Value.{Value}
-use Rattle.il_ast.specs.Keeps.{KeepsCode}
+use Rattle.il_ast.specs.Prelude.{KeepsCode}
 use Rattle.vcode.specs.declared.place.Operand.{Operand}
 use Rattle.vcode.specs.declared.place.Operand.TheVariants.{At, Number, Name}
 use Rattle.vcode.specs.declared.line.Line.{Line}
@@ -13,16 +13,7 @@ use Rattle.vcode.specs.declared.line.Jump.{Jump}
 use Rattle.vcode.specs.declared.line.Jump.TheVariants.{Goto, Branch, Return, Halt}
 use Rattle.vcode.specs.declared.code.Block.{Block}
 use Rattle.vcode.specs.declared.code.Code.{Code}
-use Rattle.vcode.specs.Places.{Values, virtual}
-use Rattle.vcode.specs.Coded.{classes_in}
-use Rattle.vcode.specs.Named.{operand_keeps, line_keeps, jump_keeps, block_keeps}
-use Rattle.vcode.specs.Step.{begin, value_of, step}
-use Rattle.vcode.specs.Replaced.{with_line, with_jump}
-use Rattle.vcode.specs.Writes.{line_writes}
-use Rattle.vcode.specs.Acts.{written}
-use Rattle.vcode.specs.Claims.{Claims}
-use Rattle.vcode.specs.Follows.{Alike, MayCome, LeadAlike, Follows, Jumps, Both, Come}
-use Rattle.vcode.specs.Rewrites.{Rewrites}
+use Rattle.vcode.specs.Prelude.{Values, virtual, classes_in, operand_keeps, line_keeps, jump_keeps, block_keeps, begin, value_of, step, with_line, with_jump, line_writes, written, Claims, Alike, MayCome, LeadAlike, Follows, Jumps, Both, Come, Rewrites}
 use Rattle.vcode.proofs.SameReads.{SameValue}
 use Rattle.vcode.proofs.SameActs.{reads_named, jump_reads_named, act_same, writes_stay}
 use Rattle.vcode.proofs.Alike.{lines_alike}

@@ -7,8 +7,7 @@ use Rattle.std.proofs.lemmas.Bool.{and_parts, and_from, eqb-true}
 use Rattle.std.proofs.lemmas.Bool.Decides.{nat_tests}
 use Rattle.il_ast.specs.declared.value.Value.{Value}
 use Rattle.il_ast.specs.declared.value.Value.TheVariants.{Integer}
-use Rattle.il_ast.specs.Memory.{Memory}
-use Rattle.il_ast.specs.Keeps.{KeepsCode}
+use Rattle.il_ast.specs.Prelude.{Memory, KeepsCode}
 use Rattle.vcode.specs.declared.place.Operand.{Operand}
 use Rattle.vcode.specs.declared.place.Operand.TheVariants.{At, Number, Name}
 use Rattle.vcode.specs.declared.line.Line.{Line}
@@ -17,14 +16,7 @@ use Rattle.vcode.specs.declared.line.Jump.{Jump}
 use Rattle.vcode.specs.declared.line.Jump.TheVariants.{Goto, Branch, Return, Halt}
 use Rattle.vcode.specs.declared.code.Block.{Block}
 use Rattle.vcode.specs.declared.code.Code.{Code}
-use Rattle.vcode.specs.Places.{Values, virtual, unknown}
-use Rattle.vcode.specs.Coded.{classes_in}
-use Rattle.vcode.specs.Step.{begin, step, bound}
-use Rattle.vcode.specs.Writes.{line_writes}
-use Rattle.vcode.specs.Acts.{act, written}
-use Rattle.vcode.specs.Claims.{Claims}
-use Rattle.vcode.specs.Follows.{Alike, MayCome, LeadAlike, Follows, Jumps, Both, Come}
-use Rattle.vcode.specs.Rewrites.{Rewrites}
+use Rattle.vcode.specs.Prelude.{Values, virtual, unknown, classes_in, begin, step, bound, line_writes, act, written, Claims, Alike, MayCome, LeadAlike, Follows, Jumps, Both, Come, Rewrites}
 use Rattle.vcode.proofs.SameReads.{SameValue}
 use Rattle.vcode.proofs.SameActs.{reads_every, jump_reads_every, act_agrees}
 use Rattle.vcode.proofs.Alike.{MayLeave, lines_alike}

@@ -9,9 +9,7 @@ use Rattle.vcode.specs.declared.line.Line.TheVariants.{Set}
 use Rattle.vcode.specs.declared.code.Block.{Block}
 use Rattle.vcode.specs.declared.code.Code.{Code}
 use Rattle.vcode.specs.declared.function.VFunc.{VFunc}
-use Rattle.vcode.specs.Cost.{is_paid}
-use Rattle.vcode.specs.Named.{keeps_places}
-use Rattle.vcode.specs.Replaced.{Replacing, with_line, with_jump}
+use Rattle.vcode.specs.Prelude.{is_paid, keeps_places, Replacing, with_line, with_jump}
 use Rattle.flow.specs.Successors.{successors}
 use Rattle.constant_placement.specs.declared.hoisting.plan.Constant.{Constant}
 use Rattle.constant_placement.specs.declared.hoisting.plan.Constant.TheVariants.{Number as OfNumber, Name as OfName}

@@ -7,7 +7,7 @@ use Rattle.vcode.specs.declared.line.Line.{Line}
 use Rattle.vcode.specs.declared.line.Line.TheVariants.{Set}
 use Rattle.vcode.specs.declared.line.Jump.{Jump}
 use Rattle.vcode.specs.declared.line.Jump.TheVariants.{Goto, Branch, Return, Halt}
-use Rattle.vcode.specs.Writes.{line_writes}
+use Rattle.vcode.specs.Prelude.{line_writes}
 use Rattle.constant_placement.specs.declared.sinking.known.Known.{Known}
 use Rattle.constant_placement.specs.declared.sinking.known.Plan.{Plan}
 

@@ -5,7 +5,7 @@ use Rattle.vcode.specs.declared.place.Operand.TheVariants.{Number}
 use Rattle.vcode.specs.declared.line.Line.{Line}
 use Rattle.vcode.specs.declared.line.Line.TheVariants.{Set}
 use Rattle.vcode.specs.declared.code.Block.{Block}
-use Rattle.vcode.specs.Cost.{is_paid}
+use Rattle.vcode.specs.Prelude.{is_paid}
 use Rattle.constant_placement.specs.declared.sinking.known.Known.{Known}
 use Rattle.constant_placement.specs.declared.sinking.known.Plan.{Plan}
 use Rattle.constant_placement.specs.Known.{stay_known, plan_at, leads_well}

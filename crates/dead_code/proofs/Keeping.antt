@@ -7,8 +7,7 @@ use Rattle.vcode.specs.declared.line.Line.{Line}
 use Rattle.vcode.specs.declared.line.Line.TheVariants.{Tick, Set, Operate, Load, Store, Alloc, Blit, Call}
 use Rattle.vcode.specs.declared.code.Block.{Block}
 use Rattle.vcode.specs.declared.function.VFunc.{VFunc}
-use Rattle.vcode.specs.Cost.{line_cost, jump_cost}
-use Rattle.vcode.specs.Named.{line_keeps, jump_keeps, block_keeps, is_below}
+use Rattle.vcode.specs.Prelude.{line_cost, jump_cost, line_keeps, jump_keeps, block_keeps, is_below}
 use Rattle.vcode.proofs.Measuring.{no_more, measure, nothing_taken, Measured, Empty, Put, LeftOut, within, each_mapped}
 use Rattle.vcode.proofs.Results.{Serves, Owed, owed_each}
 use Rattle.dead_code.specs.Without.{Wanted, is_dead, wanted_at, as_wanted, kept_lines, wanted_behind, kept_block, Closed}

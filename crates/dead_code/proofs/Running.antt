@@ -4,7 +4,7 @@ use Rattle.std.specs.List.{list_any}
 use Rattle.std.proofs.lemmas.Bool.{and_from, not-true, or_left, or_right}
 use Rattle.bitset.specs.Bits.{Bits}
 use Rattle.il_ast.specs.declared.value.Value.{Value}
-use Rattle.il_ast.specs.Keeps.{KeepsCode}
+use Rattle.il_ast.specs.Prelude.{KeepsCode}
 use Rattle.vcode.specs.declared.place.Operand.{Operand}
 use Rattle.vcode.specs.declared.place.Operand.TheVariants.{At, Number, Name}
 use Rattle.vcode.specs.declared.place.Argument.{Argument}
@@ -13,17 +13,8 @@ use Rattle.vcode.specs.declared.line.Line.TheVariants.{Tick, Set, Operate, Load,
 use Rattle.vcode.specs.declared.line.Jump.{Jump}
 use Rattle.vcode.specs.declared.line.Jump.TheVariants.{Goto, Branch, Return, Halt}
 use Rattle.vcode.specs.declared.code.Code.{Code}
-use Rattle.vcode.specs.Becomes.{with_these}
-use Rattle.vcode.specs.Operations.{loaded}
-use Rattle.vcode.specs.Places.{Values, virtual}
-use Rattle.vcode.specs.Coded.{classes_in}
-use Rattle.vcode.specs.Step.{begin, value_of, operated, address_of, step}
-use Rattle.vcode.specs.Writes.{line_writes}
-use Rattle.vcode.specs.Acts.{given, act, written}
+use Rattle.vcode.specs.Prelude.{with_these, loaded, Values, virtual, classes_in, begin, value_of, operated, address_of, step, line_writes, given, act, written, Claims, OnlyGives, Alike, MayGo, LeadAlike, Follows, Jumps, Both, Gone, Less, Rewrites}
 use Rattle.vcode.proofs.Alike.{lines_alike}
-use Rattle.vcode.specs.Claims.{Claims}
-use Rattle.vcode.specs.Follows.{OnlyGives, Alike, MayGo, LeadAlike, Follows, Jumps, Both, Gone, Less}
-use Rattle.vcode.specs.Rewrites.{Rewrites}
 use Rattle.vcode.proofs.SameActs.{ArgumentsRead, Reads, JumpReads, act_agrees}
 use Rattle.vcode.proofs.Writing.{is_written, Agree, written_agree, unlike, first_writes}
 use Rattle.vcode.proofs.Leading.{LeadsTo, Arriving, jump_itself_alike, leads_more}

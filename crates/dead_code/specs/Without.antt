@@ -12,7 +12,7 @@ use Rattle.vcode.specs.declared.line.Line.TheVariants.{Tick, Set, Operate, Load,
 use Rattle.vcode.specs.declared.line.Jump.{Jump}
 use Rattle.vcode.specs.declared.line.Jump.TheVariants.{Goto, Branch, Return, Halt}
 use Rattle.vcode.specs.declared.code.Block.{Block}
-use Rattle.vcode.specs.Writes.{line_writes}
+use Rattle.vcode.specs.Prelude.{line_writes}
 
 -- the registers whose values are still used
 abbrev pub Wanted : Type 0

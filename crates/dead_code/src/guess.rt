@@ -1,7 +1,7 @@
 //! What blocks want at their beginnings: a guess that nothing proved rests on.
 ghost use Rattle.std.specs.Prelude.{◌≡◌, true};
 ghost use Rattle.std.specs.List.{list_all};
-ghost use Rattle.vcode.specs.Named.{line_keeps, block_keeps, is_below};
+ghost use Rattle.vcode.specs.Prelude.{line_keeps, block_keeps, is_below};
 
 use crate::wanted::{begin, has, is_dead, pass_line};
 use bitset::BitSet;

@@ -2,9 +2,8 @@
 ghost use Rattle.std.specs.Prelude.{◌≡◌, ◌<◌, ℕ, true, false, map, length, slice_get, reverse as reversed, drop, Some, OnOk, IfOk, IfSome};
 ghost use Rattle.std.specs.List.{list_all};
 ghost use Rattle.bitset.specs.Bits.{Bits, is_member};
-ghost use Rattle.il_ast.specs.Passes.{Keeps};
-ghost use Rattle.vcode.specs.Coded.{virtual_code};
-ghost use Rattle.vcode.specs.Named.{line_keeps, block_keeps, is_below};
+ghost use Rattle.il_ast.specs.Prelude.{Keeps};
+ghost use Rattle.vcode.specs.Prelude.{virtual_code, line_keeps, block_keeps, is_below};
 ghost use Rattle.dead_code.specs.Without.{kept_lines, kept_block, wanted_at, wanted_behind, wanted_in, held, Closed};
 
 use crate::guess::guessed;

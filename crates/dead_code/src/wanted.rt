@@ -3,7 +3,7 @@ ghost use Rattle.std.specs.Prelude.{◌≡◌, ◌<◌, ◌&&◌, ◌||◌, not,
 ghost use Rattle.std.specs.List.{list_any, list_all};
 ghost use Rattle.std.specs.Option.{option_map_or};
 ghost use Rattle.bitset.specs.Bits.{is_member};
-ghost use Rattle.vcode.specs.Named.{operand_keeps, line_keeps, jump_keeps, is_below};
+ghost use Rattle.vcode.specs.Prelude.{operand_keeps, line_keeps, jump_keeps, is_below};
 ghost use Rattle.dead_code.specs.Without.{is_dead, as_wanted, names_it, reads_it, writes_it, wanted_above, wanted_behind, held};
 
 use bitset::BitSet;

@@ -2,7 +2,7 @@
 use Rattle.std.proofs.Common.{◌≡◌, ℕ, zero, suc, ◌+◌, ◌%◌, ◌<◌, ◌≤◌, Bool, true, false, List, [], ◌∷◌, ◌++◌, length, refl, sym, ◌∙◌, ap, subst, arith, inl, inr, drop, slice_get, Some, length-append, add-one, length-take, Result, Ok, Err, MatchResult, IfOk, IfErr, ◌⊎◌}
 use Rattle.std.proofs.lemmas.Bool.Decides.{nat_tests}
 use Rattle.std.proofs.lemmas.Option.{slice_get_within, none-some, same_Some}
-use Rattle.obj_link.specs.Image.{code_start, image_end}
+use Rattle.obj_link.specs.Prelude.{code_start, image_end}
 use Rattle.elf_file.specs.declared.flags.Flags.{Flags}
 use Rattle.elf_file.specs.declared.headers.ProgramHeader.{ProgramHeader}
 use Rattle.elf_file.specs.declared.error.LoadError.{LoadError}

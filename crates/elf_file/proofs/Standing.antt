@@ -3,7 +3,7 @@ use Rattle.std.proofs.Common.{◌≡◌, ℕ, zero, suc, ◌+◌, ◌-◌, ◌*�
 use Rattle.std.specs.Int.{byte_at}
 use Rattle.std.proofs.lemmas.Option.{none-some}
 use Rattle.std.proofs.lemmas.Bool.Decides.{nat_tests}
-use Rattle.obj_link.specs.Image.{Contents, code_start, code_size, data_start}
+use Rattle.obj_link.specs.Prelude.{Contents, code_start, code_size, data_start}
 use Rattle.elf_file.specs.declared.flags.Flags.{Flags}
 use Rattle.elf_file.specs.declared.flags.Flags.TheVariants.{Execute, ReadWrite}
 use Rattle.elf_file.specs.Loaded.{Mapping, holds, byte_of, byte_in, flags_in, mapping_at}

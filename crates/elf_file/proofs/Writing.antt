@@ -7,7 +7,7 @@ use Rattle.std.proofs.Math.ListN.{length-replicate}
 use Rattle.elf_file.proofs.Reading.{MapsAll-push, MapsAll-none}
 use Rattle.byteorder.specs.Endian.{little_bytes, little_number}
 use Rattle.byteorder.specs.Numbers.{little_number-reads_back}
-use Rattle.obj_link.specs.Image.{Contents, IsImage, code_start, code_size, data_start, round_to_page}
+use Rattle.obj_link.specs.Prelude.{Contents, IsImage, code_start, code_size, data_start, round_to_page}
 use Rattle.elf_file.specs.declared.flags.Flags.{Flags}
 use Rattle.elf_file.specs.declared.flags.Flags.TheVariants.{Execute, Read, ReadExecute, ReadWrite}
 use Rattle.elf_file.specs.File.{flags_number, field_bytes, fields_bytes, file_header_fields, program_header_fields, header_for, headers_bytes, segment_header, code_bytes, padded, with_code, file_with, file_of, code_header, data_header, data_offset, code_mapping, data_mappings, executable_of}

@@ -4,7 +4,7 @@
 -- choice.
 use Rattle.std.specs.Prelude.{◌≡◌, ℕ, zero, suc, ◌+◌, ◌%◌, ◌≤◌, Bool, true, ◌&&◌, ◌==◌, nat_le, nat_lt, nat_eq, List, [], ◌∷◌, length, take, drop, slice_get, Some, is_some}
 use Rattle.std.specs.List.{starts_with}
-use Rattle.obj_link.specs.Image.{code_start, image_end}
+use Rattle.obj_link.specs.Prelude.{code_start, image_end}
 use Rattle.elf_file.specs.declared.headers.FileHeader.{FileHeader}
 use Rattle.elf_file.specs.declared.headers.ProgramHeader.{ProgramHeader}
 use Rattle.elf_file.specs.Flags.{flags_of}

@@ -4,7 +4,7 @@
 -- follow the file's header.
 use Rattle.std.specs.Prelude.{ℕ, ◌+◌, ◌-◌, List, [], ◌∷◌, ◌++◌, length, replicate, flat_map}
 use Rattle.byteorder.specs.Endian.{little_bytes}
-use Rattle.obj_link.specs.Image.{Contents, code_start, code_size, data_start, round_to_page}
+use Rattle.obj_link.specs.Prelude.{Contents, code_start, code_size, data_start, round_to_page}
 use Rattle.elf_file.specs.declared.flags.Flags.{Flags}
 use Rattle.elf_file.specs.declared.flags.Flags.TheVariants.{Execute, Read, ReadExecute, ReadWrite}
 use Rattle.elf_file.specs.declared.fields.Field.{Field}

@@ -1,7 +1,7 @@
 -- What an executable file loads as: its entry, and a map from addresses to bytes and flags.
 use Rattle.std.specs.Prelude.{◌≡◌, ℕ, ◌+◌, ◌-◌, ◌%◌, ◌<◌, ◌≤◌, Bool, true, ◌&&◌, nat_le, nat_lt, List, length, slice_index, slice_get, find, Option, Some, option_map}
 use Rattle.std.specs.List.{list_any}
-use Rattle.obj_link.specs.Image.{code_start, image_end}
+use Rattle.obj_link.specs.Prelude.{code_start, image_end}
 use Rattle.elf_file.specs.declared.flags.Flags.{Flags}
 use Rattle.elf_file.specs.Flags.{is_executable}
 

@@ -1,7 +1,7 @@
 -- Where an image's words and bytes stand in memory, by address.
 use Rattle.std.specs.Prelude.{◌≡◌, ℕ, ◌+◌, ◌*◌, ◌<◌, ◌≤◌, length, slice_index, Some, ◌⊎◌}
 use Rattle.std.specs.Int.{byte_at}
-use Rattle.obj_link.specs.Image.{Contents, code_start, code_size, data_start}
+use Rattle.obj_link.specs.Prelude.{Contents, code_start, code_size, data_start}
 use Rattle.elf_file.specs.declared.flags.Flags.{Flags}
 use Rattle.elf_file.specs.declared.flags.Flags.TheVariants.{Execute, ReadWrite}
 use Rattle.elf_file.specs.Loaded.{Executable, byte_in, flags_in}

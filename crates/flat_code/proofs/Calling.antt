@@ -2,13 +2,11 @@
 use Rattle.std.proofs.Common.{ℕ, ◌+◌, ◌-◌, ◌≤◌, inl, List, map, Option, Some, None, refl, sym, ◌∙◌, ap, subst, arith, option_map}
 use Rattle.il_ast.specs.declared.value.Value.{Value}
 use Rattle.il_ast.specs.declared.value.Value.TheVariants.{Integer, Pointer, Function}
-use Rattle.il_ast.specs.Run.{Spent, both, Outcome, Returned, Ended}
+use Rattle.il_ast.specs.Prelude.{Spent, both, Outcome, Returned, Ended}
 use Rattle.vcode.specs.declared.place.Location.{Location}
 use Rattle.vcode.specs.declared.place.Destination.{Destination}
 use Rattle.vcode.specs.declared.place.Argument.{Argument}
-use Rattle.vcode.specs.Operations.{held as value_held}
-use Rattle.vcode.specs.Places.{located, kept as values_kept}
-use Rattle.vcode.specs.Step.{State, resumes, calls}
+use Rattle.vcode.specs.Prelude.{held as value_held, located, kept as values_kept, State, resumes, calls}
 use Rattle.flat_code.specs.Spots.{Bases, Grown, Clear}
 use Rattle.flat_code.specs.Flat.{FlatOutcome, FlatReturned, FlatEnded, ShowsOutcome}
 use Rattle.flat_code.specs.Step.{FlatState, put, kept, held, resumes as flat_resumes, calls as flat_calls}

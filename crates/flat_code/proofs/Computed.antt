@@ -1,9 +1,7 @@
 -- The examples, by computing them.
 use Rattle.std.proofs.Common.{refl, lit<}
-use Rattle.il_ast.specs.Memory.{load, store, copy}
-use Rattle.il_ast.specs.Logged.{Logged}
-use Rattle.vcode.specs.Operations.{operate, loaded}
-use Rattle.vcode.specs.Step.{line_step, jump_step, step}
+use Rattle.il_ast.specs.Prelude.{load, store, copy, Logged}
+use Rattle.vcode.specs.Prelude.{operate, loaded, line_step, jump_step, step}
 use Rattle.flat_code.specs.Step.{known_number, all_there, copied, computed, flat_line, flat_jump, flat_step}
 use Rattle.flat_code.specs.Examples.{PremisesHold, Examples}
 

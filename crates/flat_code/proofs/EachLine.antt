@@ -4,19 +4,13 @@ use Rattle.std.specs.List.{sum_by, list_any}
 use Rattle.std.proofs.lemmas.List.Sums.{sum_by-cons}
 use Rattle.il_ast.specs.declared.value.Value.{Value}
 use Rattle.il_ast.specs.declared.value.Value.TheVariants.{Pointer}
-use Rattle.il_ast.specs.Values.{byte_count}
-use Rattle.il_ast.specs.Memory.{store, copy}
-use Rattle.il_ast.specs.Effect.{stored_class}
-use Rattle.il_ast.specs.Cost.{round_16}
-use Rattle.rv_isa.specs.Step.{load_size, load_value}
+use Rattle.il_ast.specs.Prelude.{byte_count, store, copy, stored_class, round_16}
+use Rattle.rv_isa.specs.Prelude.{load_size, load_value}
 use Rattle.vcode.specs.declared.place.Location.{Location}
 use Rattle.vcode.specs.declared.line.Line.{Line}
 use Rattle.vcode.specs.declared.line.Line.TheVariants.{Tick, Set, Operate, Load, Store, Alloc, Blit, Call}
 use Rattle.vcode.specs.declared.code.Block.{Block}
-use Rattle.vcode.specs.Operations.{loaded}
-use Rattle.vcode.specs.Places.{Values, located}
-use Rattle.vcode.specs.Regular.{is_alloc, allocs_first, alloc_bytes, area}
-use Rattle.vcode.specs.Step.{State, value_of, read as value_read, read_all as values_read, operated as values_operated, address_of as value_address, made_in as value_made, line_step}
+use Rattle.vcode.specs.Prelude.{loaded, Values, located, is_alloc, allocs_first, alloc_bytes, area, State, value_of, read as value_read, read_all as values_read, operated as values_operated, address_of as value_address, made_in as value_made, line_step}
 use Rattle.flat_code.specs.Spots.{Bases, Entries, Shows}
 use Rattle.flat_code.specs.Step.{Numbers, FlatState, number_of, read, read_all, operated, address_of, made_in, known_number, stored, copied, opened, flat_line}
 use Rattle.flat_code.proofs.Shown.{AllFollow, some_follows, follows_then, put_follows, follow_grown, read_follows, all_follow}

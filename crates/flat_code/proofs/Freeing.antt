@@ -2,7 +2,7 @@
 use Rattle.std.proofs.Common.{◌≡◌, ℕ, ◌+◌, ◌<◌, ◌≤◌, ◌⊎◌, inl, inr, Bool, true, false, if◌then◌else◌, List, length, slice_get, Option, Some, None, refl, sym, ◌∙◌, ap, subst, arith, option_map}
 use Rattle.std.proofs.lemmas.Option.{slice_get_within, same_Some, none-some}
 use Rattle.il_ast.specs.declared.value.Cell.{Cell}
-use Rattle.il_ast.specs.Memory.{Memory, block_at, size_at, free_all}
+use Rattle.il_ast.specs.Prelude.{Memory, block_at, size_at, free_all}
 use Rattle.flat_code.specs.Spots.{Spot, NoAccess, ThisByte, Spots, Bases, ShowsCell, ShowsMemory, SameReach, SameBlocks}
 use Rattle.flat_code.specs.Step.{is_in, closed}
 use Rattle.flat_code.proofs.Runs.{not_away}

@@ -2,16 +2,11 @@
 use Rattle.std.proofs.Common.{◌≡◌, ℕ, ◌+◌, ◌<◌, ◌≤◌, Bool, true, false, if◌then◌else◌, drop, slice_get, Option, Some, None, refl, sym, ◌∙◌, ap, subst, nat_lt, sum_by, option_and_then}
 use Rattle.il_ast.specs.declared.value.Value.{Value}
 use Rattle.il_ast.specs.declared.value.End.TheVariants.{Turns}
-use Rattle.il_ast.specs.Memory.{Memory}
-use Rattle.il_ast.specs.Run.{Spent, one_turn, both, Outcome, Ended}
-use Rattle.il_ast.specs.Logged.{Over, Event, Does}
-use Rattle.il_ast.specs.Keeps.{Asked, Given}
+use Rattle.il_ast.specs.Prelude.{Memory, Spent, one_turn, both, Outcome, Ended, Over, Event, Does, Asked, Given}
 use Rattle.vcode.specs.declared.place.Location.{Location}
 use Rattle.vcode.specs.declared.code.Block.{Block}
 use Rattle.vcode.specs.declared.code.Code.{Code}
-use Rattle.vcode.specs.Places.{located}
-use Rattle.vcode.specs.Regular.{IsRegular, alloc_bytes, area}
-use Rattle.vcode.specs.Step.{State, weighs, goes_on, sets, takes, changes, ticks}
+use Rattle.vcode.specs.Prelude.{located, IsRegular, alloc_bytes, area, State, weighs, goes_on, sets, takes, changes, ticks}
 use Rattle.flat_code.specs.Spots.{Spots, Bases, Entries, Grown, Shows, AllShow}
 use Rattle.flat_code.specs.Flat.{FlatGiven, FlatAsked, FlatOutcome, FlatEnded, ShowsGiven, Frame, Names}
 use Rattle.flat_code.specs.Step.{put, FlatState, goes_on as flat_goes_on, sets as flat_sets, changes as flat_changes, ticks as flat_ticks}

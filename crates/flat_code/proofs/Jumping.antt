@@ -4,17 +4,13 @@ use Rattle.il_ast.specs.declared.operation.Class.{Class}
 use Rattle.il_ast.specs.declared.value.Value.{Value}
 use Rattle.il_ast.specs.declared.value.Value.TheVariants.{Integer, Pointer, Function}
 use Rattle.il_ast.specs.declared.value.End.TheVariants.{Halt as Halted}
-use Rattle.il_ast.specs.Memory.{free_all}
-use Rattle.il_ast.specs.Run.{Returned}
-use Rattle.il_ast.specs.Logged.{Does, Over}
-use Rattle.il_ast.specs.Keeps.{Passes, Suits}
+use Rattle.il_ast.specs.Prelude.{free_all, Returned, Does, Over, Passes, Suits}
 use Rattle.vcode.specs.declared.place.Location.{Location}
 use Rattle.vcode.specs.declared.place.ReturnValue.{ReturnValue}
 use Rattle.vcode.specs.declared.line.Operation.TheVariants.{Compare}
 use Rattle.vcode.specs.declared.line.Jump.{Jump}
 use Rattle.vcode.specs.declared.line.Jump.TheVariants.{Goto, Branch, Return, Halt}
-use Rattle.vcode.specs.Regular.{is_target, leads_inside, area}
-use Rattle.vcode.specs.Step.{State, value_of, read_result as value_result, enters, compared as values_compared, branches, returns, jump_step}
+use Rattle.vcode.specs.Prelude.{is_target, leads_inside, area, State, value_of, read_result as value_result, enters, compared as values_compared, branches, returns, jump_step}
 use Rattle.flat_code.specs.Spots.{Bases, ShowsResult}
 use Rattle.flat_code.specs.Flat.{FlatReturned, FlatEnded}
 use Rattle.flat_code.specs.Step.{FlatState, read_result, closed, enters as flat_enters, compared, branches as flat_branches, leaves, returns as flat_returns, returns_as, flat_jump}

@@ -1,13 +1,11 @@
 -- Every regular code on bytes keeps the same code on blocks: their steps go beside each other from the start on.
 use Rattle.std.proofs.Common.{◌≡◌, ℕ, ◌+◌, ◌<◌, ◌≤◌, List, [], ◌∷◌, map, drop, length, slice_get, Option, Some, None, refl, sym, subst, arith, sum_by}
 use Rattle.std.proofs.lemmas.List.Sums.{sum_by-cons}
-use Rattle.il_ast.specs.Keeps.{AreArgs}
+use Rattle.il_ast.specs.Prelude.{AreArgs}
 use Rattle.vcode.specs.declared.place.Location.{Location}
 use Rattle.vcode.specs.declared.line.Line.{Line}
 use Rattle.vcode.specs.declared.code.Block.{Block}
-use Rattle.vcode.specs.Places.{located, unknown}
-use Rattle.vcode.specs.Regular.{leads_inside, alloc_bytes}
-use Rattle.vcode.specs.Step.{State, begin, block_step as values_block_step, step_in as values_step_in, step}
+use Rattle.vcode.specs.Prelude.{located, unknown, leads_inside, alloc_bytes, State, begin, block_step as values_block_step, step_in as values_step_in, step}
 use Rattle.flat_code.specs.Spots.{Bases}
 use Rattle.flat_code.specs.Step.{FlatState, flat_begin, block_step, step_in, flat_step}
 use Rattle.flat_code.specs.Laws.{RegularIsKept}

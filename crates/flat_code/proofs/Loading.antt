@@ -3,11 +3,11 @@ use Rattle.std.proofs.Common.{◌≡◌, ℕ, ◌+◌, ◌%◌, ◌^◌, ◌<◌
 use Rattle.il_ast.specs.declared.value.Value.{Value}
 use Rattle.il_ast.specs.declared.value.Value.TheVariants.{Integer, Pointer, Function}
 use Rattle.il_ast.specs.declared.value.Cell.{Cell}
-use Rattle.il_ast.specs.Memory.{Memory, cells_at, value_of, load}
+use Rattle.il_ast.specs.Prelude.{Memory, cells_at, value_of, load}
 use Rattle.rv_isa.specs.declared.instruction.LoadOp.{LoadOp}
 use Rattle.rv_isa.specs.declared.instruction.LoadOp.TheVariants.{Lb, Lh, Lw, Ld, Lbu, Lhu, Lwu}
-use Rattle.rv_isa.specs.Step.{load_size, load_value}
-use Rattle.vcode.specs.Operations.{narrowed, extended, loaded}
+use Rattle.rv_isa.specs.Prelude.{load_size, load_value}
+use Rattle.vcode.specs.Prelude.{narrowed, extended, loaded}
 use Rattle.flat_code.specs.Spots.{Bases, Entries, Spots, Shows, ShowsMemory}
 use Rattle.flat_code.specs.Step.{known_number}
 use Rattle.flat_code.proofs.Shown.{Follows, none_follows}

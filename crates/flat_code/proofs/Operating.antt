@@ -11,15 +11,13 @@ use Rattle.il_ast.specs.declared.value.Callee.{Callee}
 use Rattle.il_ast.specs.declared.value.Callee.TheVariants.{Defined, SystemWrite, SystemExit}
 use Rattle.il_ast.specs.declared.value.Value.{Value}
 use Rattle.il_ast.specs.declared.value.Value.TheVariants.{Integer, Pointer, Function}
-use Rattle.il_ast.specs.Values.{in_place, same_callee}
-use Rattle.il_ast.specs.Memory.{Memory}
-use Rattle.il_ast.specs.Operations.{holds, truth, where_different, on_offsets, on_functions, reaches, lies_in, compare_places, compare_with_zero, operate_two}
+use Rattle.il_ast.specs.Prelude.{in_place, same_callee, Memory, holds, truth, where_different, on_offsets, on_functions, reaches, lies_in, compare_places, compare_with_zero, operate_two}
 use Rattle.rv_isa.specs.declared.instruction.RegOp.{RegOp}
 use Rattle.rv_isa.specs.declared.instruction.RegOp.TheVariants.{Add, Sub}
-use Rattle.rv_isa.specs.Arithmetic.{reg_value, regw_value}
+use Rattle.rv_isa.specs.Prelude.{reg_value, regw_value}
 use Rattle.vcode.specs.declared.line.Operation.{Operation}
 use Rattle.vcode.specs.declared.line.Operation.TheVariants.{Reg, RegW, Compare}
-use Rattle.vcode.specs.Operations.{reg_on_places, operate}
+use Rattle.vcode.specs.Prelude.{reg_on_places, operate}
 use Rattle.flat_code.specs.Spots.{Bases, Entries, Spots, Shows, ShowsMemory, AreEntries}
 use Rattle.flat_code.specs.Step.{taken, computed}
 use Rattle.flat_code.proofs.Shown.{taken_shown}

@@ -4,7 +4,7 @@ use Rattle.std.specs.Option.{option_map, option_flatten}
 use Rattle.std.proofs.lemmas.Option.{slice_get_past, none-some}
 use Rattle.std.proofs.lemmas.Bool.{eqb-true, eqb-false}
 use Rattle.il_ast.specs.declared.value.Cell.{Cell}
-use Rattle.il_ast.specs.Memory.{Memory, block_at, size_at, free, free_all}
+use Rattle.il_ast.specs.Prelude.{Memory, block_at, size_at, free, free_all}
 use Rattle.flat_code.specs.Spots.{NoAccess, Spots, Bases, Entries, Grown, ShowsMemory, AreEntries, Clear, SameReach, SameBlocks}
 use Rattle.flat_code.proofs.Changing.{block_other}
 

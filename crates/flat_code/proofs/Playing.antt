@@ -1,8 +1,6 @@
 -- A code on bytes that goes beside a code on blocks, one step for one, plays it.
 use Rattle.std.proofs.Common.{◌≡◌, ℕ, zero, suc, [], ◌∷◌, sym, subst}
-use Rattle.il_ast.specs.Run.{Outcome}
-use Rattle.il_ast.specs.Logged.{Next, On, Over, Event, Does, Calls, LoggedNext, LoggedEvent, Logged}
-use Rattle.il_ast.specs.Keeps.{Asked, Log, Fine}
+use Rattle.il_ast.specs.Prelude.{Outcome, Next, On, Over, Event, Does, Calls, LoggedNext, LoggedEvent, Logged, Asked, Log, Fine}
 use Rattle.flat_code.specs.Spots.{Bases, Grown}
 use Rattle.flat_code.specs.Flat.{FlatAsked, FlatOutcome, ShowsAsked, ShowsOutcome, Frame, PlaysNext, PlaysEvent, Plays}
 

@@ -9,8 +9,7 @@ use Rattle.il_ast.specs.declared.value.Value.{Value}
 use Rattle.il_ast.specs.declared.value.Value.TheVariants.{Integer, Pointer, Function}
 use Rattle.il_ast.specs.declared.value.Cell.{Cell}
 use Rattle.il_ast.specs.declared.value.Cell.TheVariants.{Plain, Part, Blank}
-use Rattle.il_ast.specs.Values.{number_of, same_value}
-use Rattle.il_ast.specs.Memory.{Memory, block_at, cells_at, span, plain_bytes, are_parts_from, value_of}
+use Rattle.il_ast.specs.Prelude.{number_of, same_value, Memory, block_at, cells_at, span, plain_bytes, are_parts_from, value_of}
 use Rattle.flat_code.specs.Spots.{Spot, NoAccess, AnyByte, ThisByte, Spots, Bases, Entries, Shows, ShowsCell, ShowsMemory}
 use Rattle.flat_code.specs.Step.{read_spot, known_number, is_there, all_there}
 use Rattle.flat_code.proofs.Shown.{shown_by_one}

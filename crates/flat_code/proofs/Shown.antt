@@ -6,8 +6,7 @@ use Rattle.il_ast.specs.declared.operation.Class.{Class}
 use Rattle.il_ast.specs.declared.operation.Class.TheVariants.{W, L}
 use Rattle.il_ast.specs.declared.value.Value.{Value}
 use Rattle.il_ast.specs.declared.value.Value.TheVariants.{Integer, Pointer, Function}
-use Rattle.il_ast.specs.Values.{in_place}
-use Rattle.il_ast.specs.Keeps.{Passes, AreArgs}
+use Rattle.il_ast.specs.Prelude.{in_place, Passes, AreArgs}
 use Rattle.vcode.specs.declared.place.Location.{Location}
 use Rattle.vcode.specs.declared.place.Operand.{Operand}
 use Rattle.vcode.specs.declared.place.Operand.TheVariants.{At, Number, Name}
@@ -15,9 +14,7 @@ use Rattle.vcode.specs.declared.place.Destination.{Destination}
 use Rattle.vcode.specs.declared.place.Extension.{Extension}
 use Rattle.vcode.specs.declared.place.Extension.TheVariants.{Made, Claimed}
 use Rattle.vcode.specs.declared.place.Argument.{Argument}
-use Rattle.vcode.specs.Operations.{held as value_held, is_extended, stands_extended, passed as value_passed}
-use Rattle.vcode.specs.Places.{Values, assign, put as put_value, kept as values_kept, same_location, is_callers, located}
-use Rattle.vcode.specs.Step.{bound as values_bound, value_of, read as value_read, read_argument as value_argument, read_all as values_read}
+use Rattle.vcode.specs.Prelude.{held as value_held, is_extended, stands_extended, passed as value_passed, Values, assign, put as put_value, kept as values_kept, same_location, is_callers, located, bound as values_bound, value_of, read as value_read, read_argument as value_argument, read_all as values_read}
 use Rattle.flat_code.specs.Spots.{Bases, Entries, Grown, Shows, AllShow}
 use Rattle.flat_code.specs.Step.{Numbers, put, kept, held, taken, passed, bound, number_of, read, read_argument, read_all}
 

@@ -4,8 +4,7 @@ use Rattle.std.proofs.lemmas.Bool.Decides.{nat_tests}
 use Rattle.std.specs.Option.{option_map, option_map_or}
 use Rattle.il_ast.specs.declared.value.Value.TheVariants.{Pointer}
 use Rattle.il_ast.specs.declared.value.Cell.{Cell}
-use Rattle.il_ast.specs.Memory.{Memory, block_at}
-use Rattle.il_ast.specs.Operations.{reaches, lies_in}
+use Rattle.il_ast.specs.Prelude.{Memory, block_at, reaches, lies_in}
 use Rattle.flat_code.specs.Spots.{Bases, Entries, Spots, Shows, ShowsMemory, IsPlaced}
 use Rattle.std.proofs.lemmas.Option.{same_Some}
 

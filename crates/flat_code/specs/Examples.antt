@@ -4,9 +4,7 @@ use Rattle.il_ast.specs.declared.operation.Class.{Class}
 use Rattle.il_ast.specs.declared.operation.Class.TheVariants.{W, L}
 use Rattle.il_ast.specs.declared.operation.Size.TheVariants.{Byte, Long}
 use Rattle.il_ast.specs.declared.value.Value.TheVariants.{Integer}
-use Rattle.il_ast.specs.Run.{Returned}
-use Rattle.il_ast.specs.Logged.{On, Over, Does, Calls, Logged}
-use Rattle.il_ast.specs.Keeps.{Given}
+use Rattle.il_ast.specs.Prelude.{Returned, On, Over, Does, Calls, Logged, Given}
 use Rattle.rv_isa.specs.declared.instruction.RegOp.TheVariants.{Add, Sub}
 use Rattle.rv_isa.specs.declared.instruction.LoadOp.TheVariants.{Lb, Ld}
 use Rattle.vcode.specs.declared.place.Location.{Location}
@@ -14,13 +12,9 @@ use Rattle.vcode.specs.declared.place.Location.TheVariants.{Register}
 use Rattle.vcode.specs.declared.place.Operand.{Operand}
 use Rattle.vcode.specs.declared.place.Operand.TheVariants.{At, Number, Name}
 use Rattle.vcode.specs.declared.line.Operation.TheVariants.{Reg}
-use Rattle.vcode.specs.Addresses.{at_once}
+use Rattle.vcode.specs.Prelude.{at_once, destination, straight, located, IsRegular, area, begin, step}
 use Rattle.vcode.specs.declared.line.Line.TheVariants.{Tick, Operate, Load, Store, Alloc, Blit}
 use Rattle.vcode.specs.declared.code.Code.{Code}
-use Rattle.vcode.specs.ExampleCodes.{destination, straight}
-use Rattle.vcode.specs.Places.{located}
-use Rattle.vcode.specs.Regular.{IsRegular, area}
-use Rattle.vcode.specs.Step.{begin, step}
 use Rattle.flat_code.specs.Spots.{NoAccess, Spots, Bases, Entries, AreEntries, AllShow}
 use Rattle.flat_code.specs.Flat.{FlatGiven, FlatReturned, FlatEnded, ShowsGiven}
 use Rattle.flat_code.specs.Step.{FlatState, FlatEvent, flat_begin, flat_step}

@@ -4,10 +4,7 @@ use Rattle.std.specs.Prelude.{◌≡◌, ℕ, zero, suc, ◌+◌, ◌^◌, ◌<�
 use Rattle.il_ast.specs.declared.operation.Class.{Class}
 use Rattle.il_ast.specs.declared.value.Value.{Value}
 use Rattle.il_ast.specs.declared.value.End.{End}
-use Rattle.il_ast.specs.Memory.{Memory}
-use Rattle.il_ast.specs.Run.{Spent, both, Outcome, Returned, Ended}
-use Rattle.il_ast.specs.Logged.{Next, On, Over, Event, Does, Calls, Logged}
-use Rattle.il_ast.specs.Keeps.{Asked, Given, AreArgs, Suits, Log, Fine}
+use Rattle.il_ast.specs.Prelude.{Memory, Spent, both, Outcome, Returned, Ended, Next, On, Over, Event, Does, Calls, Logged, Asked, Given, AreArgs, Suits, Log, Fine}
 use Rattle.flat_code.specs.Spots.{Entries, Bases, Spots, AreEntries, Grown, AllShow, ShowsResult, ShowsMemory, Clear, SameReach, SameBlocks}
 
 -- what a body is given: the turns that are left, the room for its own calls, its arguments as

@@ -2,9 +2,7 @@
 use Rattle.std.specs.Prelude.{map}
 use Rattle.vcode.specs.declared.place.Location.{Location}
 use Rattle.vcode.specs.declared.code.Code.{Code}
-use Rattle.vcode.specs.Places.{located}
-use Rattle.vcode.specs.Regular.{IsRegular, area}
-use Rattle.vcode.specs.Step.{begin, step}
+use Rattle.vcode.specs.Prelude.{located, IsRegular, area, begin, step}
 use Rattle.flat_code.specs.Flat.{Names, KeepsFlat}
 use Rattle.flat_code.specs.Step.{flat_begin, flat_step}
 

@@ -7,7 +7,7 @@ use Rattle.il_ast.specs.declared.value.Value.{Value}
 use Rattle.il_ast.specs.declared.value.Value.TheVariants.{Integer, Pointer, Function}
 use Rattle.il_ast.specs.declared.value.Cell.{Cell}
 use Rattle.il_ast.specs.declared.value.Cell.TheVariants.{Plain, Part, Blank}
-use Rattle.il_ast.specs.Memory.{Memory, block_at, size_at}
+use Rattle.il_ast.specs.Prelude.{Memory, block_at, size_at}
 
 -- what is known of the byte at an address: no access is allowed; any byte; this byte
 pub data Spot : Type 0 where

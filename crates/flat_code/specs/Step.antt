@@ -9,15 +9,9 @@ use Rattle.bits.specs.Words.{sign_extended}
 use Rattle.il_ast.specs.declared.operation.Class.{Class}
 use Rattle.il_ast.specs.declared.operation.Class.TheVariants.{W, L}
 use Rattle.il_ast.specs.declared.value.End.TheVariants.{Halt as Halted, Undefined, Turns}
-use Rattle.il_ast.specs.Values.{byte_count}
-use Rattle.il_ast.specs.Operations.{holds, truth}
-use Rattle.il_ast.specs.Effect.{stored_class}
-use Rattle.il_ast.specs.Cost.{round_16}
-use Rattle.il_ast.specs.Run.{Spent, nothing, one_turn, both}
-use Rattle.il_ast.specs.Logged.{Next, On, Over, Event, Does, Calls}
+use Rattle.il_ast.specs.Prelude.{byte_count, holds, truth, stored_class, round_16, Spent, nothing, one_turn, both, Next, On, Over, Event, Does, Calls}
 use Rattle.rv_isa.specs.declared.instruction.RegOp.TheVariants.{Add}
-use Rattle.rv_isa.specs.Arithmetic.{reg_value, regw_value}
-use Rattle.rv_isa.specs.Step.{load_size, load_value}
+use Rattle.rv_isa.specs.Prelude.{reg_value, regw_value, load_size, load_value}
 use Rattle.vcode.specs.declared.place.Location.{Location}
 use Rattle.vcode.specs.declared.place.Operand.{Operand}
 use Rattle.vcode.specs.declared.place.ReturnValue.{ReturnValue}
@@ -36,11 +30,7 @@ use Rattle.vcode.specs.declared.line.Jump.{Jump}
 use Rattle.vcode.specs.declared.line.Jump.TheVariants.{Goto, Branch, Return, Halt}
 use Rattle.vcode.specs.declared.code.Block.{Block}
 use Rattle.vcode.specs.declared.code.Code.{Code}
-use Rattle.vcode.specs.Addresses.{distance}
-use Rattle.vcode.specs.Operations.{is_extended}
-use Rattle.vcode.specs.Places.{same_location, is_callers}
-use Rattle.vcode.specs.Regular.{area}
-use Rattle.vcode.specs.Step.{weighs}
+use Rattle.vcode.specs.Prelude.{distance, is_extended, same_location, is_callers, area, weighs}
 use Rattle.flat_code.specs.Spots.{Spot, NoAccess, AnyByte, ThisByte, Spots}
 use Rattle.flat_code.specs.Flat.{FlatGiven, FlatAsked, FlatOutcome, FlatReturned, FlatEnded}
 

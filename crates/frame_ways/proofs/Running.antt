@@ -4,9 +4,7 @@ use Rattle.std.proofs.lemmas.Bool.{and_parts, eqb-true}
 use Rattle.il_ast.proofs.Listed.{get_mapped}
 use Rattle.il_ast.specs.declared.operation.Class.{Class}
 use Rattle.il_ast.specs.declared.value.End.TheVariants.{Turns}
-use Rattle.il_ast.specs.Logged.{On, Over, Does, Entry, Logged}
-use Rattle.il_ast.specs.Run.{one_turn, both}
-use Rattle.il_ast.specs.Simulation.{Matches, MatchesEvent, Simulates, TogetherNext, Together}
+use Rattle.il_ast.specs.Prelude.{On, Over, Does, Entry, Logged, one_turn, both, Matches, MatchesEvent, Simulates, TogetherNext, Together}
 use Rattle.il_ast.proofs.Simulated.{simulated, event_together}
 use Rattle.vcode.specs.declared.place.Location.{Location}
 use Rattle.vcode.specs.declared.place.Destination.{Destination}
@@ -18,7 +16,7 @@ use Rattle.vcode.specs.declared.line.Jump.{Jump}
 use Rattle.vcode.specs.declared.line.Jump.TheVariants.{Goto, Branch, Return, Halt}
 use Rattle.vcode.specs.declared.code.Block.{Block}
 use Rattle.vcode.specs.declared.code.Code.{Code}
-use Rattle.vcode.specs.Regular.{area}
+use Rattle.vcode.specs.Prelude.{area}
 use Rattle.flat_code.specs.Spots.{Spots}
 use Rattle.flat_code.specs.Flat.{FlatGiven, FlatAsked, FlatOutcome, FlatReturned, FlatEnded}
 use Rattle.flat_code.specs.Step.{FlatState, FlatEvent, kept, number_of, read_all, read_result, closed, sets, changes, calls, receives, resumes, enters, compared, branches, leaves, returns, returns_as, flat_begin, flat_line, flat_jump, block_step, step_in, flat_step}

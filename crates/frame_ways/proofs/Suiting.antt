@@ -15,9 +15,7 @@ use Rattle.vcode.specs.declared.line.Jump.TheVariants.{Goto, Branch, Return, Hal
 use Rattle.vcode.specs.declared.code.Block.{Block}
 use Rattle.vcode.specs.declared.code.Code.{Code}
 use Rattle.vcode.specs.declared.function.LFunc.{LFunc}
-use Rattle.vcode.specs.Named.{is_place, line_keeps, jump_keeps, block_keeps}
-use Rattle.vcode.specs.Cost.{line_cost, jump_cost, affords, is_paid}
-use Rattle.vcode.specs.Regular.{area, alloc_bytes, allocs_first, is_alloc, is_target, leads_inside, turns_of, passes_few}
+use Rattle.vcode.specs.Prelude.{is_place, line_keeps, jump_keeps, block_keeps, line_cost, jump_cost, affords, is_paid, area, alloc_bytes, allocs_first, is_alloc, is_target, leads_inside, turns_of, passes_few}
 use Rattle.frame_ways.specs.declared.mark.Mark.{Mark}
 use Rattle.frame_ways.specs.declared.mark.Mark.TheVariants.{Bare, Begin, Framed}
 use Rattle.frame_ways.specs.declared.plan.Part.{Part}

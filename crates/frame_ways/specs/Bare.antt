@@ -5,7 +5,7 @@ use Rattle.vcode.specs.declared.place.Location.{Location}
 use Rattle.vcode.specs.declared.line.Line.{Line}
 use Rattle.vcode.specs.declared.line.Line.TheVariants.{Alloc, Call}
 use Rattle.vcode.specs.declared.code.Block.{Block}
-use Rattle.vcode.specs.Named.{is_place, line_keeps, jump_keeps}
+use Rattle.vcode.specs.Prelude.{is_place, line_keeps, jump_keeps}
 use Rattle.frame_ways.specs.Written.{is_register, writes, callee_saved}
 
 -- a register, and none that a callee keeps

@@ -2,10 +2,10 @@
 -- that it was made from.
 use Rattle.std.specs.Prelude.{◌≡◌, ℕ, List}
 use Rattle.il_ast.specs.declared.value.End.TheVariants.{Exit, Halt, Undefined, Stack, Turns}
-use Rattle.il_ast.specs.Logged.{Entry, Logged}
+use Rattle.il_ast.specs.Prelude.{Entry, Logged}
 use Rattle.vcode.specs.declared.place.Location.{Location}
 use Rattle.vcode.specs.declared.code.Code.{Code}
-use Rattle.vcode.specs.Regular.{area}
+use Rattle.vcode.specs.Prelude.{area}
 use Rattle.flat_code.specs.Flat.{FlatGiven, FlatAsked, FlatOutcome, FlatReturned, FlatEnded}
 use Rattle.flat_code.specs.Step.{flat_begin, flat_step}
 use Rattle.frame_ways.specs.declared.mark.Mark.{Mark}

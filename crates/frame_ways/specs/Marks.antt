@@ -9,10 +9,7 @@ use Rattle.vcode.specs.declared.line.Jump.{Jump}
 use Rattle.vcode.specs.declared.line.Jump.TheVariants.{Goto, Branch}
 use Rattle.vcode.specs.declared.code.Block.{Block}
 use Rattle.vcode.specs.declared.code.Code.{Code}
-use Rattle.vcode.specs.Places.{located}
-use Rattle.vcode.specs.Named.{is_place, block_keeps, are_near, are_distinct}
-use Rattle.vcode.specs.Cost.{affords, is_paid}
-use Rattle.vcode.specs.Regular.{leads_inside, turns_of, passes_few, is_alloc}
+use Rattle.vcode.specs.Prelude.{located, is_place, block_keeps, are_near, are_distinct, affords, is_paid, leads_inside, turns_of, passes_few, is_alloc}
 use Rattle.frame_ways.specs.declared.mark.Mark.{Mark}
 use Rattle.frame_ways.specs.declared.mark.Mark.TheVariants.{Bare, Begin, Framed}
 use Rattle.frame_ways.specs.Bare.{is_bare_place, is_bare_block}

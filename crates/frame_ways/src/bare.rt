@@ -1,7 +1,7 @@
 //! Blocks that need no frame.
 ghost use Rattle.std.specs.Prelude.{◌≡◌, not};
 ghost use Rattle.std.specs.List.{list_all, list_any};
-ghost use Rattle.vcode.specs.Named.{is_place, operand_keeps, jump_keeps};
+ghost use Rattle.vcode.specs.Prelude.{is_place, operand_keeps, jump_keeps};
 ghost use Rattle.frame_ways.specs.Written.{is_register, receives, makes_in, writes, callee_saved};
 ghost use Rattle.frame_ways.specs.Bare.{is_bare_place, touches_no_slot, is_bare_line, is_bare_block};
 

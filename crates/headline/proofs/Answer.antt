@@ -1,10 +1,7 @@
 -- From a run on bytes whose calls are open, and callees that are kept: a run on bytes with the list of its calls, each of which the machine performs.
 use Rattle.std.proofs.Common.{◌≡◌, ℕ, zero, suc, List, [], ◌∷◌, refl, sym, subst, Option}
 use Rattle.il_ast.specs.declared.operation.Class.{Class}
-use Rattle.il_ast.specs.Memory.{Memory}
-use Rattle.il_ast.specs.Run.{Outcome, Returned, Ended, Callees}
-use Rattle.il_ast.specs.Logged.{Next, On, Over, Event, Does, Calls, Entry, LoggedNext, LoggedEvent, Logged}
-use Rattle.il_ast.specs.Keeps.{Log, AllGo}
+use Rattle.il_ast.specs.Prelude.{Memory, Outcome, Returned, Ended, Callees, Next, On, Over, Event, Does, Calls, Entry, LoggedNext, LoggedEvent, Logged, Log, AllGo}
 use Rattle.flat_code.specs.Spots.{Spots, Bases, Entries, Grown}
 use Rattle.flat_code.specs.Flat.{FlatAsked, FlatOutcome, FlatReturned, FlatEnded, ShowsAsked, ShowsOutcome, Frame, PlaysNext, PlaysEvent, Plays}
 use Rattle.abi_frames.specs.Calls.{GoodStack}

@@ -3,10 +3,8 @@ use Rattle.std.proofs.Common.{◌≡◌, ◌⊎◌, inl, inr, ℕ, zero, suc, �
 use Rattle.il_ast.specs.declared.program.Program.{Program}
 use Rattle.il_ast.specs.declared.value.End.{End}
 use Rattle.il_ast.specs.declared.value.End.TheVariants.{Exit, Halt, Undefined, Stack, Turns}
-use Rattle.il_ast.specs.Meaning.{meaning}
-use Rattle.rv_isa.specs.State.{State}
-use Rattle.rv_isa.specs.Step.{Stop as Ending, Exited, Broken, Faulted, step}
-use Rattle.rv_isa.specs.Runs.{Run, Going, Stopped, then_run, runs}
+use Rattle.il_ast.specs.Prelude.{meaning}
+use Rattle.rv_isa.specs.Prelude.{State, Stop as Ending, Exited, Broken, Faulted, step, Run, Going, Stopped, then_run, runs}
 use Rattle.rv_machine.specs.declared.stop.Stop.{Stop}
 use Rattle.rv_machine.specs.declared.stop.Stop.TheVariants.{Exit as ExitStop, Break, Limit, Memory, Fault}
 use Rattle.rv_machine.specs.Runs.{RunEnds, StopsWith, GoesOn, WantsMemory}

@@ -1,7 +1,7 @@
 -- Blocks at addresses, one list beside the other: from them the memory that they show.
 use Rattle.std.proofs.Common.{◌≡◌, ◌≢◌, ◌⊎◌, inl, inr, ℕ, zero, suc, ◌+◌, ◌^◌, ◌<◌, ◌≤◌, List, [], ◌∷◌, ◌++◌, length, refl, sym, ◌∙◌, subst, ap, arith, slice_get, Some, None}
 use Rattle.il_ast.specs.declared.value.Cell.{Cell}
-use Rattle.il_ast.specs.Memory.{Memory, block_at}
+use Rattle.il_ast.specs.Prelude.{Memory, block_at}
 use Rattle.flat_code.specs.Spots.{ThisByte, Spots, Bases, Entries, ShowsCell, ShowsMemory}
 
 -- ---- one block

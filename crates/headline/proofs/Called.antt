@@ -9,12 +9,8 @@ use Rattle.il_ast.specs.declared.program.InText.{InText}
 use Rattle.il_ast.specs.declared.program.Program.{Program}
 use Rattle.il_ast.specs.declared.value.Value.{Value}
 use Rattle.il_ast.specs.declared.value.End.TheVariants.{Exit, Halt, Undefined, Stack, Turns}
-use Rattle.il_ast.specs.Memory.{Memory}
-use Rattle.il_ast.specs.Cost.{need}
-use Rattle.il_ast.specs.Run.{nothing, one_call, both, Outcome, Returned, Ended, after}
-use Rattle.il_ast.specs.Meaning.{same_classes, result_fits, call_fits, call_function, callees}
-use Rattle.il_ast.specs.Keeps.{Asked, Given, AreArgs, Suits}
-use Rattle.rv_isa.specs.State.{State}
+use Rattle.il_ast.specs.Prelude.{Memory, need, nothing, one_call, both, Outcome, Returned, Ended, after, same_classes, result_fits, call_fits, call_function, callees, Asked, Given, AreArgs, Suits}
+use Rattle.rv_isa.specs.Prelude.{State}
 use Rattle.flat_code.specs.Spots.{Spots, Bases, Entries}
 use Rattle.flat_code.specs.Flat.{FlatGiven, FlatOutcome, FlatReturned, FlatEnded, flat_after, ShowsGiven, ShowsOutcome}
 use Rattle.abi_frames.specs.Calls.{World, GoodStack, Ready, ResultIn}

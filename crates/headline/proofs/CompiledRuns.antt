@@ -7,24 +7,14 @@ use Rattle.il_ast.specs.declared.program.Program.{Program}
 use Rattle.il_ast.specs.declared.program.Target.{Target}
 use Rattle.il_ast.specs.declared.program.Target.TheVariants.{Code, Object}
 use Rattle.il_ast.specs.declared.value.Callee.TheVariants.{Defined, SystemWrite, SystemExit}
-use Rattle.il_ast.specs.Cost.{need, round_16}
-use Rattle.il_ast.specs.Start.{target_value, values_of, globals_of}
-use Rattle.il_ast.specs.Passes.{classes_of}
-use Rattle.vcode.specs.Places.{located}
-use Rattle.vcode.specs.Regular.{area}
-use Rattle.vcode.specs.Coded.{coded}
-use Rattle.vcode.specs.Step.{begin, step}
+use Rattle.il_ast.specs.Prelude.{need, round_16, target_value, values_of, globals_of, classes_of}
+use Rattle.vcode.specs.Prelude.{located, area, coded, begin, step}
 use Rattle.flat_code.specs.Spots.{AllShow}
 use Rattle.flat_code.specs.Step.{flat_begin, flat_step}
 use Rattle.abi_frames.specs.Layout.{frame_size}
-use Rattle.rv_isa.specs.Words.{Words}
-use Rattle.rv_isa.specs.State.{State}
+use Rattle.rv_isa.specs.Prelude.{Words, State}
 use Rattle.obj_link.specs.declared.placing.addresses.Addresses.{Addresses}
-use Rattle.obj_link.specs.Image.{IsImage, functions_start}
-use Rattle.obj_link.specs.Limits.{object_size}
-use Rattle.obj_link.specs.Placed.{objects_start, objects_end, addresses_of, target_address, name_address, contents_of, calls_reach, FitsBelow, EveryCode}
-use Rattle.obj_link.specs.ImageOf.{object_addresses}
-use Rattle.obj_link.specs.Laws.{IsThere}
+use Rattle.obj_link.specs.Prelude.{IsImage, functions_start, object_size, objects_start, objects_end, addresses_of, target_address, name_address, contents_of, calls_reach, FitsBelow, EveryCode, object_addresses, IsThere}
 use Rattle.obj_link.proofs.AddressLemmas.{objects_rise}
 use Rattle.elf_file.specs.Loaded.{Executable}
 use Rattle.elf_file.specs.Stands.{Stands}

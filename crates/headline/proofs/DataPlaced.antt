@@ -20,22 +20,12 @@ use Rattle.il_ast.specs.declared.value.Cell.{Cell}
 use Rattle.il_ast.specs.declared.value.Cell.TheVariants.{Plain, Part, Blank}
 use Rattle.il_ast.specs.declared.value.Value.{Value}
 use Rattle.il_ast.specs.declared.value.Value.TheVariants.{Integer, Pointer, Function}
-use Rattle.il_ast.specs.Values.{bytes_of, byte_count}
-use Rattle.il_ast.specs.Cost.{round_16}
-use Rattle.il_ast.specs.Memory.{parts}
-use Rattle.il_ast.specs.Start.{target_value, values_of, globals_of, address_cells, item_cells, field_cells, object_cells}
-use Rattle.rv_isa.specs.Words.{Words}
+use Rattle.il_ast.specs.Prelude.{bytes_of, byte_count, round_16, parts, target_value, values_of, globals_of, address_cells, item_cells, field_cells, object_cells}
+use Rattle.rv_isa.specs.Prelude.{Words, filled, all_reach, WordsStand, State}
 use Rattle.std.proofs.lemmas.Bool.{and_parts}
-use Rattle.rv_isa.specs.Laid.{filled, all_reach, WordsStand}
-use Rattle.rv_isa.specs.State.{State}
 use Rattle.asm_layout.proofs.Filling.{filled_length}
 use Rattle.obj_link.specs.declared.placing.addresses.Addresses.{Addresses}
-use Rattle.obj_link.specs.Image.{IsImage, code_start, image_end, round_to_page, data_start, functions_start, write_address, exit_address}
-use Rattle.obj_link.specs.Limits.{item_size, field_size, object_size}
-use Rattle.obj_link.specs.Natives.{start_words, write_words, exit_words}
-use Rattle.obj_link.specs.Placed.{function_addresses, functions_end, objects_end, objects_start, addresses_of, name_address, functions_words, functions_reach, contents_of, FitsBelow, EveryCode}
-use Rattle.obj_link.specs.ImageOf.{object_addresses, callee_address, value_number, cell_byte, in_slots, object_bytes}
-use Rattle.obj_link.specs.Laws.{IsThere}
+use Rattle.obj_link.specs.Prelude.{IsImage, code_start, image_end, round_to_page, data_start, functions_start, write_address, exit_address, item_size, field_size, object_size, start_words, write_words, exit_words, function_addresses, functions_end, objects_end, objects_start, addresses_of, name_address, functions_words, functions_reach, contents_of, FitsBelow, EveryCode, object_addresses, callee_address, value_number, cell_byte, in_slots, object_bytes, IsThere}
 use Rattle.obj_link.proofs.AddressLemmas.{objects_rise, functions_rise}
 use Rattle.obj_link.proofs.ThereLemmas.{what_names_mean}
 use Rattle.elf_file.specs.declared.flags.Flags.TheVariants.{ReadWrite}

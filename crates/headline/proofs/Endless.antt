@@ -1,10 +1,8 @@
 -- A machine that executes a program that never ends runs on, and what it has put out stands in front of what it puts out later.
 use Rattle.std.proofs.Common.{◌≡◌, ℕ, zero, suc, ◌+◌, ◌-◌, ◌*◌, ◌≤◌, ◌++◌, [], List, Result, Ok, Err, refl, sym, ◌∙◌, ap, subst, arith, append-nil}
 use Rattle.il_ast.specs.declared.program.Program.{Program}
-use Rattle.il_ast.specs.Meaning.{meaning}
-use Rattle.rv_isa.specs.State.{State}
-use Rattle.rv_isa.specs.Step.{Stop, step}
-use Rattle.rv_isa.specs.Runs.{Run, Going, Stopped, then_run, runs}
+use Rattle.il_ast.specs.Prelude.{meaning}
+use Rattle.rv_isa.specs.Prelude.{State, Stop, step, Run, Going, Stopped, then_run, runs}
 use Rattle.rv_machine.proofs.OutputLaws.{after_output, run_after, runs_after}
 use Rattle.headline.specs.Headline.{GoesOnSo, Executes}
 use Rattle.headline.specs.Endless.{NeverEnds, IsBeginning, RunsOn, EndlessProgramsRunOn}

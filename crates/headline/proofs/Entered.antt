@@ -4,11 +4,8 @@ use Rattle.il_ast.specs.declared.operation.Class.TheVariants.{W}
 use Rattle.il_ast.specs.declared.function.Param.{Param}
 use Rattle.il_ast.specs.declared.program.Program.{Program}
 use Rattle.il_ast.specs.declared.value.Value.TheVariants.{Integer}
-use Rattle.il_ast.specs.Run.{Outcome}
-use Rattle.il_ast.specs.Start.{start_memory}
-use Rattle.il_ast.specs.Meaning.{callees, main_call, main_classes, main_args, params_of, stack_room, outcome}
-use Rattle.il_ast.specs.Keeps.{Asked, AreArgs}
-use Rattle.rv_isa.specs.State.{State}
+use Rattle.il_ast.specs.Prelude.{Outcome, start_memory, callees, main_call, main_classes, main_args, params_of, stack_room, outcome, Asked, AreArgs}
+use Rattle.rv_isa.specs.Prelude.{State}
 use Rattle.flat_code.specs.Flat.{FlatGiven, FlatAsked}
 use Rattle.headline.specs.Knot.{Setting, IsSetting, KeptCall}
 use Rattle.headline.specs.Natives.{NativesPerform}

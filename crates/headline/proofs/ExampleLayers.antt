@@ -6,21 +6,9 @@ use Rattle.il_ast.specs.declared.function.Param.{Param}
 use Rattle.il_ast.specs.declared.program.InText.{InText}
 use Rattle.il_ast.specs.declared.function.Func.{Func}
 use Rattle.il_ast.specs.declared.value.End.TheVariants.{Halt, Turns}
-use Rattle.il_ast.specs.Memory.{Memory}
-use Rattle.il_ast.specs.Cost.{need}
-use Rattle.il_ast.specs.Start.{globals_of}
-use Rattle.il_ast.specs.Effect.{effect}
-use Rattle.il_ast.specs.Run.{nothing, one_turn, one_call, Outcome, Callees, run, begun}
-use Rattle.il_ast.specs.ExamplePrograms.{halts}
-use Rattle.il_ast.specs.Logged.{Entry, Logged}
-use Rattle.il_ast.specs.Keeps.{Given, Log, KeepsMeaning}
+use Rattle.il_ast.specs.Prelude.{Memory, need, globals_of, effect, nothing, one_turn, one_call, Outcome, Callees, run, begun, halts, Entry, Logged, Given, Log, KeepsMeaning}
 use Rattle.rv_isa.specs.declared.instruction.Instr.TheVariants.{Ebreak}
-use Rattle.rv_isa.specs.State.{State}
-use Rattle.rv_isa.specs.Memory.{number_at, each_of}
-use Rattle.rv_isa.specs.Decoding.{instruction_of, candidate_at}
-use Rattle.rv_isa.specs.Step.{Broken}
-use Rattle.rv_isa.specs.Runs.{Stopped, runs, then_run}
-use Rattle.rv_isa.specs.Labelled.{Fixed, InstrAt}
+use Rattle.rv_isa.specs.Prelude.{State, number_at, each_of, instruction_of, candidate_at, Broken, Stopped, runs, then_run, Fixed, InstrAt}
 use Rattle.rv_isa.proofs.StepLemmas.{step_at}
 use Rattle.rv_isa.proofs.RunLemmas.{comes_here}
 use Rattle.flat_code.specs.Spots.{Spots, Bases}

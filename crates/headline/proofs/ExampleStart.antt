@@ -9,22 +9,14 @@ use Rattle.il_ast.specs.declared.value.Callee.{Callee}
 use Rattle.il_ast.specs.declared.value.Callee.TheVariants.{Defined, SystemWrite, SystemExit}
 use Rattle.il_ast.specs.declared.value.Cell.{Cell}
 use Rattle.il_ast.specs.declared.value.Cell.TheVariants.{Plain}
-use Rattle.il_ast.specs.Memory.{block_at}
-use Rattle.il_ast.specs.Start.{start_memory}
-use Rattle.il_ast.specs.Meaning.{stack_room}
-use Rattle.il_ast.specs.ExamplePrograms.{halts}
+use Rattle.il_ast.specs.Prelude.{block_at, start_memory, stack_room, halts}
 use Rattle.rv_isa.specs.declared.instruction.Instr.{Instr}
 use Rattle.rv_isa.specs.declared.instruction.Instr.TheVariants.{Imm, Ecall}
 use Rattle.rv_isa.specs.declared.instruction.ImmOp.TheVariants.{Addi}
-use Rattle.rv_isa.specs.State.{State, updated}
-use Rattle.rv_isa.specs.Memory.{number_at, each_of}
-use Rattle.rv_isa.specs.Step.{Exited, step}
-use Rattle.rv_isa.specs.Runs.{Stopped, runs, then_run}
+use Rattle.rv_isa.specs.Prelude.{State, updated, number_at, each_of, Exited, step, Stopped, runs, then_run, stack_top, stack_bottom, Fixed, InstrAt}
 use Rattle.rv_isa.proofs.StepLemmas.{step_at}
 use Rattle.rv_isa.proofs.DecodingLaws.{instruction_of-word}
-use Rattle.rv_isa.specs.Start.{stack_top, stack_bottom}
 use Rattle.rv_machine.specs.Mapped.{read_and_write}
-use Rattle.rv_isa.specs.Labelled.{Fixed, InstrAt}
 use Rattle.rv_isa.proofs.RunLemmas.{comes_here}
 use Rattle.flat_code.specs.Spots.{NoAccess, ThisByte, IsPlaced, ShowsCell, ShowsMemory}
 use Rattle.abi_frames.specs.Calls.{IsUsable, IsWorld, HoldsSpots, Ready, passed}

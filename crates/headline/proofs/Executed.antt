@@ -6,15 +6,9 @@ use Rattle.il_ast.specs.declared.program.Program.{Program}
 use Rattle.il_ast.specs.declared.value.Value.TheVariants.{Integer, Pointer, Function}
 use Rattle.il_ast.specs.declared.value.End.{End}
 use Rattle.il_ast.specs.declared.value.End.TheVariants.{Exit, Halt, Undefined, Stack, Turns}
-use Rattle.il_ast.specs.Memory.{Memory}
-use Rattle.il_ast.specs.Run.{Spent, Outcome, Returned, Ended, price}
-use Rattle.il_ast.specs.Meaning.{outcome, meaning, behaviour_of, spent_of}
-use Rattle.il_ast.specs.Start.{start_memory}
-use Rattle.il_ast.specs.Laws.{StillGoes, IsFailure}
+use Rattle.il_ast.specs.Prelude.{Memory, Spent, Outcome, Returned, Ended, price, outcome, meaning, behaviour_of, spent_of, start_memory, StillGoes, IsFailure}
 use Rattle.il_ast.proofs.Pacing.{turns_are_spent, output_comes_first}
-use Rattle.rv_isa.specs.State.{State}
-use Rattle.rv_isa.specs.Step.{Stop, Exited, Broken}
-use Rattle.rv_isa.specs.Runs.{Going, Stopped, runs}
+use Rattle.rv_isa.specs.Prelude.{State, Stop, Exited, Broken, Going, Stopped, runs}
 use Rattle.flat_code.specs.Spots.{Spots, Bases}
 use Rattle.flat_code.specs.Flat.{FlatOutcome, FlatReturned, FlatEnded, ShowsOutcome}
 use Rattle.abi_frames.specs.Calls.{ResultIn, passed}

@@ -8,10 +8,7 @@ use Rattle.il_ast.specs.declared.program.InText.{InText}
 use Rattle.il_ast.specs.declared.program.Program.{Program}
 use Rattle.il_types.specs.declared.checked.Checked.{Checked}
 use Rattle.obj_link.specs.declared.linking.linked.Linked.{Linked}
-use Rattle.obj_link.specs.Names.{function_in, functions_from}
-use Rattle.obj_link.specs.Shown.{shown}
-use Rattle.obj_link.specs.Program.{IsProgram}
-use Rattle.obj_link.specs.ProgramOf.{program, IsLinked}
+use Rattle.obj_link.specs.Prelude.{function_in, functions_from, shown, IsProgram, program, IsLinked}
 use Rattle.phi_copies.specs.Good.{IsGoodFunction}
 use Rattle.phi_copies.proofs.GoodTexts.{good_function}
 

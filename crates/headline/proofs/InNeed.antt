@@ -2,15 +2,10 @@
 use Rattle.std.proofs.Common.{◌≡◌, ℕ, ◌+◌, ◌≤◌, List, subst, arith, Option}
 use Rattle.il_ast.specs.declared.operation.Class.{Class}
 use Rattle.il_ast.specs.declared.function.Func.{Func}
-use Rattle.il_ast.specs.Cost.{need}
-use Rattle.il_ast.specs.Logged.{Event}
-use Rattle.il_ast.specs.Passes.{classes_of}
+use Rattle.il_ast.specs.Prelude.{need, Event, classes_of}
 use Rattle.vcode.specs.declared.place.Location.{Location}
 use Rattle.vcode.specs.declared.code.Code.{Code}
-use Rattle.vcode.specs.Coded.{classes_in}
-use Rattle.vcode.specs.Places.{located}
-use Rattle.vcode.specs.Regular.{area}
-use Rattle.vcode.specs.Step.{begin, step}
+use Rattle.vcode.specs.Prelude.{classes_in, located, area, begin, step}
 use Rattle.flat_code.specs.Flat.{Names, FlatGiven, FlatAsked, FlatOutcome, KeepsFlat}
 use Rattle.flat_code.specs.Laws.{FlatKept}
 use Rattle.flat_code.specs.Step.{flat_begin, flat_step}

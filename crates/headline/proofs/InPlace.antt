@@ -8,21 +8,15 @@ use Rattle.il_ast.specs.declared.program.Program.{Program}
 use Rattle.il_ast.specs.declared.value.Value.{Value}
 use Rattle.il_ast.specs.declared.value.End.{End}
 use Rattle.il_ast.specs.declared.value.End.TheVariants.{Exit, Halt, Undefined, Stack, Turns}
-use Rattle.il_ast.specs.Memory.{Memory}
-use Rattle.il_ast.specs.Run.{Spent, nothing, one_call, both, Outcome, Returned, Ended, Callees, begun}
-use Rattle.il_ast.specs.Start.{globals_of}
-use Rattle.il_ast.specs.Meaning.{callees}
-use Rattle.il_ast.specs.Keeps.{Given, Suits, KeepsCode}
-use Rattle.il_ast.specs.Passes.{Coded, Keeps, IsCodeOf, classes_of}
+use Rattle.il_ast.specs.Prelude.{Memory, Spent, nothing, one_call, both, Outcome, Returned, Ended, Callees, begun, globals_of, callees, Given, Suits, KeepsCode, Coded, Keeps, IsCodeOf, classes_of}
 use Rattle.il_ast.proofs.SameDepth.{SameBelow, same_run}
-use Rattle.rv_isa.specs.State.{State}
-use Rattle.rv_isa.specs.Step.{Stop}
+use Rattle.rv_isa.specs.Prelude.{State, Stop}
 use Rattle.flat_code.specs.Spots.{Spots, Bases, Entries, ShowsResult, ShowsMemory, SameBlocks}
 use Rattle.flat_code.specs.Flat.{FlatOutcome, FlatReturned, FlatEnded, flat_after, ShowsOutcome}
 use Rattle.abi_frames.specs.Calls.{World}
 use Rattle.abi_frames.specs.Performs.{Performs, Returns, Stops, KeepsOn}
 use Rattle.headline.specs.Functions.{body_of, IsCodeIn}
-use Rattle.vcode.specs.InPlace.{IsCheaper, GoesSo}
+use Rattle.vcode.specs.Prelude.{IsCheaper, GoesSo}
 use Rattle.vcode.proofs.InPlace.{runs_stay, code_keeps_in, meaning_runs}
 use Rattle.headline.specs.InPlace.{below, calls_in}
 

@@ -4,10 +4,8 @@ use Rattle.il_ast.specs.declared.operation.Class.{Class}
 use Rattle.il_ast.specs.declared.value.Value.{Value}
 use Rattle.il_ast.specs.declared.value.Value.TheVariants.{Integer, Pointer, Function}
 use Rattle.il_ast.specs.declared.value.End.TheVariants.{Exit, Halt, Undefined, Stack, Turns}
-use Rattle.il_ast.specs.Run.{Outcome, Returned, Ended, Callees}
-use Rattle.il_ast.specs.Logged.{Event}
-use Rattle.il_ast.specs.Keeps.{Asked, Given, Body}
-use Rattle.vcode.specs.InPlace.{HasRoom}
+use Rattle.il_ast.specs.Prelude.{Outcome, Returned, Ended, Callees, Event, Asked, Given, Body}
+use Rattle.vcode.specs.Prelude.{HasRoom}
 use Rattle.vcode.proofs.InPlace.{room_fine, goes_room}
 use Rattle.flat_code.specs.Spots.{Bases, Entries, Grown, Shows, AllShow}
 use Rattle.flat_code.specs.Flat.{Frame, FlatGiven, FlatAsked, FlatOutcome, FlatEnded, ShowsGiven}

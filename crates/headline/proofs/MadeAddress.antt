@@ -3,14 +3,7 @@ use Rattle.std.proofs.Common.{◌≡◌, ◌≢◌, ℕ, ◌+◌, ◌*◌, ◌%�
 use Rattle.std.proofs.lemmas.Int.{ints}
 use Rattle.std.proofs.lemmas.Bool.Decides.{nat_tests}
 use Rattle.bits.specs.Words.{upper_field, lower_field, sign_extended}
-use Rattle.rv_isa.specs.State.{State, register, updated, written, put}
-use Rattle.rv_isa.specs.Arithmetic.{upper_value, addiw_value}
-use Rattle.rv_isa.specs.Formats.{u_type, i_type}
-use Rattle.rv_isa.specs.Step.{step}
-use Rattle.rv_isa.specs.Runs.{Comes}
-use Rattle.rv_isa.specs.Labelled.{Ground, Fixed, InstrAt}
-use Rattle.rv_isa.specs.Laid.{WordsStand}
-use Rattle.rv_isa.specs.Relocations.{upper_part, lower_part}
+use Rattle.rv_isa.specs.Prelude.{State, register, updated, written, put, upper_value, addiw_value, u_type, i_type, step, Comes, Ground, Fixed, InstrAt, WordsStand, upper_part, lower_part}
 use Rattle.rv_isa.specs.declared.ranges.Register.{Register}
 use Rattle.rv_isa.specs.declared.ranges.Immediate.{Immediate}
 use Rattle.rv_isa.specs.declared.ranges.UpperField.{UpperField}

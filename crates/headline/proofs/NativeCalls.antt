@@ -11,10 +11,7 @@ use Rattle.il_ast.specs.declared.value.Value.TheVariants.{Integer, Pointer, Func
 use Rattle.il_ast.specs.declared.value.Cell.{Cell}
 use Rattle.il_ast.specs.declared.value.Cell.TheVariants.{Plain, Part, Blank}
 use Rattle.il_ast.specs.declared.value.End.TheVariants.{Exit, Undefined}
-use Rattle.il_ast.specs.Memory.{Memory, block_at, span, cells_at, plain_bytes}
-use Rattle.il_ast.specs.Run.{nothing, Outcome, Ended, Callees}
-use Rattle.il_ast.specs.Meaning.{same_classes, result_fits, call_fits, answered, put_out, write_bytes, write_integer, write_call, exit_call, call_named}
-use Rattle.il_ast.specs.Keeps.{Asked, Passes, AreArgs}
+use Rattle.il_ast.specs.Prelude.{Memory, block_at, span, cells_at, plain_bytes, nothing, Outcome, Ended, Callees, same_classes, result_fits, call_fits, answered, put_out, write_bytes, write_integer, write_call, exit_call, call_named, Asked, Passes, AreArgs}
 use Rattle.flat_code.specs.Spots.{ThisByte, Spots, Bases, Entries, AllShow, ShowsCell, ShowsMemory}
 use Rattle.flat_code.specs.Flat.{FlatGiven, FlatOutcome, FlatEnded, ShowsOutcome}
 use Rattle.abi_frames.specs.Calls.{GoodStack, Ready}

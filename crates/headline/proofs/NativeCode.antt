@@ -6,26 +6,16 @@ use Rattle.bits.specs.Words.{sign_extended, Fits12}
 use Rattle.il_ast.specs.declared.operation.Class.TheVariants.{W, L}
 use Rattle.il_ast.specs.declared.program.Program.{Program}
 use Rattle.il_ast.specs.declared.value.Callee.TheVariants.{Defined}
-use Rattle.il_ast.specs.Run.{one_call}
+use Rattle.il_ast.specs.Prelude.{one_call}
 use Rattle.rv_isa.specs.declared.instruction.Instr.{Instr}
 use Rattle.rv_isa.specs.declared.instruction.Instr.TheVariants.{Imm, Jalr, Ecall}
 use Rattle.rv_isa.specs.declared.instruction.ImmOp.TheVariants.{Addi}
-use Rattle.rv_isa.specs.State.{State, updated}
-use Rattle.rv_isa.specs.Memory.{bytes_at, each_of, can_read}
-use Rattle.rv_isa.specs.Arithmetic.{moved}
-use Rattle.rv_isa.specs.Step.{Exited, Faulted, even_below, step}
+use Rattle.rv_isa.specs.Prelude.{State, updated, bytes_at, each_of, can_read, moved, Exited, Faulted, even_below, step, Stopped, runs, then_run, Ground, Fixed, InstrAt, WordsStand, Words}
 use Rattle.rv_isa.specs.declared.fault.Fault.TheVariants.{Fetch, Load as LoadFault}
-use Rattle.rv_isa.specs.Runs.{Stopped, runs, then_run}
-use Rattle.rv_isa.specs.Labelled.{Ground, Fixed, InstrAt}
-use Rattle.rv_isa.specs.Laid.{WordsStand}
-use Rattle.rv_isa.specs.Words.{Words}
 use Rattle.rv_isa.proofs.StepLemmas.{step_at}
 use Rattle.rv_isa.proofs.RunLemmas.{comes_then, comes_by_step}
 use Rattle.asm_layout.proofs.Running.{instr_at, put_fits}
-use Rattle.obj_link.specs.Image.{IsImage, write_address, exit_address, functions_start}
-use Rattle.obj_link.specs.Natives.{start_words, write_words, exit_words}
-use Rattle.obj_link.specs.Placed.{functions_words, addresses_of, contents_of}
-use Rattle.obj_link.specs.ImageOf.{callee_address}
+use Rattle.obj_link.specs.Prelude.{IsImage, write_address, exit_address, functions_start, start_words, write_words, exit_words, functions_words, addresses_of, contents_of, callee_address}
 use Rattle.elf_file.specs.Loaded.{Executable}
 use Rattle.elf_file.specs.Stands.{Stands}
 use Rattle.rv_machine.specs.Starts.{Starts}

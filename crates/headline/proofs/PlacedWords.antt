@@ -3,12 +3,9 @@ use Rattle.std.proofs.Common.{◌≡◌, ℕ, ◌+◌, ◌*◌, ◌/◌, ◌%◌
 use Rattle.std.specs.Int.{byte_at}
 use Rattle.std.proofs.lemmas.Bool.Decides.{nat_tests}
 use Rattle.std.proofs.lemmas.Option.{slice_get_within, get_or_from_slice_get}
-use Rattle.rv_isa.specs.State.{State}
-use Rattle.rv_isa.specs.Memory.{number_at, each_of, allowed, is_code}
-use Rattle.rv_isa.specs.Labelled.{Ground}
-use Rattle.rv_isa.specs.Laid.{WordsStand}
+use Rattle.rv_isa.specs.Prelude.{State, number_at, each_of, allowed, is_code, Ground, WordsStand}
 use Rattle.rv_isa.proofs.MemoryLemmas.{each_from}
-use Rattle.obj_link.specs.Image.{Contents, IsImage, code_start}
+use Rattle.obj_link.specs.Prelude.{Contents, IsImage, code_start}
 use Rattle.elf_file.specs.declared.flags.Flags.TheVariants.{Execute}
 use Rattle.elf_file.specs.Loaded.{Executable}
 use Rattle.elf_file.specs.Stands.{Stands}

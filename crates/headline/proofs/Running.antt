@@ -3,9 +3,8 @@ use Rattle.std.proofs.Common.{◌≡◌, ℕ, suc, ◌+◌, ◌%◌, ◌<◌, �
 use Rattle.il_ast.specs.declared.function.Param.{Param}
 use Rattle.il_ast.specs.declared.program.Program.{Program}
 use Rattle.il_ast.specs.declared.value.Callee.{Callee}
-use Rattle.il_ast.specs.Meaning.{main_args, params_of}
-use Rattle.rv_isa.specs.State.{State}
-use Rattle.rv_isa.specs.Start.{stack_top, stack_bottom}
+use Rattle.il_ast.specs.Prelude.{main_args, params_of}
+use Rattle.rv_isa.specs.Prelude.{State, stack_top, stack_bottom}
 use Rattle.elf_file.specs.Loaded.{Executable}
 use Rattle.rv_machine.specs.Starts.{Starts}
 use Rattle.flat_code.specs.Spots.{AreEntries, AllShow}

@@ -8,31 +8,21 @@ use Rattle.il_ast.specs.declared.operation.Class.{Class}
 use Rattle.il_ast.specs.declared.operation.Class.TheVariants.{W, L}
 use Rattle.il_ast.specs.declared.function.Param.{Param}
 use Rattle.il_ast.specs.declared.program.Program.{Program}
-use Rattle.il_ast.specs.Meaning.{main_classes, params_of}
+use Rattle.il_ast.specs.Prelude.{main_classes, params_of}
 use Rattle.rv_isa.specs.declared.permission.Permission.{Permission}
 use Rattle.rv_isa.specs.declared.ranges.Register.{Register}
 use Rattle.rv_isa.specs.declared.instruction.Instr.{Instr}
 use Rattle.rv_isa.specs.declared.instruction.Instr.TheVariants.{Imm, Jalr, Ecall, Load}
 use Rattle.rv_isa.specs.declared.instruction.ImmOp.TheVariants.{Addi}
 use Rattle.rv_isa.specs.declared.instruction.LoadOp.TheVariants.{Ld}
-use Rattle.rv_isa.specs.State.{State, updated}
-use Rattle.rv_isa.specs.Memory.{number_at, can_read}
-use Rattle.rv_isa.specs.Arithmetic.{moved}
-use Rattle.rv_isa.specs.Start.{stack_top, argument_bytes, word_bytes}
-use Rattle.rv_isa.specs.Step.{Exited, Faulted, even_below, step}
+use Rattle.rv_isa.specs.Prelude.{State, updated, number_at, can_read, moved, stack_top, argument_bytes, word_bytes, Exited, Faulted, even_below, step, Comes, Ground, Fixed, InstrAt, WordsStand, Words}
 use Rattle.rv_isa.specs.declared.fault.Fault.TheVariants.{Fetch, Load as LoadFault}
-use Rattle.rv_isa.specs.Runs.{Comes}
-use Rattle.rv_isa.specs.Labelled.{Ground, Fixed, InstrAt}
-use Rattle.rv_isa.specs.Laid.{WordsStand}
-use Rattle.rv_isa.specs.Words.{Words}
 use Rattle.rv_isa.proofs.StepLemmas.{step_at}
 use Rattle.rv_isa.proofs.MemoryLemmas.{each_from}
 use Rattle.rv_isa.proofs.RunLemmas.{comes_then, comes_by_step}
 use Rattle.asm_layout.proofs.Running.{instr_at, put_fits}
 use Rattle.headline.proofs.MadeAddress.{Gets, address_gets}
-use Rattle.obj_link.specs.Image.{IsImage, code_start}
-use Rattle.obj_link.specs.Natives.{start_words, write_words, exit_words}
-use Rattle.obj_link.specs.Placed.{contents_of, addresses_of}
+use Rattle.obj_link.specs.Prelude.{IsImage, code_start, start_words, write_words, exit_words, contents_of, addresses_of}
 use Rattle.elf_file.specs.declared.flags.Flags.TheVariants.{ReadWrite}
 use Rattle.elf_file.specs.Loaded.{Executable}
 use Rattle.elf_file.specs.Stands.{Stands}

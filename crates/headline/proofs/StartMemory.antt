@@ -5,10 +5,8 @@ use Rattle.std.specs.Int.{w64, byte_at, to_le_bytes}
 use Rattle.il_ast.specs.declared.program.Program.{Program}
 use Rattle.il_ast.specs.declared.value.Cell.{Cell}
 use Rattle.il_ast.specs.declared.value.Cell.TheVariants.{Plain, Part, Blank}
-use Rattle.il_ast.specs.Memory.{Memory}
-use Rattle.il_ast.specs.Start.{object_cells, word_cells, pointers_from, list_cells, start_memory}
-use Rattle.rv_isa.specs.State.{State}
-use Rattle.rv_isa.specs.Start.{stack_top, stack_bottom, argument_bytes, pointer_bytes, word_bytes}
+use Rattle.il_ast.specs.Prelude.{Memory, object_cells, word_cells, pointers_from, list_cells, start_memory}
+use Rattle.rv_isa.specs.Prelude.{State, stack_top, stack_bottom, argument_bytes, pointer_bytes, word_bytes}
 use Rattle.elf_file.specs.Loaded.{Executable, byte_in}
 use Rattle.rv_machine.specs.Starts.{Starts}
 use Rattle.flat_code.specs.Spots.{Spot, NoAccess, ThisByte, Spots, Bases, Entries, Grown, ShowsCell, ShowsMemory}

@@ -5,9 +5,7 @@ use Rattle.il_ast.specs.declared.program.Program.{Program}
 use Rattle.il_ast.specs.declared.value.Callee.{Callee}
 use Rattle.il_ast.specs.declared.value.Callee.TheVariants.{Defined, SystemWrite, SystemExit}
 use Rattle.il_ast.specs.declared.value.End.TheVariants.{Turns}
-use Rattle.il_ast.specs.Run.{nothing, Ended}
-use Rattle.il_ast.specs.Meaning.{call_named, callees}
-use Rattle.il_ast.specs.Keeps.{Asked}
+use Rattle.il_ast.specs.Prelude.{nothing, Ended, call_named, callees, Asked}
 use Rattle.headline.specs.InPlace.{calls_in}
 use Rattle.headline.specs.Knot.{Setting, KeepsCall, AllKept}
 use Rattle.headline.specs.Natives.{NativesPerform}

@@ -1,9 +1,8 @@
 -- Calls that are kept because nothing is owed, or because nothing is done.
 use Rattle.std.proofs.Common.{sym, ◌≡◌, ℕ, Bool, true, false, refl, ap, arith, if◌then◌else◌, append-nil}
 use Rattle.il_ast.specs.declared.value.End.TheVariants.{Undefined, Stack, Turns}
-use Rattle.il_ast.specs.Run.{Spent, nothing, Outcome, Ended}
-use Rattle.il_ast.specs.Keeps.{Asked}
-use Rattle.rv_isa.specs.Runs.{runs}
+use Rattle.il_ast.specs.Prelude.{Spent, nothing, Outcome, Ended, Asked}
+use Rattle.rv_isa.specs.Prelude.{runs}
 use Rattle.flat_code.specs.Flat.{FlatEnded}
 use Rattle.headline.specs.Knot.{Setting, KeepsCall}
 use Rattle.headline.proofs.Answer.{grown_same}

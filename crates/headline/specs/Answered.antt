@@ -2,8 +2,8 @@
 use Rattle.std.specs.Prelude.{◌≡◌, ◌⊎◌, ℕ, ◌+◌, ◌*◌, ◌<◌, ◌≤◌, Bool, List}
 use Rattle.il_ast.specs.declared.program.Program.{Program}
 use Rattle.il_ast.specs.declared.value.End.TheVariants.{Exit, Halt, Undefined, Stack, Turns}
-use Rattle.il_ast.specs.Meaning.{meaning}
-use Rattle.rv_isa.specs.State.{State}
+use Rattle.il_ast.specs.Prelude.{meaning}
+use Rattle.rv_isa.specs.Prelude.{State}
 use Rattle.rv_machine.specs.declared.stop.Stop.{Stop}
 use Rattle.rv_machine.specs.declared.stop.Stop.TheVariants.{Exit as Exited, Break, Limit, Memory, Fault}
 use Rattle.rv_machine.specs.Runs.{RunEnds}

@@ -5,22 +5,16 @@ use Rattle.il_ast.specs.declared.limits.TheConstants.{WORDS, WORD_BYTES}
 use Rattle.il_ast.specs.declared.function.Func.{Func}
 use Rattle.il_ast.specs.declared.program.InText.{InText}
 use Rattle.il_ast.specs.declared.program.Program.{Program}
-use Rattle.il_ast.specs.Cost.{need}
-use Rattle.il_ast.specs.Passes.{IsCodeOf}
+use Rattle.il_ast.specs.Prelude.{need, IsCodeOf}
 use Rattle.vcode.specs.declared.place.Location.{Location}
 use Rattle.vcode.specs.declared.code.Code.{Code}
-use Rattle.vcode.specs.Coded.{coded}
-use Rattle.vcode.specs.Places.{located}
+use Rattle.vcode.specs.Prelude.{coded, located}
 use Rattle.flat_code.specs.Laws.{FlatKept}
 use Rattle.abi_frames.specs.Frames.{IsFrameOf}
 use Rattle.abi_frames.specs.Layout.{frame_bound}
 use Rattle.rv_isa.specs.declared.labelled.Item.{Item}
-use Rattle.rv_isa.specs.Laid.{LaysOut}
-use Rattle.rv_isa.specs.Words.{Words}
-use Rattle.rv_isa.specs.State.{State}
-use Rattle.rv_isa.specs.Start.{word_bytes}
-use Rattle.obj_link.specs.Image.{IsImage}
-use Rattle.obj_link.specs.Placed.{contents_of, calls_reach, FitsBelow, EveryCode}
+use Rattle.rv_isa.specs.Prelude.{LaysOut, Words, State, word_bytes}
+use Rattle.obj_link.specs.Prelude.{IsImage, contents_of, calls_reach, FitsBelow, EveryCode}
 use Rattle.elf_file.specs.Loaded.{Executable}
 use Rattle.elf_file.specs.Stands.{Stands}
 use Rattle.rv_machine.specs.Starts.{Starts}

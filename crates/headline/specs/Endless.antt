@@ -2,9 +2,8 @@
 use Rattle.std.specs.Prelude.{◌≡◌, ℕ, List, ◌++◌}
 use Rattle.il_ast.specs.declared.program.Program.{Program}
 use Rattle.il_ast.specs.declared.value.End.TheVariants.{Turns}
-use Rattle.il_ast.specs.Meaning.{meaning}
-use Rattle.rv_isa.specs.State.{State}
-use Rattle.rv_isa.specs.Runs.{Going, runs}
+use Rattle.il_ast.specs.Prelude.{meaning}
+use Rattle.rv_isa.specs.Prelude.{State, Going, runs}
 use Rattle.headline.specs.Headline.{PutsOut, Executes}
 
 -- it is out of turns, however many it gets

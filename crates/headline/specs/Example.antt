@@ -3,12 +3,9 @@ use Rattle.std.specs.Prelude.{ℕ, zero, suc, ◌+◌, ◌-◌, ◌==◌, ◌&&�
 use Rattle.il_ast.specs.declared.value.Callee.{Callee}
 use Rattle.il_ast.specs.declared.value.Callee.TheVariants.{Defined, SystemWrite, SystemExit}
 use Rattle.il_ast.specs.declared.value.End.TheVariants.{Halt, Turns}
-use Rattle.il_ast.specs.Run.{nothing, one_turn, Outcome, Ended}
-use Rattle.il_ast.specs.Logged.{Event, Does, Over}
-use Rattle.il_ast.specs.Keeps.{Asked, Given}
+use Rattle.il_ast.specs.Prelude.{nothing, one_turn, Outcome, Ended, Event, Does, Over, Asked, Given}
 use Rattle.rv_isa.specs.declared.permission.Permission.{Permission}
-use Rattle.rv_isa.specs.State.{State}
-use Rattle.rv_isa.specs.Start.{stack_top, stack_bottom}
+use Rattle.rv_isa.specs.Prelude.{State, stack_top, stack_bottom}
 use Rattle.rv_machine.specs.Mapped.{read_and_write}
 use Rattle.flat_code.specs.Spots.{Spot, NoAccess, ThisByte}
 use Rattle.flat_code.specs.Flat.{FlatGiven, FlatAsked, FlatOutcome, FlatEnded}

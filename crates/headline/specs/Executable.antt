@@ -8,11 +8,8 @@ use Rattle.il_ast.specs.declared.function.Param.{Param}
 use Rattle.il_ast.specs.declared.program.Program.{Program}
 use Rattle.il_ast.specs.declared.value.Callee.{Callee}
 use Rattle.il_ast.specs.declared.value.Callee.TheVariants.{Defined}
-use Rattle.il_ast.specs.Meaning.{main_call, params_of, stack_room}
-use Rattle.rv_isa.specs.State.{State}
-use Rattle.rv_isa.specs.Start.{stack_top, word_bytes}
-use Rattle.rv_isa.specs.Runs.{Comes}
-use Rattle.rv_isa.specs.Labelled.{Fixed}
+use Rattle.il_ast.specs.Prelude.{main_call, params_of, stack_room}
+use Rattle.rv_isa.specs.Prelude.{State, stack_top, word_bytes, Comes, Fixed}
 use Rattle.elf_file.specs.Loaded.{Executable}
 use Rattle.rv_machine.specs.Starts.{Starts}
 use Rattle.flat_code.specs.Spots.{AreEntries}

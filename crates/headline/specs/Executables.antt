@@ -6,15 +6,9 @@ use Rattle.il_ast.specs.declared.program.Program.{Program}
 use Rattle.il_ast.specs.declared.program.Target.{Target}
 use Rattle.il_ast.specs.declared.value.Callee.{Callee}
 use Rattle.il_ast.specs.declared.value.Callee.TheVariants.{Defined, SystemWrite, SystemExit}
-use Rattle.rv_isa.specs.Words.{Words}
-use Rattle.rv_isa.specs.State.{State}
-use Rattle.rv_isa.specs.Start.{word_bytes}
-use Rattle.obj_link.specs.Image.{IsImage, data_start, write_address, exit_address}
+use Rattle.rv_isa.specs.Prelude.{Words, State, word_bytes}
+use Rattle.obj_link.specs.Prelude.{IsImage, data_start, write_address, exit_address, addresses_of, contents_of, FitsBelow, EveryCode, callee_address, IsProgram, IsThere}
 use Rattle.il_types.specs.declared.checked.Checked.{Checked}
-use Rattle.obj_link.specs.Placed.{addresses_of, contents_of, FitsBelow, EveryCode}
-use Rattle.obj_link.specs.ImageOf.{callee_address}
-use Rattle.obj_link.specs.Program.{IsProgram}
-use Rattle.obj_link.specs.Laws.{IsThere}
 use Rattle.elf_file.specs.Loaded.{Executable}
 use Rattle.elf_file.specs.Stands.{Stands}
 use Rattle.rv_machine.specs.Starts.{Starts}

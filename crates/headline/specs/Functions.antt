@@ -5,12 +5,8 @@ use Rattle.il_ast.specs.declared.function.Func.{Func}
 use Rattle.il_ast.specs.declared.program.InText.{InText}
 use Rattle.il_ast.specs.declared.program.Program.{Program}
 use Rattle.il_ast.specs.declared.value.Callee.TheVariants.{Defined}
-use Rattle.il_ast.specs.Cost.{need}
-use Rattle.il_ast.specs.Run.{body}
-use Rattle.il_ast.specs.Start.{globals_of}
-use Rattle.il_ast.specs.Keeps.{Body}
-use Rattle.il_ast.specs.Passes.{Coded, classes_of}
-use Rattle.vcode.specs.InPlace.{KeepsRuns}
+use Rattle.il_ast.specs.Prelude.{need, body, globals_of, Body, Coded, classes_of}
+use Rattle.vcode.specs.Prelude.{KeepsRuns}
 use Rattle.headline.specs.InPlace.{calls_in}
 use Rattle.headline.specs.Knot.{Setting, IsSetting, AllKept, KeepsBody}
 use Rattle.headline.specs.Natives.{NativesPerform}

@@ -2,11 +2,8 @@
 use Rattle.std.specs.Prelude.{◌≡◌, ℕ, ◌+◌, ◌*◌, ◌≤◌, List}
 use Rattle.il_ast.specs.declared.program.Program.{Program}
 use Rattle.il_ast.specs.declared.value.End.TheVariants.{Exit, Halt, Undefined, Stack, Turns}
-use Rattle.il_ast.specs.Run.{price}
-use Rattle.il_ast.specs.Meaning.{outcome, meaning, spent_of}
-use Rattle.rv_isa.specs.State.{State}
-use Rattle.rv_isa.specs.Step.{Stop, Exited, Broken}
-use Rattle.rv_isa.specs.Runs.{Going, Stopped, runs}
+use Rattle.il_ast.specs.Prelude.{price, outcome, meaning, spent_of}
+use Rattle.rv_isa.specs.Prelude.{State, Stop, Exited, Broken, Going, Stopped, runs}
 
 -- the instructions that the program's run of n turns may take
 abbrev pub price_at : Program → List (List ℕ) → ℕ → ℕ

@@ -2,8 +2,7 @@
 use Rattle.std.specs.Prelude.{ℕ, nat_lt, if◌then◌else◌}
 use Rattle.il_ast.specs.declared.program.Program.{Program}
 use Rattle.il_ast.specs.declared.value.End.TheVariants.{Turns}
-use Rattle.il_ast.specs.Run.{nothing, Ended, Callees}
-use Rattle.il_ast.specs.Meaning.{callees}
+use Rattle.il_ast.specs.Prelude.{nothing, Ended, Callees, callees}
 
 -- calls of fewer turns go as these have it, and all others are out of turns
 abbrev pub below : (turns : ℕ) → Callees → Callees

@@ -4,10 +4,8 @@ use Rattle.std.specs.Prelude.{◌≡◌, ℕ, ◌+◌, ◌%◌, ◌<◌, ◌≤�
 use Rattle.il_ast.specs.declared.operation.Class.{Class}
 use Rattle.il_ast.specs.declared.value.Callee.{Callee}
 use Rattle.il_ast.specs.declared.value.Value.{Value}
-use Rattle.il_ast.specs.Run.{Outcome, Callees, one_call}
-use Rattle.il_ast.specs.Logged.{Event}
-use Rattle.il_ast.specs.Keeps.{Asked, Given, Body, AreArgs}
-use Rattle.vcode.specs.InPlace.{KeepsRuns}
+use Rattle.il_ast.specs.Prelude.{Outcome, Callees, one_call, Event, Asked, Given, Body, AreArgs}
+use Rattle.vcode.specs.Prelude.{KeepsRuns}
 use Rattle.flat_code.specs.Spots.{Bases, Entries, AreEntries, Grown, AllShow}
 use Rattle.flat_code.specs.Flat.{FlatGiven, FlatAsked, FlatOutcome, flat_after, ShowsGiven, ShowsAsked, ShowsOutcome, KeepsFlat}
 use Rattle.abi_frames.specs.Calls.{World, IsWorld, GoodStack}

@@ -4,7 +4,7 @@ use Rattle.rv_isa.specs.declared.abi.TheConstants.{STANDARD_OUTPUT, BAD_DESCRIPT
 use Rattle.il_ast.specs.declared.operation.Class.TheVariants.{W, L}
 use Rattle.il_ast.specs.declared.value.Callee.TheVariants.{SystemWrite, SystemExit}
 use Rattle.il_ast.specs.declared.value.End.TheVariants.{Exit, Undefined}
-use Rattle.il_ast.specs.Run.{nothing, one_call}
+use Rattle.il_ast.specs.Prelude.{nothing, one_call}
 use Rattle.flat_code.specs.Spots.{Spot, NoAccess, AnyByte, ThisByte, Spots}
 use Rattle.flat_code.specs.Flat.{FlatGiven, FlatOutcome, FlatReturned, FlatEnded}
 use Rattle.abi_frames.specs.Calls.{GoodStack}

@@ -4,9 +4,8 @@ use Rattle.std.specs.Int.{byte_at}
 use Rattle.il_ast.specs.declared.program.Program.{Program}
 use Rattle.il_ast.specs.declared.value.Cell.{Cell}
 use Rattle.il_ast.specs.declared.value.Cell.TheVariants.{Plain, Part, Blank}
-use Rattle.il_ast.specs.Start.{object_cells}
-use Rattle.rv_isa.specs.State.{State}
-use Rattle.rv_isa.specs.Start.{stack_top, stack_bottom, argument_bytes}
+use Rattle.il_ast.specs.Prelude.{object_cells}
+use Rattle.rv_isa.specs.Prelude.{State, stack_top, stack_bottom, argument_bytes}
 use Rattle.elf_file.specs.declared.flags.Flags.TheVariants.{ReadWrite}
 use Rattle.elf_file.specs.Loaded.{Executable, byte_in, flags_in}
 use Rattle.flat_code.specs.Spots.{NoAccess, ThisByte, Spots, Bases, Entries, Shows}

@@ -5,7 +5,7 @@ use Rattle.il_ast.specs.declared.function.Func.{Func}
 use Rattle.il_ast.specs.declared.program.InText.{InText}
 use Rattle.il_types.specs.declared.checked.Checked.{Checked}
 use Rattle.obj_link.specs.declared.linking.linked.Linked.{Linked}
-use Rattle.obj_link.specs.ProgramOf.{IsLinked}
+use Rattle.obj_link.specs.Prelude.{IsLinked}
 use Rattle.phi_copies.specs.Good.{IsGoodFunction}
 
 -- each is one that can be lowered

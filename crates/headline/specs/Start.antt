@@ -4,12 +4,8 @@ use Rattle.rv_isa.specs.declared.abi.TheConstants.{RETURN_ADDRESS, RESULT}
 use Rattle.il_ast.specs.declared.operation.Class.TheVariants.{W}
 use Rattle.il_ast.specs.declared.program.Program.{Program}
 use Rattle.il_ast.specs.declared.value.Callee.TheVariants.{Defined}
-use Rattle.il_ast.specs.Start.{start_memory}
-use Rattle.il_ast.specs.Meaning.{main_call, stack_room}
-use Rattle.rv_isa.specs.State.{State}
-use Rattle.rv_isa.specs.Step.{Exited}
-use Rattle.rv_isa.specs.Runs.{Stopped, runs, Comes}
-use Rattle.rv_isa.specs.Labelled.{Fixed}
+use Rattle.il_ast.specs.Prelude.{start_memory, main_call, stack_room}
+use Rattle.rv_isa.specs.Prelude.{State, Exited, Stopped, runs, Comes, Fixed}
 use Rattle.flat_code.specs.Spots.{Spots, AllShow, ShowsMemory, Clear}
 use Rattle.abi_frames.specs.Calls.{GoodStack, Ready, passed}
 use Rattle.headline.specs.Knot.{Setting}

@@ -2,7 +2,7 @@
 -- executes the program.
 use Rattle.std.specs.Prelude.{◌≡◌, ℕ, ◌^◌, ◌<◌, List, [], length}
 use Rattle.il_ast.specs.declared.program.Program.{Program}
-use Rattle.rv_isa.specs.State.{State}
+use Rattle.rv_isa.specs.Prelude.{State}
 use Rattle.headline.specs.Knot.{Setting, IsSetting}
 use Rattle.headline.specs.Natives.{NativesPerform}
 use Rattle.headline.specs.Functions.{FunctionsKept}

@@ -9,7 +9,7 @@ ghost use Rattle.headline.specs.Executable.{ExecutableRuns};
 ghost use Rattle.headline.specs.Example.{state};
 ghost use Rattle.headline.specs.Compiled.{CompiledRuns, ReplacedRuns, StandsIn};
 ghost use Rattle.headline.specs.Executables.{PlacedNatives, PlacedStands, PlacedStart, ProgramsHaveNames};
-ghost use Rattle.il_ast.specs.ExamplePrograms.{halts};
+ghost use Rattle.il_ast.specs.Prelude.{halts};
 ghost use Rattle.std.specs.Prelude.{[]};
 
 /// Where the machine keeps each function if it keeps the calls that this makes, it keeps all calls, however deep they nest.

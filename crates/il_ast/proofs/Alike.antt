@@ -1,12 +1,7 @@
 -- What the tests of classes and of called functions tell.
 use Rattle.std.proofs.Common.{◌≡◌, Bool, true, false, List, [], ◌∷◌, refl, ap, ◌∙◌, ◌&&◌}
 use Rattle.std.proofs.lemmas.Bool.{and_parts}
-use Rattle.il_ast.specs.declared.operation.Class.{Class}
-use Rattle.il_ast.specs.declared.operation.Class.TheVariants.{W, L}
-use Rattle.il_ast.specs.declared.value.Callee.{Callee}
-use Rattle.il_ast.specs.declared.value.Callee.TheVariants.{Defined, SystemWrite, SystemExit}
-use Rattle.il_ast.specs.Values.{same_class, same_callee}
-use Rattle.il_ast.specs.Meaning.{same_classes}
+use Rattle.il_ast.specs.Prelude.{Class, W, L, Callee, Defined, SystemWrite, SystemExit, same_class, same_callee, same_classes}
 use Rattle.il_ast.proofs.Truth.{equals_itself}
 
 pub class_itself : (c : Class) → same_class c c ≡ true

@@ -1,11 +1,6 @@
 -- The examples, by computing them.
 use Rattle.std.proofs.Common.{refl}
-use Rattle.il_ast.specs.Memory.{load, store, copy}
-use Rattle.il_ast.specs.Operations.{operate_one, operate_two}
-use Rattle.il_ast.specs.Effect.{inst_effect, effect}
-use Rattle.il_ast.specs.Run.{run}
-use Rattle.il_ast.specs.Meaning.{callees, outcome, meaning}
-use Rattle.il_ast.specs.Examples.{Examples}
+use Rattle.il_ast.specs.Prelude.{load, store, copy, operate_one, operate_two, inst_effect, effect, run, callees, outcome, meaning, Examples}
 
 pub examples : Examples
 unfolding load store copy operate_one operate_two inst_effect effect run callees outcome meaning

@@ -1,21 +1,7 @@
 -- More turns go on from where fewer stopped.
 use Rattle.std.proofs.Common.{◌≡◌, ◌≢◌, ℕ, zero, suc, ◌-◌, ◌≤◌, Bool, true, false, List, [], ◌∷◌, ◌++◌, map, refl, sym, ◌∙◌, ap, subst, append_assoc, arith, cond, nat_lt, slice_get, Option, Some, None}
-use Rattle.il_ast.specs.declared.operand.Dest.{Dest}
-use Rattle.il_ast.specs.declared.function.Param.{Param}
-use Rattle.il_ast.specs.declared.function.Func.{Func}
-use Rattle.il_ast.specs.declared.program.InText.{InText}
-use Rattle.il_ast.specs.declared.program.Program.{Program}
-use Rattle.il_ast.specs.declared.value.Callee.{Callee}
-use Rattle.il_ast.specs.declared.value.Callee.TheVariants.{Defined, SystemWrite, SystemExit}
-use Rattle.il_ast.specs.declared.value.Value.{Value}
-use Rattle.il_ast.specs.declared.value.End.{End}
-use Rattle.il_ast.specs.declared.value.End.TheVariants.{Exit, Halt, Undefined, Stack, Turns}
-use Rattle.il_ast.specs.Memory.{Memory}
-use Rattle.il_ast.specs.Cost.{need}
-use Rattle.il_ast.specs.Effect.{Env, Activation, Call, Effect, Goes, Calls, Returns, Ends, effect}
-use Rattle.il_ast.specs.Run.{Spent, nothing, one_turn, one_call, both, Outcome, Returned, Ended, after, Callees, Rest, receive, resume, perform, run, begun, body}
-use Rattle.il_ast.specs.Start.{globals_of, start_memory}
-use Rattle.il_ast.specs.Meaning.{call_fits, call_function, call_named, callees, main_call, stack_room, outcome, meaning, spent_of, behaviour_of}
+use Rattle.il_ast.specs.Prelude.{Dest, Param, Func, InText, Program, Callee, Defined, SystemWrite, SystemExit, Value, End, Exit, Halt, Undefined, Stack, Turns, Memory, need, Env, Activation, Call, Effect, Goes, Returns, Ends, effect, Spent, nothing, one_turn, one_call, both, Outcome, Returned, Ended, after, Callees, Rest, receive, resume, perform, run, begun, body, globals_of, start_memory, call_fits, call_function, call_named, callees, main_call, stack_room, outcome, meaning, spent_of, behaviour_of}
+use Rattle.il_ast.specs.Effect.{Calls}
 
 -- what was put out
 abbrev pub output_of : Outcome → List ℕ

@@ -1,7 +1,6 @@
 -- How long a number's bytes and a memory with freed blocks are.
 use Rattle.std.proofs.Common.{◌≡◌, ℕ, zero, suc, ◌/◌, List, [], ◌∷◌, length, None, refl, ap, ◌∙◌}
-use Rattle.il_ast.specs.Values.{bytes_of}
-use Rattle.il_ast.specs.Memory.{Memory, free, free_all}
+use Rattle.il_ast.specs.Prelude.{bytes_of, Memory, free, free_all}
 use Rattle.il_ast.proofs.Listed.{length_slice_set}
 
 pub length_bytes : (k n : ℕ) → length (bytes_of k n) ≡ k

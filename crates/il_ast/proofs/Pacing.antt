@@ -1,32 +1,8 @@
 -- Which runs with fewer turns still go on: those below the turns that a return has taken, and those before a failure.
 use Rattle.std.proofs.Common.{◌≡◌, ◌⊎◌, inl, inr, ℕ, zero, suc, ◌+◌, ◌-◌, ◌<◌, ◌≤◌, Bool, true, false, List, [], ◌∷◌, ◌++◌, map, refl, sym, ◌∙◌, ap, subst, arith, cond, append-nil, nat_eq, nat_lt, slice_get, Option, Some, None, option_and_then}
-use Rattle.il_ast.specs.declared.operand.Dest.{Dest}
-use Rattle.il_ast.specs.declared.operand.Val.{Val}
-use Rattle.il_ast.specs.declared.operation.Class.{Class}
-use Rattle.il_ast.specs.declared.instruction.Inst.{Inst}
-use Rattle.il_ast.specs.declared.instruction.Jump.{Jump}
-use Rattle.il_ast.specs.declared.instruction.Jump.TheVariants.{Goto, Branch, Return, Halt as HaltJump}
-use Rattle.il_ast.specs.declared.instruction.Lined.{Lined}
-use Rattle.il_ast.specs.declared.block.Phi.{Phi}
-use Rattle.il_ast.specs.declared.block.Block.{Block}
-use Rattle.il_ast.specs.declared.operation.Class.TheVariants.{W, L}
-use Rattle.il_ast.specs.declared.function.Param.{Param}
-use Rattle.il_ast.specs.declared.program.InText.{InText}
-use Rattle.il_ast.specs.declared.program.Program.{Program}
-use Rattle.il_ast.specs.declared.function.Func.{Func}
-use Rattle.il_ast.specs.declared.value.Callee.{Callee}
-use Rattle.il_ast.specs.declared.value.Callee.TheVariants.{Defined, SystemWrite, SystemExit}
-use Rattle.il_ast.specs.declared.value.Value.{Value}
-use Rattle.il_ast.specs.declared.value.Value.TheVariants.{Integer, Pointer, Function}
-use Rattle.il_ast.specs.declared.value.End.{End}
-use Rattle.il_ast.specs.declared.value.End.TheVariants.{Exit, Halt, Undefined, Stack, Turns}
-use Rattle.il_ast.specs.Memory.{Memory, cells_at, plain_bytes}
-use Rattle.il_ast.specs.Cost.{need}
-use Rattle.il_ast.specs.Effect.{Env, Activation, Call, InstEffect, Done, Asks, Fails, Locals, Effect, Goes, Calls, Returns, Ends, assign, inst_effect, operand, phi_values, entered, enter_at, enter_place, place_of, branch_to, branched, returned, return_value, jump_effect, end_effect, after_inst, turn_in, turn_of, effect}
-use Rattle.il_ast.specs.Run.{Spent, nothing, one_turn, one_call, both, Outcome, Returned, Ended, after, Callees, Rest, resume, perform, run, begun, body}
-use Rattle.il_ast.specs.Start.{globals_of, start_memory}
-use Rattle.il_ast.specs.Meaning.{call_fits, call_function, put_out, write_bytes, write_integer, write_call, exit_call, call_named, callees, main_call, stack_room, outcome}
-use Rattle.il_ast.specs.Laws.{TurnsAreSpent, StillGoes, OutputComesFirst}
+use Rattle.il_ast.specs.Prelude.{Dest, Val, Class, Inst, Jump, Goto, Branch, Return, Lined, Phi, Block, W, L, Param, InText, Program, Func, Callee, Defined, SystemWrite, SystemExit, Value, Integer, Pointer, Function, End, Exit, Halt, Undefined, Stack, Turns, Memory, cells_at, plain_bytes, need, Env, Activation, Call, InstEffect, Done, Asks, Fails, Locals, Effect, Goes, Returns, Ends, assign, inst_effect, operand, phi_values, entered, enter_at, enter_place, place_of, branch_to, branched, returned, return_value, jump_effect, end_effect, after_inst, turn_in, turn_of, effect, Spent, nothing, one_turn, one_call, both, Outcome, Returned, Ended, after, Callees, Rest, resume, perform, run, begun, body, globals_of, start_memory, call_fits, call_function, put_out, write_bytes, write_integer, write_call, exit_call, call_named, callees, main_call, stack_room, outcome, TurnsAreSpent, StillGoes, OutputComesFirst}
+use Rattle.il_ast.specs.declared.instruction.Jump.TheVariants.{Halt as HaltJump}
+use Rattle.il_ast.specs.Effect.{Calls}
 use Rattle.il_ast.proofs.SameDepth.{same_run, same_callees}
 
 -- what a run does, by its turns

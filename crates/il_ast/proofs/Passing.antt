@@ -1,9 +1,6 @@
 -- Passes compose: what keeps a function's code is the function's code.
 use Rattle.std.proofs.Common.{List, ◌∙◌, subst}
-use Rattle.il_ast.specs.declared.operation.Class.{Class}
-use Rattle.il_ast.specs.declared.function.Func.{Func}
-use Rattle.il_ast.specs.Keeps.{KeepsCode}
-use Rattle.il_ast.specs.Passes.{Coded, Keeps, IsCodeOf, classes_of, body_of}
+use Rattle.il_ast.specs.Prelude.{Class, Func, KeepsCode, Coded, Keeps, IsCodeOf, classes_of, body_of}
 use Rattle.il_ast.proofs.Simulated.{codes_compose, meaning_composes}
 
 pub keeps_compose : (a b c : Coded) → Keeps a b → Keeps b c → Keeps a c

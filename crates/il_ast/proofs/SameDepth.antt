@@ -1,20 +1,7 @@
 -- Depth of calls, and steps, beyond the turns change nothing.
 use Rattle.std.proofs.Common.{◌≡◌, ℕ, zero, suc, ◌-◌, ◌<◌, ◌≤◌, Bool, map, refl, ap, ◌∙◌, arith, cond, nat_lt, slice_get, Option, Some, None}
-use Rattle.il_ast.specs.declared.operand.Dest.{Dest}
-use Rattle.il_ast.specs.declared.function.Param.{Param}
-use Rattle.il_ast.specs.declared.function.Func.{Func}
-use Rattle.il_ast.specs.declared.program.InText.{InText}
-use Rattle.il_ast.specs.declared.program.Program.{Program}
-use Rattle.il_ast.specs.declared.value.Callee.{Callee}
-use Rattle.il_ast.specs.declared.value.Callee.TheVariants.{Defined, SystemWrite, SystemExit}
-use Rattle.il_ast.specs.declared.value.Value.{Value}
-use Rattle.il_ast.specs.declared.value.End.TheVariants.{Undefined, Stack}
-use Rattle.il_ast.specs.Memory.{Memory}
-use Rattle.il_ast.specs.Cost.{need}
-use Rattle.il_ast.specs.Effect.{Env, Activation, Call, Effect, Goes, Calls, Returns, Ends, effect}
-use Rattle.il_ast.specs.Run.{nothing, one_turn, one_call, Outcome, Returned, Ended, after, Callees, Rest, receive, resume, perform, run, begun}
-use Rattle.il_ast.specs.Start.{globals_of}
-use Rattle.il_ast.specs.Meaning.{call_fits, call_function, call_named, callees}
+use Rattle.il_ast.specs.Prelude.{Dest, Param, Func, InText, Program, Callee, Defined, SystemWrite, SystemExit, Value, Undefined, Stack, Memory, need, Env, Activation, Call, Effect, Goes, Returns, Ends, effect, nothing, one_turn, one_call, Outcome, Returned, Ended, after, Callees, Rest, receive, resume, perform, run, begun, globals_of, call_fits, call_function, call_named, callees}
+use Rattle.il_ast.specs.Effect.{Calls}
 
 -- the same for every call with fewer turns than t; and for every activation with at most t turns
 abbrev pub SameBelow : ℕ → Callees → Callees → Type 0

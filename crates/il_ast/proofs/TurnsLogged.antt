@@ -1,16 +1,7 @@
 -- A code that takes each turn of a function's body keeps what the body means.
 use Rattle.std.proofs.Common.{◌≡◌, ℕ, zero, suc, ◌+◌, ◌-◌, ◌≤◌, List, [], ◌∷◌, ◌++◌, refl, sym, ◌∙◌, ap, subst, arith, Some, None, append-nil, append_assoc, Option}
-use Rattle.il_ast.specs.declared.operand.Dest.{Dest}
-use Rattle.il_ast.specs.declared.operation.Class.{Class}
-use Rattle.il_ast.specs.declared.value.Value.{Value}
-use Rattle.il_ast.specs.declared.value.End.{End}
-use Rattle.il_ast.specs.declared.value.End.TheVariants.{Exit, Halt, Undefined, Stack, Turns}
-use Rattle.il_ast.specs.Memory.{Memory}
-use Rattle.il_ast.specs.Effect.{Env, Activation, Effect, Goes, Calls as CallsFor, Returns, Ends, assign, effect}
-use Rattle.il_ast.specs.Run.{Spent, nothing, one_turn, both, Outcome, Returned, Ended, after, Callees, Rest, receive, resume, perform, run, begun, body}
-use Rattle.il_ast.specs.Logged.{Next, On, Over, Event, Calls}
-use Rattle.il_ast.specs.Keeps.{Asked, Given, AreArgs, Fine, Log, AllGo, KeepsMeaning}
-use Rattle.il_ast.specs.Simulation.{Leads, Stands, ComesTo, EndsIn, Receives, Resumes, TakesTurn, Takes, TakesTurns}
+use Rattle.il_ast.specs.Prelude.{Dest, Class, Value, End, Exit, Halt, Undefined, Stack, Turns, Memory, Env, Activation, Effect, Goes, Returns, Ends, assign, effect, Spent, nothing, one_turn, both, Outcome, Returned, Ended, after, Callees, Rest, receive, resume, perform, run, begun, body, Next, On, Over, Event, Calls, Asked, Given, AreArgs, Fine, Log, AllGo, KeepsMeaning, Leads, Stands, ComesTo, EndsIn, Receives, Resumes, TakesTurn, Takes, TakesTurns}
+use Rattle.il_ast.specs.Effect.{Calls as CallsFor}
 use Rattle.il_ast.proofs.Simulated.{LoggedFrom, lead_back, call_back}
 
 -- ---- what was spent

@@ -1,12 +1,6 @@
 -- What a function weighs, and how much stack it needs: numbers of its text alone.
 use Rattle.std.specs.Prelude.{ℕ, ◌+◌, ◌-◌, ◌*◌, ◌/◌, max, List, [], ◌∷◌, length, Option, Some, None, sum_by}
-use Rattle.il_ast.specs.declared.instruction.Inst.{Inst}
-use Rattle.il_ast.specs.declared.instruction.Inst.TheVariants.{Alloc, Blit, Call}
-use Rattle.il_ast.specs.declared.instruction.Jump.{Jump}
-use Rattle.il_ast.specs.declared.instruction.Lined.{Lined}
-use Rattle.il_ast.specs.declared.block.Phi.{Phi}
-use Rattle.il_ast.specs.declared.block.Block.{Block}
-use Rattle.il_ast.specs.declared.function.Func.{Func}
+use Rattle.il_ast.specs.Types.{Inst, Alloc, Blit, Call, Jump, Lined, Phi, Block, Func}
 use Rattle.il_ast.specs.Effect.{blit_weight, call_weight}
 
 -- the least multiple of 16 that is n or more

@@ -2,28 +2,8 @@
 -- IL, "Instructions", "Jumps", "Phi").
 use Rattle.std.specs.Prelude.{ℕ, ◌+◌, ◌/◌, ◌%◌, ◌^◌, nat_eq, if◌then◌else◌, List, [], ◌∷◌, ◌++◌, map, length, slice_get, slice_set, Option, Some, None, position, find}
 use Rattle.std.specs.Option.{option_map, option_and_then, option_flatten}
-use Rattle.il_ast.specs.declared.operation.Class.{Class}
-use Rattle.il_ast.specs.declared.operation.Class.TheVariants.{W, L}
-use Rattle.il_ast.specs.declared.operation.Size.{Size}
-use Rattle.il_ast.specs.declared.operation.Size.TheVariants.{Byte, Half, Word, Long}
-use Rattle.il_ast.specs.declared.operand.Val.{Val}
-use Rattle.il_ast.specs.declared.operand.Val.TheVariants.{Int, Temp, Global}
-use Rattle.il_ast.specs.declared.operand.Dest.{Dest}
-use Rattle.il_ast.specs.declared.operand.Arg.{Arg}
-use Rattle.il_ast.specs.declared.instruction.Inst.{Inst}
-use Rattle.il_ast.specs.declared.instruction.Inst.TheVariants.{Unary, Binary, Alloc, Store, Blit, Call as CallInst}
-use Rattle.il_ast.specs.declared.instruction.Jump.{Jump}
-use Rattle.il_ast.specs.declared.instruction.Jump.TheVariants.{Goto, Branch, Return, Halt as HaltJump}
-use Rattle.il_ast.specs.declared.instruction.Lined.{Lined}
-use Rattle.il_ast.specs.declared.block.Phi.{Phi}
-use Rattle.il_ast.specs.declared.block.PhiArg.{PhiArg}
-use Rattle.il_ast.specs.declared.block.Block.{Block}
-use Rattle.il_ast.specs.declared.function.Func.{Func}
-use Rattle.il_ast.specs.declared.value.Callee.{Callee}
-use Rattle.il_ast.specs.declared.value.Value.{Value}
-use Rattle.il_ast.specs.declared.value.Value.TheVariants.{Integer, Pointer, Function}
-use Rattle.il_ast.specs.declared.value.End.{End}
-use Rattle.il_ast.specs.declared.value.End.TheVariants.{Halt, Undefined}
+use Rattle.il_ast.specs.Types.{Class, W, L, Size, Byte, Half, Word, Long, Val, Int, Temp, Global, Dest, Arg, Inst, Unary, Binary, Alloc, Store, Blit, Call as CallInst, Jump, Goto, Branch, Return, Lined, Phi, PhiArg, Block, Func, Callee, Value, Integer, Pointer, Function, End, Halt, Undefined}
+use Rattle.il_ast.specs.declared.instruction.Jump.TheVariants.{Halt as HaltJump}
 use Rattle.il_ast.specs.Values.{in_place, byte_count}
 use Rattle.il_ast.specs.Memory.{Memory, store, copy, fresh, free_all}
 use Rattle.il_ast.specs.Operations.{operand_class, left_class, right_class, operate_one, operate_two}

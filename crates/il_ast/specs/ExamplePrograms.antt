@@ -1,35 +1,7 @@
 -- Small programs, as trees, on which the definitions are tried.
 use Rattle.std.specs.Prelude.{◌≡◌, ℕ, zero, suc, List, [], ◌∷◌, length, map, Some, None, true, false, refl}
-use Rattle.il_ast.specs.declared.operation.Class.{Class}
-use Rattle.il_ast.specs.declared.operation.Class.TheVariants.{W, L}
-use Rattle.il_ast.specs.declared.operation.Size.TheVariants.{Byte, Word, Long}
-use Rattle.il_ast.specs.declared.operation.Extension.TheVariants.{SignedWord, UnsignedByte}
-use Rattle.il_ast.specs.declared.operation.UnaryOp.TheVariants.{Copy, LoadLong, Load}
-use Rattle.il_ast.specs.declared.operation.Condition.TheVariants.{Equal, SignedLess}
-use Rattle.il_ast.specs.declared.operation.BinaryOp.{BinaryOp}
-use Rattle.il_ast.specs.declared.operation.BinaryOp.TheVariants.{Add, Sub, Mul, Compare}
-use Rattle.il_ast.specs.declared.operation.Alignment.TheVariants.{Four, Eight}
-use Rattle.il_ast.specs.declared.operand.Val.{Val}
-use Rattle.il_ast.specs.declared.operand.Val.TheVariants.{Int, Temp, Global}
-use Rattle.il_ast.specs.declared.operand.Dest.{Dest}
-use Rattle.il_ast.specs.declared.operand.Arg.{Arg}
-use Rattle.il_ast.specs.declared.instruction.Inst.{Inst}
-use Rattle.il_ast.specs.declared.instruction.Inst.TheVariants.{Unary, Binary, Alloc, Store, Blit, Call}
-use Rattle.il_ast.specs.declared.instruction.Jump.{Jump}
-use Rattle.il_ast.specs.declared.instruction.Jump.TheVariants.{Goto, Branch, Return, Halt}
-use Rattle.il_ast.specs.declared.instruction.Lined.{Lined}
-use Rattle.il_ast.specs.declared.block.Phi.{Phi}
-use Rattle.il_ast.specs.declared.block.PhiArg.{PhiArg}
-use Rattle.il_ast.specs.declared.block.Block.{Block}
-use Rattle.il_ast.specs.declared.function.Param.{Param}
-use Rattle.il_ast.specs.declared.function.Func.{Func}
-use Rattle.il_ast.specs.declared.datum.Item.TheVariants.{Bytes}
-use Rattle.il_ast.specs.declared.datum.Field.TheVariants.{Items}
-use Rattle.il_ast.specs.declared.datum.DataDef.{DataDef}
-use Rattle.il_ast.specs.declared.program.Target.{Target}
-use Rattle.il_ast.specs.declared.program.Target.TheVariants.{Code, Object}
-use Rattle.il_ast.specs.declared.program.Program.{Program}
-use Rattle.il_ast.specs.declared.value.Callee.TheVariants.{Defined, SystemWrite, SystemExit}
+use Rattle.il_ast.specs.Types.{Class, W, L, Byte, Word, Long, SignedWord, UnsignedByte, Copy, LoadLong, Load, Equal, SignedLess, BinaryOp, Add, Sub, Mul, Compare, Four, Eight, Val, Int, Temp, Global, Dest, Arg, Inst, Unary, Binary, Alloc, Store, Blit, Call, Jump, Goto, Branch, Return, Lined, Phi, PhiArg, Block, Param, Func, Bytes, Items, DataDef, Target, Code, Object, Program, Defined, SystemWrite, SystemExit}
+use Rattle.il_ast.specs.declared.instruction.Jump.TheVariants.{Halt}
 use Rattle.il_ast.specs.Written.{has_block, have_arguments}
 use Rattle.il_ast.specs.Mentions.{come_after, temps_of, labels_of, are_distinct}
 

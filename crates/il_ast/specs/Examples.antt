@@ -1,9 +1,6 @@
 -- What the definitions give for the example programs.
 use Rattle.std.specs.Prelude.{◌≡◌, ℕ, ◌-◌, ◌^◌, List, [], ◌∷◌}
-use Rattle.il_ast.specs.declared.operation.BinaryOp.TheVariants.{Div, Rem, Urem, Sar, Shl}
-use Rattle.il_ast.specs.declared.program.Program.{Program}
-use Rattle.il_ast.specs.declared.value.End.{End}
-use Rattle.il_ast.specs.declared.value.End.TheVariants.{Exit, Halt, Undefined, Stack, Turns}
+use Rattle.il_ast.specs.Types.{Div, Rem, Urem, Sar, Shl, Program, End, Exit, Halt, Undefined, Stack, Turns}
 use Rattle.il_ast.specs.Cost.{weight, need}
 use Rattle.il_ast.specs.Run.{price}
 use Rattle.il_ast.specs.Meaning.{Behaviour, meaning, outcome, spent_of}

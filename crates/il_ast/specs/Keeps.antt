@@ -1,9 +1,7 @@
 -- What it means that a code keeps what a function's body means, and that one code keeps another.
 -- Nothing is asked about runs that become undefined.
 use Rattle.std.specs.Prelude.{◌≡◌, ℕ, List, [], ◌∷◌, Option, Some, None}
-use Rattle.il_ast.specs.declared.operation.Class.{Class}
-use Rattle.il_ast.specs.declared.value.Value.{Value}
-use Rattle.il_ast.specs.declared.value.End.TheVariants.{Exit, Halt, Undefined, Stack, Turns}
+use Rattle.il_ast.specs.Types.{Class, Value, Exit, Halt, Undefined, Stack, Turns}
 use Rattle.il_ast.specs.Values.{in_place}
 use Rattle.il_ast.specs.Memory.{Memory}
 use Rattle.il_ast.specs.Effect.{Call}

@@ -1,9 +1,7 @@
 -- The laws of the meaning: more turns go on from where fewer stopped, and depth beyond the turns
 -- changes nothing.
 use Rattle.std.specs.Prelude.{◌≡◌, ◌≢◌, ◌⊎◌, ℕ, ◌<◌, ◌≤◌, List, [], ◌++◌}
-use Rattle.il_ast.specs.declared.program.Program.{Program}
-use Rattle.il_ast.specs.declared.value.End.{End}
-use Rattle.il_ast.specs.declared.value.End.TheVariants.{Exit, Halt, Undefined, Stack, Turns}
+use Rattle.il_ast.specs.Types.{Program, End, Exit, Halt, Undefined, Stack, Turns}
 use Rattle.il_ast.specs.Memory.{Memory}
 use Rattle.il_ast.specs.Effect.{Call}
 use Rattle.il_ast.specs.Run.{Spent, Ended}

@@ -16,3 +16,5 @@ pub mod Keeps
 pub mod Simulation
 pub mod Written
 pub mod Passes
+pub mod Types
+pub mod Prelude

@@ -1,19 +1,7 @@
 -- What a program means: the output and the end of its run, for argument words and a number of turns
 -- (QBE IL, "Call", "Linkage").
 use Rattle.std.specs.Prelude.{ℕ, zero, suc, ◌+◌, ◌-◌, ◌%◌, ◌^◌, Bool, true, false, nat_eq, nat_lt, ◌&&◌, if◌then◌else◌, List, [], ◌∷◌, map, length, slice_get, Option, Some, None, option_and_then}
-use Rattle.il_ast.specs.declared.limits.TheConstants.{STACK_ROOM}
-use Rattle.il_ast.specs.declared.operation.Class.{Class}
-use Rattle.il_ast.specs.declared.operation.Class.TheVariants.{W, L}
-use Rattle.il_ast.specs.declared.function.Param.{Param}
-use Rattle.il_ast.specs.declared.function.Func.{Func}
-use Rattle.il_ast.specs.declared.program.InText.{InText}
-use Rattle.il_ast.specs.declared.program.Program.{Program}
-use Rattle.il_ast.specs.declared.value.Callee.{Callee}
-use Rattle.il_ast.specs.declared.value.Callee.TheVariants.{Defined, SystemWrite, SystemExit}
-use Rattle.il_ast.specs.declared.value.Value.{Value}
-use Rattle.il_ast.specs.declared.value.Value.TheVariants.{Integer, Pointer, Function}
-use Rattle.il_ast.specs.declared.value.End.{End}
-use Rattle.il_ast.specs.declared.value.End.TheVariants.{Exit, Undefined, Stack, Turns}
+use Rattle.il_ast.specs.Types.{STACK_ROOM, Class, W, L, Param, Func, InText, Program, Callee, Defined, SystemWrite, SystemExit, Value, Integer, Pointer, Function, End, Exit, Undefined, Stack, Turns}
 use Rattle.il_ast.specs.Values.{same_class}
 use Rattle.il_ast.specs.Memory.{Memory, cells_at, plain_bytes}
 use Rattle.il_ast.specs.Cost.{need}

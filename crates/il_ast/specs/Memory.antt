@@ -2,10 +2,7 @@
 -- which is never used again.
 use Rattle.std.specs.Prelude.{ℕ, zero, suc, ◌+◌, Bool, false, not, nat_eq, nat_le, ◌&&◌, ◌||◌, if◌then◌else◌, List, [], ◌∷◌, ◌++◌, map, length, take, drop, replicate, slice_get, slice_set, Option, Some, None}
 use Rattle.std.specs.Option.{option_map, option_and_then, option_flatten}
-use Rattle.il_ast.specs.declared.value.Value.{Value}
-use Rattle.il_ast.specs.declared.value.Value.TheVariants.{Integer, Pointer, Function}
-use Rattle.il_ast.specs.declared.value.Cell.{Cell}
-use Rattle.il_ast.specs.declared.value.Cell.TheVariants.{Plain, Part, Blank}
+use Rattle.il_ast.specs.Types.{Value, Integer, Pointer, Function, Cell, Plain, Part, Blank}
 use Rattle.il_ast.specs.Values.{bytes_of, number_of, same_value}
 
 -- the blocks made so far, by number: the cells of a live one, none for a dead one

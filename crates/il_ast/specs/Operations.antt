@@ -3,18 +3,7 @@
 use Rattle.std.specs.Prelude.{ℕ, ◌+◌, ◌-◌, ◌*◌, ◌/◌, ◌%◌, ◌^◌, Bool, true, false, not, nat_eq, nat_lt, nat_le, ◌&&◌, if◌then◌else◌, int_lt, int_le, int_div, int_rem, bit_and, bit_or, bit_xor, Option, Some, None}
 use Rattle.std.specs.Int.{w8, w16, w32, cast_signed, int_shr}
 use Rattle.std.specs.Option.{option_map, option_and_then, option_map_or}
-use Rattle.il_ast.specs.declared.operation.Class.{Class}
-use Rattle.il_ast.specs.declared.operation.Class.TheVariants.{W, L}
-use Rattle.il_ast.specs.declared.operation.Extension.{Extension}
-use Rattle.il_ast.specs.declared.operation.Extension.TheVariants.{SignedWord, UnsignedWord, SignedHalf, UnsignedHalf, SignedByte, UnsignedByte}
-use Rattle.il_ast.specs.declared.operation.UnaryOp.{UnaryOp}
-use Rattle.il_ast.specs.declared.operation.UnaryOp.TheVariants.{Neg, Copy, Extend, LoadLong, Load}
-use Rattle.il_ast.specs.declared.operation.Condition.{Condition}
-use Rattle.il_ast.specs.declared.operation.Condition.TheVariants.{Equal, NotEqual, SignedLessEqual, SignedLess, SignedGreaterEqual, SignedGreater, UnsignedLessEqual, UnsignedLess, UnsignedGreaterEqual, UnsignedGreater}
-use Rattle.il_ast.specs.declared.operation.BinaryOp.{BinaryOp}
-use Rattle.il_ast.specs.declared.operation.BinaryOp.TheVariants.{Add, Sub, Mul, And, Or, Xor, Div, Rem, Udiv, Urem, Sar, Shr, Shl, Compare}
-use Rattle.il_ast.specs.declared.value.Value.{Value}
-use Rattle.il_ast.specs.declared.value.Value.TheVariants.{Integer, Pointer, Function}
+use Rattle.il_ast.specs.Types.{Class, W, L, Extension, SignedWord, UnsignedWord, SignedHalf, UnsignedHalf, SignedByte, UnsignedByte, UnaryOp, Neg, Copy, Extend, LoadLong, Load, Condition, Equal, NotEqual, SignedLessEqual, SignedLess, SignedGreaterEqual, SignedGreater, UnsignedLessEqual, UnsignedLess, UnsignedGreaterEqual, UnsignedGreater, BinaryOp, Add, Sub, Mul, And, Or, Xor, Div, Rem, Udiv, Urem, Sar, Shr, Shl, Compare, Value, Integer, Pointer, Function}
 use Rattle.il_ast.specs.Values.{modulus, signed, unsigned, same_callee}
 use Rattle.il_ast.specs.Memory.{Memory, load, size_at}
 

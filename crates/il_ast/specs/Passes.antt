@@ -1,9 +1,6 @@
 -- The promise of every pass on code: what it makes keeps what it was given.
 use Rattle.std.specs.Prelude.{◌≡◌, List, map, Option}
-use Rattle.il_ast.specs.declared.operation.Class.{Class}
-use Rattle.il_ast.specs.declared.function.Param.{Param}
-use Rattle.il_ast.specs.declared.function.Func.{Func}
-use Rattle.il_ast.specs.declared.value.Value.{Value}
+use Rattle.il_ast.specs.Types.{Class, Param, Func, Value}
 use Rattle.il_ast.specs.Run.{Outcome, body}
 use Rattle.il_ast.specs.Logged.{Event}
 use Rattle.il_ast.specs.Keeps.{Asked, Given, Body, KeepsMeaning, KeepsCode}

@@ -1,8 +1,6 @@
 -- What a code owes so that it keeps another code, step by step, or a function's body, turn by turn.
 use Rattle.std.specs.Prelude.{◌≡◌, ℕ, zero, suc, ◌-◌, Option, Some, None}
-use Rattle.il_ast.specs.declared.operand.Dest.{Dest}
-use Rattle.il_ast.specs.declared.value.Value.{Value}
-use Rattle.il_ast.specs.declared.value.End.TheVariants.{Turns}
+use Rattle.il_ast.specs.Types.{Dest, Value, Turns}
 use Rattle.il_ast.specs.Memory.{Memory}
 use Rattle.il_ast.specs.Effect.{Env, Activation, Effect, Goes, Calls as CallsFor, Returns, Ends, assign, effect}
 use Rattle.il_ast.specs.Run.{Spent, one_turn, both, Outcome, Returned, Ended}

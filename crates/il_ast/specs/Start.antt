@@ -1,19 +1,7 @@
 -- What global names are worth, and the memory that a program starts in (QBE IL, "Data").
 use Rattle.std.specs.Prelude.{ℕ, zero, suc, ◌+◌, ◌%◌, ◌^◌, nat_eq, if◌then◌else◌, List, [], ◌∷◌, ◌++◌, map, length, replicate, slice_get, Option, Some, None, flat_map}
-use Rattle.il_ast.specs.declared.datum.Item.{Item}
-use Rattle.il_ast.specs.declared.datum.Item.TheVariants.{Int, Bytes, Address}
-use Rattle.il_ast.specs.declared.datum.Field.{Field}
-use Rattle.il_ast.specs.declared.datum.Field.TheVariants.{Items, Zeros}
-use Rattle.il_ast.specs.declared.datum.DataDef.{DataDef}
-use Rattle.il_ast.specs.declared.operation.Size.{Size}
-use Rattle.il_ast.specs.declared.program.Target.{Target}
-use Rattle.il_ast.specs.declared.program.Target.TheVariants.{Code, Object}
-use Rattle.il_ast.specs.declared.program.InText.{InText}
-use Rattle.il_ast.specs.declared.program.Program.{Program}
-use Rattle.il_ast.specs.declared.value.Value.{Value}
-use Rattle.il_ast.specs.declared.value.Value.TheVariants.{Integer, Pointer, Function}
-use Rattle.il_ast.specs.declared.value.Cell.{Cell}
-use Rattle.il_ast.specs.declared.value.Cell.TheVariants.{Plain, Blank}
+use Rattle.il_ast.specs.Types.{Item, Bytes, Address, Field, Items, Zeros, DataDef, Size, Target, Code, Object, InText, Program, Value, Integer, Pointer, Function, Cell, Plain, Blank}
+use Rattle.il_ast.specs.declared.datum.Item.TheVariants.{Int}
 use Rattle.il_ast.specs.Values.{bytes_of, byte_count}
 use Rattle.il_ast.specs.Memory.{Memory, parts}
 

@@ -2,14 +2,7 @@
 -- a value (QBE IL, "Types").
 use Rattle.std.specs.Prelude.{ℕ, zero, suc, ◌+◌, ◌*◌, ◌/◌, ◌%◌, ◌^◌, ℤ, Bool, true, false, nat_eq, ◌&&◌, List, [], ◌∷◌, Option, Some, None}
 use Rattle.std.specs.Int.{Width, w32, w64, cast_signed, cast_unsigned}
-use Rattle.il_ast.specs.declared.operation.Class.{Class}
-use Rattle.il_ast.specs.declared.operation.Class.TheVariants.{W, L}
-use Rattle.il_ast.specs.declared.operation.Size.{Size}
-use Rattle.il_ast.specs.declared.operation.Size.TheVariants.{Byte, Half, Word, Long}
-use Rattle.il_ast.specs.declared.value.Value.{Value}
-use Rattle.il_ast.specs.declared.value.Value.TheVariants.{Integer, Pointer, Function}
-use Rattle.il_ast.specs.declared.value.Callee.{Callee}
-use Rattle.il_ast.specs.declared.value.Callee.TheVariants.{Defined, SystemWrite, SystemExit}
+use Rattle.il_ast.specs.Types.{Class, W, L, Size, Byte, Half, Word, Long, Value, Integer, Pointer, Function, Callee, Defined, SystemWrite, SystemExit}
 
 abbrev pub width : Class → Width
 width W = w32

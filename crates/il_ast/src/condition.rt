@@ -1,8 +1,6 @@
 //! Comparisons of two numbers (QBE IL, "Comparisons"): exactly `holds` of `specs/Operations`.
 ghost use Rattle.std.specs.Prelude.{◌≡◌, ◌%◌};
-ghost use Rattle.il_ast.specs.declared.operation.Class.TheVariants.{W, L};
-ghost use Rattle.il_ast.specs.Operations.{holds};
-ghost use Rattle.il_ast.specs.Values.{modulus};
+ghost use Rattle.il_ast.specs.Prelude.{W, L, holds, modulus};
 
 use crate::operation::{Class, Condition};
 

@@ -1,6 +1,5 @@
 //! The laws of the meaning, each as the contract of a function that does nothing.
-ghost use Rattle.il_ast.specs.Examples.{Examples};
-ghost use Rattle.il_ast.specs.Laws.{EndsStay, OutputGrows, DepthIsEnough, TurnsAreSpent, OutputComesFirst};
+ghost use Rattle.il_ast.specs.Prelude.{Examples, EndsStay, OutputGrows, DepthIsEnough, TurnsAreSpent, OutputComesFirst};
 
 /// An end other than `Turns`, and the output with it, is the same at every greater number of turns.
 pub fn ends_stay()

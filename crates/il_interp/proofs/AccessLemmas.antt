@@ -15,10 +15,7 @@ use Rattle.il_ast.specs.declared.operand.Val.TheVariants.{Temp}
 use Rattle.il_ast.specs.declared.instruction.Inst.TheVariants.{Unary, Binary, Store}
 use Rattle.il_ast.specs.declared.value.Value.{Value}
 use Rattle.il_ast.specs.declared.value.Value.TheVariants.{Integer, Pointer}
-use Rattle.il_ast.specs.Values.{in_place, byte_count}
-use Rattle.il_ast.specs.Memory.{Memory, load, store}
-use Rattle.il_ast.specs.Operations.{operand_class, left_class, right_class, operate_one, operate_two, widened, extended, extension_bytes}
-use Rattle.il_ast.specs.Effect.{Locals, stored_class, inst_effect, assigned, changed, operand, value_at, Done}
+use Rattle.il_ast.specs.Prelude.{in_place, byte_count, Memory, load, store, operand_class, left_class, right_class, operate_one, operate_two, widened, extended, extension_bytes, Locals, stored_class, inst_effect, assigned, changed, operand, value_at, Done}
 use Rattle.il_interp.specs.Rows.{held, in_class, Does}
 use Rattle.il_interp.specs.Slots.{Moves}
 use Rattle.il_interp.proofs.RowLemmas.{operand_is}

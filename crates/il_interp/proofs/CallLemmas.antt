@@ -2,8 +2,8 @@
 use Rattle.std.proofs.Common.{◌≡◌, ℕ, ◌-◌, ◌^◌, ◌<◌, ◌≤◌, arith, Option, Some, None, option_map, lt-ltb, le-ltb}
 use Rattle.il_ast.specs.declared.function.Func.{Func}
 use Rattle.il_ast.specs.declared.program.InText.{InText}
-use Rattle.il_ast.specs.Cost.{need}
-use Rattle.il_types.specs.Capped.{capped}
+use Rattle.il_ast.specs.Prelude.{need}
+use Rattle.il_types.specs.Prelude.{capped}
 use Rattle.il_interp.specs.Room.{LeavesRoom}
 
 fits_below : (room n : ℕ) → room < 2 ^ 32 → capped n ≤ room → n ≤ room

@@ -1,6 +1,6 @@
 -- Blocks that die, in the other order.
 use Rattle.std.proofs.Common.{◌≡◌, ℕ, zero, suc, ◌+◌, ◌<◌, ◌≤◌, List, [], ◌∷◌, ◌++◌, length, take, refl, ap, sym, ◌∙◌, arith, slice_get, Some}
-use Rattle.il_ast.specs.Memory.{Memory, free, free_all}
+use Rattle.il_ast.specs.Prelude.{Memory, free, free_all}
 
 free_twice : (m : Memory) (a b : ℕ) → free (free m a) b ≡ free (free m b) a
 free_twice [] a b = refl

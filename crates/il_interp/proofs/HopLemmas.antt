@@ -12,8 +12,7 @@ use Rattle.il_ast.specs.declared.value.End.{End}
 use Rattle.il_ast.specs.declared.value.End.TheVariants.{Undefined}
 use Rattle.il_ast.specs.declared.value.Value.{Value}
 use Rattle.il_ast.specs.declared.value.Value.TheVariants.{Integer}
-use Rattle.il_ast.specs.Memory.{Memory}
-use Rattle.il_ast.specs.Effect.{phi_value, Env, phi_values, with_phis, place_of, enter, enter_place, enter_at, entered, effect, turn_of, turn_in, end_effect, jump_effect}
+use Rattle.il_ast.specs.Prelude.{Memory, phi_value, Env, phi_values, with_phis, place_of, enter, enter_place, enter_at, entered, effect, turn_of, turn_in, end_effect, jump_effect}
 use Rattle.il_interp.specs.declared.state.Frame.{Frame}
 use Rattle.il_interp.specs.declared.state.State.{State}
 use Rattle.il_interp.specs.Machine.{On, Over, act_of, env_of, locals_of, react, stepped, turn_in_function, step, go_on, machine}

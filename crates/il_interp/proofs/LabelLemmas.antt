@@ -9,15 +9,10 @@ use Rattle.il_ast.specs.declared.text.Definition.TheVariants.{Function, Object}
 use Rattle.il_ast.specs.declared.program.InText.{InText}
 use Rattle.il_types.specs.declared.checked.Checked.{Checked}
 use Rattle.il_types.specs.declared.rule.Rule.TheVariants.{PhiCoversPredecessors}
-use Rattle.il_types.specs.First.{first}
-use Rattle.il_types.specs.Locals.{uncovered_phi}
-use Rattle.il_types.specs.Rules.{broken_in}
-use Rattle.il_types.specs.Arguments.{are_all_distinct}
+use Rattle.il_types.specs.Prelude.{first, uncovered_phi, broken_in, are_all_distinct}
 use Rattle.il_types.proofs.ArgumentLemmas.{none_first, block_distinct}
 use Rattle.obj_link.specs.declared.linking.linked.Linked.{Linked}
-use Rattle.obj_link.specs.Names.{function_in, functions_from}
-use Rattle.obj_link.specs.Program.{IsProgram}
-use Rattle.obj_link.specs.ProgramOf.{program}
+use Rattle.obj_link.specs.Prelude.{function_in, functions_from, IsProgram, program}
 
 abbrev AllCovered : List (InText Func) → Type 0
 AllCovered [] = Unit {0}

@@ -5,9 +5,7 @@ use Rattle.il_ast.specs.declared.value.Value.{Value}
 use Rattle.il_ast.specs.declared.value.Value.TheVariants.{Integer, Pointer, Function}
 use Rattle.il_ast.specs.declared.value.End.{End}
 use Rattle.il_ast.specs.declared.value.End.TheVariants.{Undefined}
-use Rattle.il_ast.specs.Memory.{Memory}
-use Rattle.il_ast.specs.Run.{Spent, nothing, Ended}
-use Rattle.il_ast.specs.Meaning.{answered, write_call, exit_call}
+use Rattle.il_ast.specs.Prelude.{Memory, Spent, nothing, Ended, answered, write_call, exit_call}
 use Rattle.il_interp.specs.declared.state.State.{State}
 use Rattle.il_interp.specs.Machine.{Over, received, native_step}
 

@@ -9,11 +9,8 @@ use Rattle.il_ast.specs.declared.program.Program.{Program}
 use Rattle.il_ast.specs.declared.value.Callee.{Callee}
 use Rattle.il_ast.specs.declared.value.Callee.TheVariants.{Defined, SystemWrite, SystemExit}
 use Rattle.il_ast.specs.declared.value.Value.{Value}
-use Rattle.il_ast.specs.Memory.{Memory}
-use Rattle.il_ast.specs.Cost.{need}
-use Rattle.il_ast.specs.Effect.{Call, Effect, Goes, Calls, Returns, Ends, effect}
-use Rattle.il_ast.specs.Run.{Outcome, Returned, Ended}
-use Rattle.il_ast.specs.Meaning.{call_fits, write_call, exit_call}
+use Rattle.il_ast.specs.Prelude.{Memory, need, Call, Effect, Goes, Returns, Ends, effect, Outcome, Returned, Ended, call_fits, write_call, exit_call}
+use Rattle.il_ast.specs.Effect.{Calls}
 use Rattle.il_interp.specs.declared.state.Frame.{Frame}
 use Rattle.il_interp.specs.declared.state.State.{State}
 use Rattle.il_interp.specs.Machine.{Next, On, Over, act_of, standing, env_of, received, return_to, function_step, native_step, named_step, react, turn_in_function, step, go_on, machine}

@@ -6,13 +6,9 @@ use Rattle.il_ast.specs.declared.program.InText.{InText}
 use Rattle.il_ast.specs.declared.program.Program.{Program}
 use Rattle.il_ast.specs.declared.value.End.{End}
 use Rattle.il_ast.specs.declared.value.End.TheVariants.{Undefined, Stack}
-use Rattle.il_ast.specs.Memory.{Memory}
-use Rattle.il_ast.specs.Cost.{need}
-use Rattle.il_ast.specs.Effect.{Call}
-use Rattle.il_ast.specs.Start.{start_memory}
-use Rattle.il_ast.specs.Meaning.{call_fits, stack_room, main_call, Behaviour, meaning}
+use Rattle.il_ast.specs.Prelude.{Memory, need, Call, start_memory, call_fits, stack_room, main_call, Behaviour, meaning}
 use Rattle.obj_link.specs.declared.linking.linked.Linked.{Linked}
-use Rattle.obj_link.specs.ProgramOf.{program}
+use Rattle.obj_link.specs.Prelude.{program}
 use Rattle.il_interp.specs.declared.pieces.Running.{Running}
 use Rattle.il_interp.specs.declared.state.State.{State}
 use Rattle.il_interp.specs.Prepared.{program_of}

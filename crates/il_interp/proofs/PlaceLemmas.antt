@@ -3,9 +3,9 @@ use Rattle.std.proofs.Common.{◌≡◌, ℕ, zero, suc, ◌+◌, ◌<◌, Bool,
 use Rattle.std.proofs.lemmas.List.{take_more, length-take-le, length-map, map-append}
 use Rattle.il_ast.specs.declared.function.Func.{Func}
 use Rattle.il_ast.specs.declared.program.InText.{InText}
-use Rattle.il_ast.specs.Effect.{place_of}
-use Rattle.il_types.specs.LabelBlocks.{place_in}
-use Rattle.obj_link.specs.Shown.{shown}
+use Rattle.il_ast.specs.Prelude.{place_of}
+use Rattle.il_types.specs.Prelude.{place_in}
+use Rattle.obj_link.specs.Prelude.{shown}
 use Rattle.il_interp.specs.Places.{placed, places_of}
 use Rattle.il_ast.proofs.Truth.{eq_zero_suc, eq_suc_zero, eq_suc_suc}
 

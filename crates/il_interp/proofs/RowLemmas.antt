@@ -15,12 +15,7 @@ use Rattle.il_ast.specs.declared.program.Program.{Program}
 use Rattle.il_ast.specs.declared.value.Value.{Value}
 use Rattle.il_ast.specs.declared.value.Value.TheVariants.{Integer}
 use Rattle.il_ast.specs.declared.value.End.{End}
-use Rattle.il_ast.specs.Start.{globals_of}
-use Rattle.il_ast.specs.Meaning.{Behaviour}
-use Rattle.il_ast.specs.Values.{modulus, in_place}
-use Rattle.il_ast.specs.Memory.{Memory}
-use Rattle.il_ast.specs.Operations.{left_class, right_class, on_integers, operate_two}
-use Rattle.il_ast.specs.Effect.{effect, turn_of, turn_in, inst_effect, after_inst, assigned, operand, value_at, Done}
+use Rattle.il_ast.specs.Prelude.{globals_of, Behaviour, modulus, in_place, Memory, left_class, right_class, on_integers, operate_two, effect, turn_of, turn_in, inst_effect, after_inst, assigned, operand, value_at, Done}
 use Rattle.il_interp.specs.declared.state.State.{State}
 use Rattle.il_interp.specs.Pieces.{rest_of}
 use Rattle.il_interp.specs.Machine.{On, stepped, act_of, env_of, react, turn_in_function, step, go_on, machine}

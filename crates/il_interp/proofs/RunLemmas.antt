@@ -2,9 +2,9 @@
 use Rattle.std.proofs.Common.{◌≡◌, ℕ, suc, ◌+◌, ◌-◌, ◌<◌, List, refl, ap, sym, ◌∙◌, arith, add-zero, Option, Some, None}
 use Rattle.il_ast.specs.declared.program.Program.{Program}
 use Rattle.il_ast.specs.declared.value.End.{End}
-use Rattle.il_ast.specs.Meaning.{Behaviour, meaning}
+use Rattle.il_ast.specs.Prelude.{Behaviour, meaning}
 use Rattle.obj_link.specs.declared.linking.linked.Linked.{Linked}
-use Rattle.obj_link.specs.ProgramOf.{program}
+use Rattle.obj_link.specs.Prelude.{program}
 use Rattle.il_interp.proofs.Unwinding.{machine_means}
 use Rattle.il_interp.specs.declared.state.State.{State}
 use Rattle.il_interp.specs.Machine.{Next, On, Over, step, go_on, machine, started}

@@ -4,9 +4,7 @@ use Rattle.il_ast.specs.declared.value.Value.{Value}
 use Rattle.il_ast.specs.declared.value.Value.TheVariants.{Pointer}
 use Rattle.il_ast.specs.declared.value.Cell.{Cell}
 use Rattle.il_ast.specs.declared.value.Cell.TheVariants.{Plain, Part}
-use Rattle.il_ast.specs.Values.{bytes_of}
-use Rattle.il_ast.specs.Memory.{Memory, parts}
-use Rattle.il_ast.specs.Start.{pointers_from}
+use Rattle.il_ast.specs.Prelude.{bytes_of, Memory, parts, pointers_from}
 
 pub parts_further : (v : Value) (i : ℕ) → i < 8 → take (i + 1) (parts v) ≡ take i (parts v) ++ Part v i ∷ []
 parts_further v zero lt = refl

@@ -12,12 +12,8 @@ use Rattle.il_ast.specs.declared.value.Value.{Value}
 use Rattle.il_ast.specs.declared.value.Value.TheVariants.{Integer, Pointer, Function}
 use Rattle.il_ast.specs.declared.value.End.{End}
 use Rattle.il_ast.specs.declared.value.End.TheVariants.{Undefined, Stack, Turns}
-use Rattle.il_ast.specs.Memory.{Memory, cells_at, plain_bytes}
-use Rattle.il_ast.specs.Cost.{need}
-use Rattle.il_ast.specs.Effect.{Env, Activation, Call, Effect, Goes, Calls, Returns, Ends, effect}
-use Rattle.il_ast.specs.Run.{Spent, nothing, one_turn, one_call, Outcome, Returned, Ended, after, Callees, Rest, receive, resume, perform, run, begun, body}
-use Rattle.il_ast.specs.Start.{start_memory}
-use Rattle.il_ast.specs.Meaning.{call_fits, call_function, call_named, callees, write_call, write_integer, write_bytes, put_out, answered, exit_call, stack_room, main_call, Behaviour, behaviour_of, end_of, spent_of, outcome, meaning}
+use Rattle.il_ast.specs.Prelude.{Memory, cells_at, plain_bytes, need, Env, Activation, Call, Effect, Goes, Returns, Ends, effect, Spent, nothing, one_turn, one_call, Outcome, Returned, Ended, after, Callees, Rest, receive, resume, perform, run, begun, body, start_memory, call_fits, call_function, call_named, callees, write_call, write_integer, write_bytes, put_out, answered, exit_call, stack_room, main_call, Behaviour, behaviour_of, end_of, spent_of, outcome, meaning}
+use Rattle.il_ast.specs.Effect.{Calls}
 use Rattle.il_ast.proofs.SameDepth.{SameUpTo, same_run, same_callees}
 use Rattle.il_interp.specs.declared.state.Frame.{Frame}
 use Rattle.il_interp.specs.declared.state.State.{State}

@@ -5,7 +5,7 @@ use Rattle.il_interp.specs.declared.state.State.{State}
 use Rattle.il_interp.specs.declared.error.RunError.{RunError}
 use Rattle.il_interp.specs.declared.error.RunError.TheVariants.{Words, Memory}
 use Rattle.il_interp.specs.Machine.{Next, On, Over}
-use Rattle.obj_link.specs.Arguments.{are_arguments}
+use Rattle.obj_link.specs.Prelude.{are_arguments}
 
 -- a run begins in this state, or is over at once
 abbrev pub begun_next : Result State End → Next

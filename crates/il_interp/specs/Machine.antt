@@ -13,12 +13,8 @@ use Rattle.il_ast.specs.declared.value.Callee.TheVariants.{Defined, SystemWrite,
 use Rattle.il_ast.specs.declared.value.Value.{Value}
 use Rattle.il_ast.specs.declared.value.End.{End}
 use Rattle.il_ast.specs.declared.value.End.TheVariants.{Undefined, Stack, Turns}
-use Rattle.il_ast.specs.Memory.{Memory}
-use Rattle.il_ast.specs.Cost.{need}
-use Rattle.il_ast.specs.Effect.{Env, Activation, Locals, Call, InstEffect, after_inst, Effect, Goes, Calls, Returns, Ends, effect}
-use Rattle.il_ast.specs.Run.{Outcome, Returned, Ended, with_args}
-use Rattle.il_ast.specs.Start.{globals_of, start_memory}
-use Rattle.il_ast.specs.Meaning.{call_fits, write_call, exit_call, stack_room, main_call, end_of, Behaviour}
+use Rattle.il_ast.specs.Prelude.{Memory, need, Env, Activation, Locals, Call, InstEffect, after_inst, Effect, Goes, Returns, Ends, effect, Outcome, Returned, Ended, with_args, globals_of, start_memory, call_fits, write_call, exit_call, stack_room, main_call, end_of, Behaviour}
+use Rattle.il_ast.specs.Effect.{Calls}
 use Rattle.il_interp.specs.declared.state.Frame.{Frame}
 use Rattle.il_interp.specs.declared.state.State.{State}
 

@@ -5,8 +5,7 @@ use Rattle.il_ast.specs.declared.program.Program.{Program}
 use Rattle.il_ast.specs.declared.value.End.{End}
 use Rattle.il_ast.specs.declared.value.End.TheVariants.{Turns}
 use Rattle.il_ast.specs.declared.value.Value.{Value}
-use Rattle.il_ast.specs.Meaning.{Behaviour}
-use Rattle.il_ast.specs.Memory.{Memory}
+use Rattle.il_ast.specs.Prelude.{Behaviour, Memory}
 use Rattle.il_interp.specs.declared.state.State.{State}
 use Rattle.il_interp.specs.declared.pieces.Running.{Running}
 use Rattle.il_interp.specs.Prepared.{program_of}

@@ -2,10 +2,8 @@
 use Rattle.std.specs.Prelude.{ℕ, List, map, slice_get, Option, option_and_then}
 use Rattle.il_ast.specs.declared.function.Func.{Func}
 use Rattle.il_ast.specs.declared.program.InText.{InText}
-use Rattle.il_ast.specs.Cost.{need}
-use Rattle.il_ast.specs.Effect.{place_of}
-use Rattle.il_types.specs.Capped.{capped}
-use Rattle.il_types.specs.LabelBlocks.{place_in}
+use Rattle.il_ast.specs.Prelude.{need, place_of}
+use Rattle.il_types.specs.Prelude.{capped, place_in}
 
 abbrev pub needs_of : List (InText Func) → List ℕ
 needs_of functions = map (λ (f : InText Func). capped (need f.item)) functions

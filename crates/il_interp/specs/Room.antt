@@ -2,7 +2,7 @@
 use Rattle.std.specs.Prelude.{◌≡◌, ℕ, ◌-◌, true, false, nat_lt, Option, Some, None}
 use Rattle.il_ast.specs.declared.function.Func.{Func}
 use Rattle.il_ast.specs.declared.program.InText.{InText}
-use Rattle.il_ast.specs.Cost.{need}
+use Rattle.il_ast.specs.Prelude.{need}
 
 -- the room less what the function needs, or none where it needs more
 abbrev pub LeavesRoom : Option (InText Func) → ℕ → Option ℕ → Type 0

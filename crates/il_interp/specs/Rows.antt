@@ -10,8 +10,7 @@ use Rattle.il_ast.specs.declared.function.Func.{Func}
 use Rattle.il_ast.specs.declared.program.InText.{InText}
 use Rattle.il_ast.specs.declared.program.Program.{Program}
 use Rattle.il_ast.specs.declared.value.Value.{Value}
-use Rattle.il_ast.specs.Memory.{Memory}
-use Rattle.il_ast.specs.Effect.{Done, Fails, inst_effect}
+use Rattle.il_ast.specs.Prelude.{Memory, Done, Fails, inst_effect}
 use Rattle.il_interp.specs.declared.state.State.{State}
 use Rattle.il_interp.specs.Machine.{machine}
 

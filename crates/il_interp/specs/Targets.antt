@@ -3,7 +3,7 @@ use Rattle.std.specs.Prelude.{◌≡◌, ℕ, Bool, Option, Some, None}
 use Rattle.il_ast.specs.declared.instruction.Jump.{Jump}
 use Rattle.il_ast.specs.declared.instruction.Jump.TheVariants.{Return, Halt}
 use Rattle.il_ast.specs.declared.value.End.TheVariants.{Undefined}
-use Rattle.il_ast.specs.Effect.{Effect, Ends}
+use Rattle.il_ast.specs.Prelude.{Effect, Ends}
 
 -- what a jump to a label does is what it does to enter this one, or it is undefined
 abbrev pub Leads : Jump → (jumps : Effect) → (enters : ℕ → Effect) → Option (ℕ × Bool) → Type 0

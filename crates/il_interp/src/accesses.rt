@@ -4,9 +4,7 @@ ghost use Rattle.il_ast.specs.declared.instruction.Inst.TheVariants.{Unary, Bina
 ghost use Rattle.il_ast.specs.declared.operation.Class.TheVariants.{L};
 ghost use Rattle.il_ast.specs.declared.value.Value.{Value as ValueOf};
 ghost use Rattle.il_ast.specs.declared.value.Value.TheVariants.{Integer, Pointer};
-ghost use Rattle.il_ast.specs.Effect.{value_at};
-ghost use Rattle.il_ast.specs.Memory.{Memory};
-ghost use Rattle.il_ast.specs.Operations.{operand_class, operate_one};
+ghost use Rattle.il_ast.specs.Prelude.{value_at, Memory, operand_class, operate_one};
 ghost use Rattle.il_interp.specs.Rows.{held, Does};
 
 use crate::numbers::{in_class, number_at};

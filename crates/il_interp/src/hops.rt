@@ -1,8 +1,7 @@
 //! Instructions, and jumps on integers, which are done one after another through blocks.
 ghost use Rattle.std.specs.Prelude.{◌≡◌, ◌<◌, ◌≤◌, ℕ, List, Some, true, slice_get, IfOk, IfSome, MatchBool};
-ghost use Rattle.il_ast.specs.Memory.{Memory};
-ghost use Rattle.il_ast.specs.Effect.{Env, enter, jump_effect};
-ghost use Rattle.obj_link.specs.Shown.{shown};
+ghost use Rattle.il_ast.specs.Prelude.{Memory, Env, enter, jump_effect};
+ghost use Rattle.obj_link.specs.Prelude.{shown};
 ghost use Rattle.il_interp.specs.Prepared.{program_of};
 ghost use Rattle.il_interp.specs.Hops.{Ends, Enters, GoesAlong, held_in};
 

@@ -1,9 +1,8 @@
 //! Instructions but calls.
 ghost use Rattle.std.specs.Prelude.{◌≡◌, ◌+◌, ◌<◌, ◌^◌, IfOk};
 ghost use Rattle.il_ast.specs.declared.instruction.Inst.TheVariants.{Alloc, Blit};
-ghost use Rattle.il_ast.specs.Start.{globals_of};
-ghost use Rattle.il_ast.specs.Effect.{inst_effect};
-ghost use Rattle.obj_link.specs.ProgramOf.{program};
+ghost use Rattle.il_ast.specs.Prelude.{globals_of, inst_effect};
+ghost use Rattle.obj_link.specs.Prelude.{program};
 ghost use Rattle.il_interp.specs.Machine.{locals_of, inst_next, stepped};
 ghost use Rattle.il_interp.specs.Rows.{IsInRow};
 

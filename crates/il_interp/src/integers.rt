@@ -2,7 +2,7 @@
 ghost use Rattle.std.specs.Prelude.{◌≡◌, false};
 ghost use Rattle.il_ast.specs.declared.operation.Class.TheVariants.{W, L};
 ghost use Rattle.il_ast.specs.declared.operation.BinaryOp.TheVariants.{Div, Rem, Sar, Shr, Shl};
-ghost use Rattle.il_ast.specs.Operations.{can_divide, on_integers, extended};
+ghost use Rattle.il_ast.specs.Prelude.{can_divide, on_integers, extended};
 ghost use Rattle.il_interp.specs.Comparison.{is_comparison};
 
 use il_ast::{BinaryOp, Extension};

@@ -2,9 +2,8 @@
 ghost use Rattle.std.specs.Prelude.{◌≡◌, ◌&&◌, map, false, Err, IfOk, MatchResult, None, Some};
 ghost use Rattle.il_ast.specs.declared.operation.Class.TheVariants.{W};
 ghost use Rattle.il_ast.specs.declared.function.Param.{Param as ParamOf};
-ghost use Rattle.il_ast.specs.Meaning.{main_args, main_classes, same_classes, result_fits, meaning};
-ghost use Rattle.obj_link.specs.ProgramOf.{program};
-ghost use Rattle.obj_link.specs.Arguments.{are_arguments};
+ghost use Rattle.il_ast.specs.Prelude.{main_args, main_classes, same_classes, result_fits, meaning};
+ghost use Rattle.obj_link.specs.Prelude.{program, are_arguments};
 ghost use Rattle.il_interp.specs.declared.error.RunError.TheVariants.{Words};
 ghost use Rattle.il_interp.specs.Prepared.{program_of};
 ghost use Rattle.il_interp.specs.Machine.{started};

@@ -2,13 +2,9 @@
 ghost use Rattle.std.specs.Prelude.{◌≡◌, ℕ, Some, None, slice_get, IfOk, MatchBool, MatchOption, nat_eq, true, find, option_and_then};
 ghost use Rattle.il_ast.specs.declared.block.PhiArg.{PhiArg as PhiArgOf};
 ghost use Rattle.il_ast.specs.declared.instruction.Jump.TheVariants.{Return};
-ghost use Rattle.il_ast.specs.Start.{globals_of};
-ghost use Rattle.il_ast.specs.Memory.{Memory, free_all};
-ghost use Rattle.il_ast.specs.Effect.{branch_to, phi_value, phi_values, place_of, with_phis, enter, jump_effect};
-ghost use Rattle.il_ast.specs.Meaning.{end_of};
-ghost use Rattle.obj_link.specs.Shown.{shown};
-ghost use Rattle.obj_link.specs.ProgramOf.{program};
-ghost use Rattle.il_types.specs.Arguments.{are_distinct, are_all_distinct};
+ghost use Rattle.il_ast.specs.Prelude.{globals_of, Memory, free_all, branch_to, phi_value, phi_values, place_of, with_phis, enter, jump_effect, end_of};
+ghost use Rattle.obj_link.specs.Prelude.{shown, program};
+ghost use Rattle.il_types.specs.Prelude.{are_distinct, are_all_distinct};
 ghost use Rattle.il_interp.specs.Prepared.{program_of};
 ghost use Rattle.il_interp.specs.Targets.{Leads};
 ghost use Rattle.il_interp.specs.Machine.{env_of, locals_of, received, return_to, react, stepped};

@@ -1,6 +1,6 @@
 //! The predefined functions.
 ghost use Rattle.std.specs.Prelude.{◌≡◌, [], IfOk};
-ghost use Rattle.il_ast.specs.Meaning.{answered, write_bytes, write_integer, write_call, exit_call};
+ghost use Rattle.il_ast.specs.Prelude.{answered, write_bytes, write_integer, write_call, exit_call};
 ghost use Rattle.il_interp.specs.Machine.{native_step, stepped};
 
 use crate::jump::receive;

@@ -3,9 +3,7 @@ ghost use Rattle.std.specs.Prelude.{◌≡◌, List, Some, IfSome, MatchBool};
 ghost use Rattle.il_ast.specs.declared.instruction.Inst.TheVariants.{Binary};
 ghost use Rattle.il_ast.specs.declared.value.Value.{Value as ValueOf};
 ghost use Rattle.il_ast.specs.declared.value.Value.TheVariants.{Integer};
-ghost use Rattle.il_ast.specs.Effect.{value_at};
-ghost use Rattle.il_ast.specs.Memory.{Memory};
-ghost use Rattle.il_ast.specs.Operations.{left_class, right_class, on_integers};
+ghost use Rattle.il_ast.specs.Prelude.{value_at, Memory, left_class, right_class, on_integers};
 ghost use Rattle.il_interp.specs.Rows.{in_class, held, Does};
 
 use crate::integers::{on_longs, on_words};

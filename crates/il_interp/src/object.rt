@@ -1,11 +1,8 @@
 //! The cells of data.
 ghost use Rattle.std.specs.Prelude.{◌≡◌, ◌++◌, map, replicate, IfOk, OnOk, flat_map};
 ghost use Rattle.il_ast.specs.declared.value.Cell.TheVariants.{Plain as PlainCell, Blank as BlankCell};
-ghost use Rattle.il_ast.specs.Values.{bytes_of, byte_count};
-ghost use Rattle.il_ast.specs.Memory.{parts};
-ghost use Rattle.il_ast.specs.Start.{globals_of, address_cells, item_cells, field_cells, object_cells};
-ghost use Rattle.obj_link.specs.Shown.{shown};
-ghost use Rattle.obj_link.specs.ProgramOf.{program};
+ghost use Rattle.il_ast.specs.Prelude.{bytes_of, byte_count, parts, globals_of, address_cells, item_cells, field_cells, object_cells};
+ghost use Rattle.obj_link.specs.Prelude.{shown, program};
 
 use crate::operand::global_value;
 use il_ast::{Cell, DataDef, Field, InText, Item, Size, Value};

@@ -1,10 +1,7 @@
 //! The values of operands.
 ghost use Rattle.std.specs.Prelude.{◌≡◌, slice_get, Some, None, IfSome, IfOk, MatchOption};
-ghost use Rattle.il_ast.specs.Start.{target_value, globals_of};
-ghost use Rattle.il_ast.specs.Effect.{value_at, operand, all_operands};
-ghost use Rattle.il_ast.specs.Values.{in_place};
-ghost use Rattle.obj_link.specs.Shown.{shown};
-ghost use Rattle.obj_link.specs.ProgramOf.{program};
+ghost use Rattle.il_ast.specs.Prelude.{target_value, globals_of, value_at, operand, all_operands, in_place};
+ghost use Rattle.obj_link.specs.Prelude.{shown, program};
 ghost use Rattle.il_interp.specs.Operands.{FitsPlace};
 
 use crate::slots::Slots;

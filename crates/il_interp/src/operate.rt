@@ -1,8 +1,7 @@
 //! The operations of the language.
 ghost use Rattle.std.specs.Prelude.{◌≡◌, ◌<◌, ◌^◌};
 ghost use Rattle.il_ast.specs.declared.operation.Class.TheVariants.{W};
-ghost use Rattle.il_ast.specs.Values.{byte_count};
-ghost use Rattle.il_ast.specs.Operations.{operand_class, left_class, right_class, on_integers, extension_bytes, extended, widened, operate_one, operate_two};
+ghost use Rattle.il_ast.specs.Prelude.{byte_count, operand_class, left_class, right_class, on_integers, extension_bytes, extended, widened, operate_one, operate_two};
 ghost use Rattle.il_interp.specs.Negated.{negated};
 ghost use Rattle.il_interp.specs.Operands.{FitsPlace};
 

@@ -2,8 +2,8 @@
 ghost use Rattle.std.specs.Prelude.{◌≡◌, [], ◌∷◌, List, map, Some, IfOk, IfSome, MatchBool, true, option_map};
 ghost use Rattle.il_ast.specs.declared.value.Value.{Value as ValueOf};
 ghost use Rattle.il_ast.specs.declared.value.Value.TheVariants.{Integer};
-ghost use Rattle.il_ast.specs.Effect.{phi_value, phi_values, with_phis};
-ghost use Rattle.il_types.specs.Arguments.{are_distinct, are_all_distinct};
+ghost use Rattle.il_ast.specs.Prelude.{phi_value, phi_values, with_phis};
+ghost use Rattle.il_types.specs.Prelude.{are_distinct, are_all_distinct};
 
 use crate::numbers::{in_class, number_at};
 use crate::slots::Slots;

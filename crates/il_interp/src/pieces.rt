@@ -1,10 +1,8 @@
 //! Runs in hand, which are done piece by piece.
 ghost use Rattle.std.specs.Prelude.{◌≡◌, ◌+◌, ℕ, [], map, true, false, Err, IfOk, IfSome, MatchResult, Some, is_some};
 ghost use Rattle.il_ast.specs.declared.value.Value.TheVariants.{Pointer};
-ghost use Rattle.il_ast.specs.Meaning.{meaning};
-ghost use Rattle.il_ast.specs.Memory.{load, size_at};
-ghost use Rattle.obj_link.specs.ProgramOf.{program};
-ghost use Rattle.obj_link.specs.Arguments.{are_arguments};
+ghost use Rattle.il_ast.specs.Prelude.{meaning, load, size_at};
+ghost use Rattle.obj_link.specs.Prelude.{program, are_arguments};
 ghost use Rattle.il_interp.specs.declared.error.RunError.TheVariants.{Words};
 ghost use Rattle.il_interp.specs.Begun.{Refuses};
 ghost use Rattle.il_interp.specs.Pieces.{begun_as, comes_to, held, left_of, memory_of, put_before, value_of};

@@ -1,9 +1,7 @@
 //! Operations on pointers and functions.
 ghost use Rattle.std.specs.Prelude.{◌≡◌};
 ghost use Rattle.il_ast.specs.declared.operation.BinaryOp.TheVariants.{Add, Sub};
-ghost use Rattle.il_ast.specs.Memory.{Memory};
-ghost use Rattle.il_ast.specs.Values.{same_callee};
-ghost use Rattle.il_ast.specs.Operations.{where_different, on_offsets, on_functions, reaches, lies_in, compare_pointers, compare_with_zero, compare_places, on_places};
+ghost use Rattle.il_ast.specs.Prelude.{Memory, same_callee, where_different, on_offsets, on_functions, reaches, lies_in, compare_pointers, compare_with_zero, compare_places, on_places};
 
 use il_ast::condition::longs_hold;
 use il_ast::{BinaryOp, Callee, Condition, Value};

@@ -1,8 +1,8 @@
 //! What is worked out once, before a run.
 ghost use Rattle.std.specs.Prelude.{◌≡◌, ℕ, map, slice_get, IfOk, option_map};
-ghost use Rattle.il_ast.specs.Cost.{need};
-ghost use Rattle.il_types.specs.Capped.{capped};
-ghost use Rattle.obj_link.specs.Shown.{shown};
+ghost use Rattle.il_ast.specs.Prelude.{need};
+ghost use Rattle.il_types.specs.Prelude.{capped};
+ghost use Rattle.obj_link.specs.Prelude.{shown};
 ghost use Rattle.il_interp.specs.Places.{needs_of, placed, places_of};
 ghost use Rattle.il_interp.specs.Prepared.{program_of};
 ghost use Rattle.il_ast.specs.declared.function.Func.{Func as FuncOf};

@@ -1,7 +1,7 @@
 //! A program that is prepared to be run.
 ghost use Rattle.std.specs.Prelude.{◌≡◌, ℕ, map};
 ghost use Rattle.std.proofs.Props.{props};
-ghost use Rattle.obj_link.specs.Shown.{shown};
+ghost use Rattle.obj_link.specs.Prelude.{shown};
 ghost use Rattle.il_interp.specs.Places.{needs_of, placed, places_of};
 
 use crate::edges::Edges;

@@ -1,8 +1,8 @@
 //! Instructions that are done one after another within a block: all but calls, and but those that make blocks or copy bytes.
 ghost use Rattle.std.specs.Prelude.{◌-◌, ◌≤◌, MatchOption};
 ghost use Rattle.il_ast.specs.declared.instruction.Inst.TheVariants.{Unary, Binary, Store};
-ghost use Rattle.il_ast.specs.Start.{globals_of};
-ghost use Rattle.obj_link.specs.ProgramOf.{program};
+ghost use Rattle.il_ast.specs.Prelude.{globals_of};
+ghost use Rattle.obj_link.specs.Prelude.{program};
 ghost use Rattle.il_interp.specs.Rows.{held, Does, GoesOn, Undone};
 
 use crate::operand::operand;

@@ -2,8 +2,8 @@
 ghost use Rattle.std.specs.Prelude.{◌≡◌, ℕ, List, ◌∷◌, [], ◌++◌, map, length, Some, IfOk, OnOk};
 ghost use Rattle.il_ast.specs.declared.datum.DataDef.{DataDef as DataDefOf};
 ghost use Rattle.il_ast.specs.declared.program.InText.{InText as InTextOf};
-ghost use Rattle.il_ast.specs.Start.{object_cells, word_cells, pointers_from, list_cells, start_memory};
-ghost use Rattle.obj_link.specs.ProgramOf.{program};
+ghost use Rattle.il_ast.specs.Prelude.{object_cells, word_cells, pointers_from, list_cells, start_memory};
+ghost use Rattle.obj_link.specs.Prelude.{program};
 
 use crate::instruction::MOST_BLOCKS;
 use crate::object::{object_block, push_bytes, push_parts, push_zeros};

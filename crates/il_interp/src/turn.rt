@@ -1,8 +1,7 @@
 //! One turn.
 ghost use Rattle.std.specs.Prelude.{◌≡◌, ◌+◌, ◌<◌, ◌^◌, Some, slice_get, IfOk};
-ghost use Rattle.il_ast.specs.Start.{globals_of};
-ghost use Rattle.il_ast.specs.Effect.{inst_effect, turn_of};
-ghost use Rattle.obj_link.specs.Shown.{shown};
+ghost use Rattle.il_ast.specs.Prelude.{globals_of, inst_effect, turn_of};
+ghost use Rattle.obj_link.specs.Prelude.{shown};
 ghost use Rattle.il_interp.specs.Prepared.{program_of};
 ghost use Rattle.il_interp.specs.Machine.{act_of, env_of, locals_of, inst_next, react, stepped, step};
 

@@ -3,7 +3,7 @@ use Rattle.std.proofs.Common.{◌≡◌, ◌≢◌, ℕ, zero, suc, Bool, true, 
 use Rattle.il_ast.specs.declared.value.Value.{Value}
 use Rattle.il_ast.specs.declared.value.Value.TheVariants.{Integer, Pointer, Function}
 use Rattle.il_ast.specs.declared.value.Cell.{Cell}
-use Rattle.il_ast.specs.Memory.{Memory, block_at, span, load, store, copy, cells_at, write_at, cells_for, value_of}
+use Rattle.il_ast.specs.Prelude.{Memory, block_at, span, load, store, copy, cells_at, write_at, cells_for, value_of}
 use Rattle.il_mem.specs.declared.memory.Place.{Place}
 use Rattle.il_mem.specs.Places.{place_in, copied_place, Gives}
 

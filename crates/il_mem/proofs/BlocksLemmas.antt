@@ -4,7 +4,7 @@ use Rattle.std.proofs.lemmas.Bool.{cases_eq}
 use Rattle.std.proofs.lemmas.Bool.Decides.{nat_tests}
 use Rattle.std.specs.Option.{option_map, option_and_then, option_flatten}
 use Rattle.il_ast.specs.declared.value.Cell.{Cell}
-use Rattle.il_ast.specs.Memory.{Memory, block_at, cells_at, write_at, apart_or_same, span, put}
+use Rattle.il_ast.specs.Prelude.{Memory, block_at, cells_at, write_at, apart_or_same, span, put}
 use Rattle.il_mem.specs.Blocks.{blocks}
 use Rattle.il_mem.specs.Changed.{cells_put, within_put, Changes}
 use Rattle.il_mem.specs.Places.{copied_place, Gives}

@@ -7,8 +7,7 @@ use Rattle.byteorder.specs.Endian.{little_from, little_number, little_bytes}
 use Rattle.byteorder.specs.Numbers.{little_from-cons, length-bytes_low_first}
 use Rattle.il_ast.specs.declared.value.Cell.{Cell}
 use Rattle.il_ast.specs.declared.value.Cell.TheVariants.{Plain, Blank}
-use Rattle.il_ast.specs.Values.{bytes_of, number_of}
-use Rattle.il_ast.specs.Memory.{plain_bytes}
+use Rattle.il_ast.specs.Prelude.{bytes_of, number_of, plain_bytes}
 use Rattle.il_ast.specs.declared.value.Value.{Value}
 use Rattle.il_ast.specs.declared.value.Value.TheVariants.{Integer}
 use Rattle.il_mem.specs.declared.block.Mark.{Mark}

@@ -5,8 +5,7 @@ use Rattle.il_ast.specs.declared.value.Value.{Value}
 use Rattle.il_ast.specs.declared.value.Value.TheVariants.{Integer, Pointer, Function}
 use Rattle.il_ast.specs.declared.value.Cell.{Cell}
 use Rattle.il_ast.specs.declared.value.Cell.TheVariants.{Plain}
-use Rattle.il_ast.specs.Values.{bytes_of}
-use Rattle.il_ast.specs.Memory.{parts, put, span}
+use Rattle.il_ast.specs.Prelude.{bytes_of, parts, put, span}
 use Rattle.il_mem.specs.Written.{written}
 use Rattle.il_mem.specs.Changed.{integer_in, value_put, cells_put, within_put, ChangesBlock}
 use Rattle.il_mem.proofs.Spans.{written_is, length_span}

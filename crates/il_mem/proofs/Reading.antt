@@ -6,8 +6,7 @@ use Rattle.il_ast.specs.declared.value.Value.{Value}
 use Rattle.il_ast.specs.declared.value.Value.TheVariants.{Integer}
 use Rattle.il_ast.specs.declared.value.Cell.{Cell}
 use Rattle.il_ast.specs.declared.value.Cell.TheVariants.{Plain, Part, Blank}
-use Rattle.il_ast.specs.Values.{number_of, same_value}
-use Rattle.il_ast.specs.Memory.{plain_bytes, are_parts_from, value_of, span}
+use Rattle.il_ast.specs.Prelude.{number_of, same_value, plain_bytes, are_parts_from, value_of, span}
 use Rattle.il_mem.specs.Cells.{plain_byte, part_value, is_part_of}
 use Rattle.il_mem.proofs.Spans.{span_at, get_span}
 use Rattle.il_mem.proofs.Putting.{span_inside}

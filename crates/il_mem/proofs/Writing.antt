@@ -3,8 +3,7 @@ use Rattle.std.proofs.Common.{◌≡◌, ℕ, zero, suc, ◌+◌, ◌-◌, ◌/�
 use Rattle.il_ast.specs.declared.value.Value.{Value}
 use Rattle.il_ast.specs.declared.value.Cell.{Cell}
 use Rattle.il_ast.specs.declared.value.Cell.TheVariants.{Plain, Part}
-use Rattle.il_ast.specs.Values.{bytes_of}
-use Rattle.il_ast.specs.Memory.{parts}
+use Rattle.il_ast.specs.Prelude.{bytes_of, parts}
 use Rattle.il_mem.specs.Written.{written}
 use Rattle.il_ast.proofs.Listed.{drop_at}
 

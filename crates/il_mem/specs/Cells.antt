@@ -3,7 +3,7 @@ use Rattle.std.specs.Prelude.{ℕ, Bool, false, nat_eq, ◌&&◌, Option, Some, 
 use Rattle.il_ast.specs.declared.value.Value.{Value}
 use Rattle.il_ast.specs.declared.value.Cell.{Cell}
 use Rattle.il_ast.specs.declared.value.Cell.TheVariants.{Plain, Part, Blank}
-use Rattle.il_ast.specs.Values.{same_value}
+use Rattle.il_ast.specs.Prelude.{same_value}
 
 abbrev pub plain_byte : Cell → Option ℕ
 plain_byte (Plain b) = Some b

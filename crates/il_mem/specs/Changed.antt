@@ -3,7 +3,7 @@ use Rattle.std.specs.Prelude.{◌≡◌, ◌≢◌, ℕ, ◌+◌, Bool, true, fa
 use Rattle.il_ast.specs.declared.value.Value.{Value}
 use Rattle.il_ast.specs.declared.value.Value.TheVariants.{Integer, Pointer, Function}
 use Rattle.il_ast.specs.declared.value.Cell.{Cell}
-use Rattle.il_ast.specs.Memory.{cells_for, put, span}
+use Rattle.il_ast.specs.Prelude.{cells_for, put, span}
 
 abbrev pub integer_in : Value → Option ℕ
 integer_in (Integer n) = Some n

@@ -2,7 +2,7 @@
 use Rattle.std.specs.Prelude.{◌≡◌, ℕ, Bool, true, false, if◌then◌else◌, Option, Some, None, option_and_then}
 use Rattle.il_ast.specs.declared.value.Value.{Value}
 use Rattle.il_ast.specs.declared.value.Value.TheVariants.{Integer, Pointer, Function}
-use Rattle.il_ast.specs.Memory.{Memory, apart_or_same, cells_at, write_at}
+use Rattle.il_ast.specs.Prelude.{Memory, apart_or_same, cells_at, write_at}
 use Rattle.il_mem.specs.declared.memory.Place.{Place}
 
 abbrev pub place_in : Value → Option Place

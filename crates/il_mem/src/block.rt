@@ -2,8 +2,7 @@
 ghost use Rattle.std.specs.Prelude.{◌≡◌, ◌+◌, ◌<◌, ◌≤◌, List, [], ◌∷◌, ◌++◌, length, map, replicate, take, drop, slice_get, slice_set, vec_capacity, MatchBool, Some, IfOk, IfSome, IsTrue, ◌↔◌, OnOk, option_and_then, option_map};
 ghost use Rattle.il_ast.specs.declared.value.Cell.TheVariants.{Blank, Plain};
 ghost use Rattle.il_ast.specs.declared.value.Value.{Value as ValueOf};
-ghost use Rattle.il_ast.specs.Values.{byte_count, bytes_of, number_of};
-ghost use Rattle.il_ast.specs.Memory.{plain_bytes};
+ghost use Rattle.il_ast.specs.Prelude.{byte_count, bytes_of, number_of, plain_bytes};
 ghost use Rattle.il_mem.specs.Cells.{plain_byte};
 ghost use Rattle.il_mem.specs.Joined.{cell_of, joined, overlaid};
 ghost use Rattle.il_mem.specs.Shown.{ShowsSame};

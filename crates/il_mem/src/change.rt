@@ -1,9 +1,8 @@
 //! Changes of one block.
 ghost use Rattle.std.specs.Prelude.{◌≡◌, ◌+◌, ◌||◌, nat_le, None};
 ghost use Rattle.il_ast.specs.declared.value.Value.TheVariants.{Integer};
-ghost use Rattle.il_ast.specs.Values.{byte_count};
+ghost use Rattle.il_ast.specs.Prelude.{byte_count, span};
 ghost use Rattle.il_mem.specs.Changed.{integer_in, value_put, cells_put, within_put, ChangesBlock};
-ghost use Rattle.il_ast.specs.Memory.{span};
 
 use crate::block::Block;
 use crate::ranges::has_span;

@@ -1,8 +1,7 @@
 //! The memory: its blocks by number.
 ghost use Rattle.std.specs.Prelude.{◌≡◌, ◌+◌, ◌^◌, ◌<◌, ◌≤◌, [], ◌∷◌, ◌++◌, length, Some, None, IfOk, OnOk, OnErr, IfSome, OnSome, IfNone, MatchBool, MatchOption, option_and_then};
-ghost use Rattle.il_ast.specs.Values.{byte_count};
+ghost use Rattle.il_ast.specs.Prelude.{byte_count, block_at, size_at, load, store, copy, fresh, free, cells_at, write_at, cells_for, value_of, plain_bytes};
 ghost use Rattle.il_ast.specs.declared.value.Value.TheVariants.{Integer, Pointer};
-ghost use Rattle.il_ast.specs.Memory.{block_at, size_at, load, store, copy, fresh, free, cells_at, write_at, cells_for, value_of, plain_bytes};
 ghost use Rattle.il_mem.specs.Places.{place_in, copied_place, Gives};
 
 use crate::block::Block;

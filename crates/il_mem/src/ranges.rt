@@ -1,8 +1,7 @@
 //! Spans of the cells of a block.
 ghost use Rattle.std.specs.Prelude.{◌≡◌, ◌+◌, ◌<◌, ◌≤◌, length, nat_le, Some, None, IfOk, IfSome, MatchOption, option_and_then};
 ghost use Rattle.il_ast.specs.declared.value.Value.TheVariants.{Integer};
-ghost use Rattle.il_ast.specs.Values.{byte_count};
-ghost use Rattle.il_ast.specs.Memory.{span, value_of, plain_bytes};
+ghost use Rattle.il_ast.specs.Prelude.{byte_count, span, value_of, plain_bytes};
 
 use crate::block::Block;
 use crate::read::{read, read_bytes, read_number};

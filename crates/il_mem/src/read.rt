@@ -1,7 +1,6 @@
 //! Reading a value from the cells of a block.
 ghost use Rattle.std.specs.Prelude.{◌≡◌, ◌+◌, ◌<◌, ◌≤◌, length, take, drop, Some, None, IfOk, MatchOption, option_map};
-ghost use Rattle.il_ast.specs.Values.{number_of, same_callee, same_value};
-ghost use Rattle.il_ast.specs.Memory.{plain_bytes, are_parts_from, value_of};
+ghost use Rattle.il_ast.specs.Prelude.{number_of, same_callee, same_value, plain_bytes, are_parts_from, value_of};
 ghost use Rattle.il_mem.specs.Cells.{part_value, is_part_of};
 
 use crate::block::Block;

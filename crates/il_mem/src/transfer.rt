@@ -1,6 +1,6 @@
 //! Copies from one block to another.
 ghost use Rattle.std.specs.Prelude.{◌≡◌, ◌≢◌, ◌<◌, length, slice_get, option_and_then};
-ghost use Rattle.il_ast.specs.Memory.{span};
+ghost use Rattle.il_ast.specs.Prelude.{span};
 ghost use Rattle.il_mem.specs.Changed.{cells_put, Changes};
 
 use crate::block::Block;

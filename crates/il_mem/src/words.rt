@@ -1,6 +1,6 @@
 //! Numbers in bytes, lowest first.
 ghost use Rattle.std.specs.Prelude.{◌≡◌, ◌+◌, ◌≤◌, ◌++◌, length, take, drop, vec_capacity};
-ghost use Rattle.il_ast.specs.Values.{byte_count};
+ghost use Rattle.il_ast.specs.Prelude.{byte_count};
 ghost use Rattle.byteorder.specs.Endian.{little_bytes, little_number};
 
 use byteorder::{ByteOrder, LittleEndian};

@@ -1,8 +1,7 @@
 //! Writing cells into a block. None of these takes memory.
 ghost use Rattle.std.specs.Prelude.{◌≡◌, ◌+◌, ◌≤◌, ◌⊎◌, length, map, take, drop};
 ghost use Rattle.il_ast.specs.declared.value.Cell.TheVariants.{Plain};
-ghost use Rattle.il_ast.specs.Values.{bytes_of};
-ghost use Rattle.il_ast.specs.Memory.{parts};
+ghost use Rattle.il_ast.specs.Prelude.{bytes_of, parts};
 ghost use Rattle.il_mem.specs.Written.{written};
 
 use crate::block::Block;

@@ -4,8 +4,7 @@ use Rattle.il_lex.specs.declared.kind.Symbol.TheVariants.{Comma, RightParen}
 use Rattle.il_lex.specs.declared.kind.Kind.{Kind}
 use Rattle.il_lex.specs.declared.kind.Kind.TheVariants.{Symbol, Word as WordKind}
 use Rattle.il_ast.specs.declared.operand.Arg.{Arg}
-use Rattle.il_reader.specs.State.{State}
-use Rattle.il_reader.specs.Words.{class_word}
+use Rattle.il_reader.specs.Prelude.{State, class_word}
 use Rattle.il_reader.specs.Rules as rule
 use Rattle.il_reader.specs.Grammar as grammar
 use Rattle.il_reader.specs.Steps as step

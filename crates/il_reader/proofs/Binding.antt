@@ -1,8 +1,6 @@
 -- Steps one after another, of which it is known what the first reads.
 use Rattle.std.proofs.Common.{◌≡◌, List, Option, Some, None, refl, ap, option_and_then}
-use Rattle.il_reader.specs.State.{State}
-use Rattle.il_reader.specs.Steps.{Step, ◌>>=◌, ◌>>◌}
-use Rattle.il_reader.specs.Reading.{on_line, line_ends}
+use Rattle.il_reader.specs.Prelude.{State, Step, ◌>>=◌, ◌>>◌, on_line, line_ends}
 
 pub bind_some : {A B : Type 0} (p : Step A) (f : A → Step B) (s m : State) (x : A) → p s ≡ Some (x, m) → ◌>>=◌ p f s ≡ f x m
 bind_some p f s m x e = ap (option_and_then (λ x. f x.0 x.1)) e

@@ -5,11 +5,7 @@ use Rattle.il_ast.specs.declared.instruction.Lined.{Lined}
 use Rattle.il_ast.specs.declared.instruction.Inst.{Inst}
 use Rattle.il_reader.specs.declared.statement.Statement.{Statement}
 use Rattle.il_reader.specs.declared.statement.Statement.TheVariants.{Phi as PhiLine, Inst as InstLine}
-use Rattle.il_reader.specs.State.{State}
-use Rattle.il_reader.specs.Steps.{Step}
-use Rattle.il_reader.specs.Reading.{on_line}
-use Rattle.il_reader.specs.Blocks.{Lines, lines, statement, sees_statement, before_lines, with_phi, with_inst}
-use Rattle.il_reader.specs.Gives.{with_lines, with_line, one_line}
+use Rattle.il_reader.specs.Prelude.{State, Step, on_line, Lines, lines, statement, sees_statement, before_lines, with_phi, with_inst, with_lines, with_line, one_line}
 use Rattle.il_reader.proofs.Rounds.{less_one}
 
 phi_before : (phis : List Phi) (insts : List (Lined Inst)) (p : Phi) (o : Option (Lines × State))

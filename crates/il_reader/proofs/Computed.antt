@@ -1,7 +1,7 @@
 -- The examples, by computing them.
 use Rattle.std.proofs.Common.{refl}
 use Rattle.il_lex.specs.Scan.{item, string_bytes, natural, name, negative, quoted, lexeme, symbol_of, comment, scan_from, scan}
-use Rattle.il_reader.specs.Examples.{Examples, empty_tree, data_tree, table_tree, falls_tree, loop_tree}
+use Rattle.il_reader.specs.Prelude.{Examples, empty_tree, data_tree, table_tree, falls_tree, loop_tree}
 use Rattle.il_reader.proofs.ExactTexts.{text_sound, none_read}
 
 pub examples : Examples

@@ -2,11 +2,10 @@
 use Rattle.std.proofs.Common.{◌≡◌, ℕ, Bool, List, [], ◌++◌, length, Option, ap, ◌∙◌, ⊎_elim, flat_map}
 use Rattle.il_ast.specs.declared.block.Block.{Block}
 use Rattle.il_ast.specs.declared.datum.DataDef.{DataDef}
-use Rattle.il_reader.specs.State.{State}
+use Rattle.il_reader.specs.Prelude.{State, FunctionParts, DefinitionParts, FunctionOf, ObjectOf}
 use Rattle.il_reader.specs.Rules as rule
 use Rattle.il_reader.specs.Grammar as grammar
 use Rattle.il_reader.specs.Reads as reads
-use Rattle.il_reader.specs.Definitions.{FunctionParts, DefinitionParts, FunctionOf, ObjectOf}
 use Rattle.il_reader.proofs.InOrder.{Goes, stays}
 use Rattle.il_reader.proofs.Mentioned.{Naming, Mentions, Quiet, seq, ends, given, give_quiet, line_quiet, then_mentions, either_mentions, maybe_quiet, some_quiet, some_mentions, commas_mention, listed_mention, word_quiet, piece_quiet, newline_quiet, newlines_quiet, natural_quiet, class_quiet, spaced_mentions, in_block, block_mentions, in_parameter, parameter_mentions, falling_same, in_field, field_mentions}
 use Rattle.il_reader.proofs.ExactFunctions as function

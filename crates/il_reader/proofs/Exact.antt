@@ -10,7 +10,7 @@ use Rattle.il_lex.specs.Line.{line_ends}
 use Rattle.il_lex.specs.Scan.{scan}
 use Rattle.il_lex.proofs.Runs.{cond_cases}
 use Rattle.il_lex.proofs.Exact.{scan_meaning, next_complete}
-use Rattle.il_reader.specs.State.{State}
+use Rattle.il_reader.specs.Prelude.{State}
 use Rattle.il_reader.specs.Rules as rule
 use Rattle.il_reader.specs.Steps as step
 

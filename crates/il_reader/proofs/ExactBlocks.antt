@@ -19,8 +19,7 @@ use Rattle.il_ast.specs.declared.instruction.Inst.{Inst}
 use Rattle.il_ast.specs.declared.instruction.Jump.{Jump}
 use Rattle.il_reader.specs.declared.statement.Statement.{Statement}
 use Rattle.il_reader.specs.declared.statement.Statement.TheVariants.{Phi as PhiLine, Inst as InstLine}
-use Rattle.il_reader.specs.State.{State}
-use Rattle.il_reader.specs.Words.{store_word}
+use Rattle.il_reader.specs.Prelude.{State, store_word}
 use Rattle.il_reader.specs.Rules as rule
 use Rattle.il_reader.specs.Grammar as grammar
 use Rattle.il_reader.specs.Reads as reads

@@ -12,8 +12,7 @@ use Rattle.il_ast.specs.declared.datum.Field.TheVariants.{Items, Zeros}
 use Rattle.il_ast.specs.declared.datum.DataDef.{DataDef}
 use Rattle.il_ast.specs.declared.text.Definition.{Definition}
 use Rattle.il_ast.specs.declared.text.Definition.TheVariants.{Object}
-use Rattle.il_reader.specs.State.{State}
-use Rattle.il_reader.specs.Words.{size_word}
+use Rattle.il_reader.specs.Prelude.{State, size_word}
 use Rattle.il_reader.specs.Rules as rule
 use Rattle.il_reader.specs.Grammar as grammar
 use Rattle.il_reader.specs.Reads as reads

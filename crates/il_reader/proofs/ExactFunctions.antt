@@ -10,8 +10,7 @@ use Rattle.il_ast.specs.declared.function.Param.{Param}
 use Rattle.il_ast.specs.declared.function.Func.{Func}
 use Rattle.il_ast.specs.declared.text.Definition.{Definition}
 use Rattle.il_ast.specs.declared.text.Definition.TheVariants.{Function}
-use Rattle.il_reader.specs.State.{State}
-use Rattle.il_reader.specs.Words.{class_word}
+use Rattle.il_reader.specs.Prelude.{State, class_word, FunctionParts, function_parts}
 use Rattle.il_reader.specs.Rules as rule
 use Rattle.il_reader.specs.Grammar as grammar
 use Rattle.il_reader.specs.Reads as reads
@@ -19,7 +18,6 @@ use Rattle.il_reader.specs.Steps as step
 use Rattle.il_reader.specs.Reading as reading
 use Rattle.il_reader.specs.Blocks as blocks
 use Rattle.il_reader.specs.Definitions as definitions
-use Rattle.il_reader.specs.Definitions.{FunctionParts, function_parts}
 use Rattle.il_reader.proofs.Exact.{Exact, Anything, give_exact, weaker, bind, bind_before, sees_token, many_exact}
 use Rattle.il_reader.proofs.Tokens.{word_exact, piece_exact, temp_exact, symbol_exact}
 use Rattle.il_reader.proofs.Lists.{or_nothing, maybe_exact, commas_exact}

@@ -23,8 +23,7 @@ use Rattle.il_reader.specs.declared.statement.Operation.{Operation}
 use Rattle.il_reader.specs.declared.statement.Operation.TheVariants.{Phi as PhiWord, Call as CallWord, Alloc as AllocWord, Unary as UnaryWord, Binary as BinaryWord}
 use Rattle.il_reader.specs.declared.statement.Statement.{Statement}
 use Rattle.il_reader.specs.declared.statement.Statement.TheVariants.{Phi as PhiLine, Inst as InstLine}
-use Rattle.il_reader.specs.State.{State}
-use Rattle.il_reader.specs.Words.{unary_word, binary_word, alloc_word, store_word}
+use Rattle.il_reader.specs.Prelude.{State, unary_word, binary_word, alloc_word, store_word}
 use Rattle.il_reader.specs.Rules as rule
 use Rattle.il_reader.specs.Grammar as grammar
 use Rattle.il_reader.specs.Steps as step

@@ -14,14 +14,12 @@ use Rattle.il_ast.specs.declared.datum.DataDef.{DataDef}
 use Rattle.il_ast.specs.declared.text.Definition.{Definition}
 use Rattle.il_ast.specs.declared.text.Definition.TheVariants.{Function, Object}
 use Rattle.il_ast.specs.declared.text.Text.{Text}
-use Rattle.il_reader.specs.State.{State, start}
+use Rattle.il_reader.specs.Prelude.{State, start, Reads, FunctionParts, DefinitionParts, FunctionOf, ObjectOf, definition_parts, function_parts, TextParts, text_parts, text_step}
 use Rattle.il_reader.specs.Rules as rule
 use Rattle.il_reader.specs.Reads as reads
-use Rattle.il_reader.specs.Reads.{Reads}
 use Rattle.il_reader.specs.Steps as step
 use Rattle.il_reader.specs.Reading as reading
 use Rattle.il_reader.specs.Definitions as definitions
-use Rattle.il_reader.specs.Definitions.{FunctionParts, DefinitionParts, FunctionOf, ObjectOf, definition_parts, function_parts, TextParts, text_parts, text_step}
 use Rattle.il_reader.proofs.Exact.{Exact, Anything, weaker, bind, bind_before, either_exact, sees_token}
 use Rattle.il_reader.proofs.Tokens.{word_exact}
 use Rattle.il_reader.proofs.Lists.{or_nothing, commas_exact}

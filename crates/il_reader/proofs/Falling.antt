@@ -2,13 +2,7 @@
 use Rattle.std.proofs.Common.{◌≡◌, ℕ, suc, ◌+◌, ◌-◌, ◌<◌, length, true, cond, List, [], ◌∷◌, ◌++◌, Option, Some, None, refl, sym, ap, ◌∙◌, append_assoc, option_and_then}
 use Rattle.std.proofs.lemmas.Option.{some_pair_parts}
 use Rattle.il_ast.specs.declared.block.Block.{Block}
-use Rattle.il_reader.specs.State.{State}
-use Rattle.il_reader.specs.Reads.{falling}
-use Rattle.il_reader.specs.Steps.{Step, ◌>>=◌, repeated, sees}
-use Rattle.il_reader.specs.Reading.{is_label}
-use Rattle.il_reader.specs.Blocks.{block}
-use Rattle.il_reader.specs.Definitions.{blocks}
-use Rattle.il_reader.specs.Gives.{fell, next_fallen, fallen, falling_blocks}
+use Rattle.il_reader.specs.Prelude.{State, falling, Step, ◌>>=◌, repeated, sees, is_label, block, blocks, fell, next_fallen, fallen, falling_blocks}
 use Rattle.il_reader.proofs.Rounds.{less_one}
 
 abbrev put_before : Block → Option (List Block × State) → Option (List Block × State)

@@ -5,8 +5,8 @@ use Rattle.std.specs.Cmp.Lexicographic.{pointwise}
 use Rattle.std.proofs.lemmas.Bool.{and_parts, false≢true}
 use Rattle.std.proofs.lemmas.Bool.Decides.{nat_tests}
 use Rattle.std.proofs.lemmas.Option.{same_Some, none-some}
-use Rattle.il_ast.specs.Mentions.{come_after, are_distinct}
-use Rattle.il_reader.specs.State.{State, place, with_name}
+use Rattle.il_ast.specs.Prelude.{come_after, are_distinct}
+use Rattle.il_reader.specs.Prelude.{State, place, with_name}
 
 -- ---- numbers in order
 

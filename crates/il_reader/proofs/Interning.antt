@@ -5,8 +5,7 @@ use Rattle.std.specs.Cmp.Lexicographic.{pointwise}
 use Rattle.std.proofs.lemmas.Cmp.{nat_list_eq_equiv}
 use Rattle.std.proofs.lemmas.List.{length-map}
 use Rattle.std.proofs.lemmas.List.Recursion.{is_position_or_len}
-use Rattle.il_reader.specs.State.{place, with_name}
-use Rattle.il_reader.specs.Keys.{key_bytes}
+use Rattle.il_reader.specs.Prelude.{place, with_name, key_bytes}
 use Rattle.il_reader.specs.declared.names.Key.{Key}
 
 one_more : (n : ℕ) → suc n ≡ 1 + n

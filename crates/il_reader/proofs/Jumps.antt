@@ -12,8 +12,7 @@ use Rattle.il_ast.specs.declared.operation.UnaryOp.TheVariants.{Neg, Copy, Exten
 use Rattle.il_ast.specs.declared.operand.Val.{Val}
 use Rattle.il_ast.specs.declared.instruction.Inst.TheVariants.{Store, Blit}
 use Rattle.il_ast.specs.declared.instruction.Jump.TheVariants.{Goto, Branch, Return, Halt}
-use Rattle.il_reader.specs.State.{State}
-use Rattle.il_reader.specs.Words.{unary_word}
+use Rattle.il_reader.specs.Prelude.{State, unary_word}
 use Rattle.il_reader.specs.Rules as rule
 use Rattle.il_reader.specs.Grammar as grammar
 use Rattle.il_reader.specs.Steps as step

@@ -2,8 +2,7 @@
 use Rattle.std.proofs.Common.{◌≡◌, ℕ, List, Option, Some, None, refl, ap, ◌∙◌, option_and_then, option_map}
 use Rattle.il_lex.specs.declared.kind.Kind.{Kind}
 use Rattle.il_lex.specs.declared.kind.Kind.TheVariants.{Symbol, Newline, Word, Global, Temp, Label, Natural, Negative, Quoted}
-use Rattle.il_reader.specs.State.{State}
-use Rattle.il_reader.specs.Steps.{keyword, next, word_test}
+use Rattle.il_reader.specs.Prelude.{State, keyword, next, word_test}
 
 unfoldable tested : {A : Type 0} → (Kind → List ℕ → Option A) → (Kind × List ℕ) × State → Option (A × State)
 tested test t = option_map (λ x. (x, t.1)) (test t.0.0 t.0.1)

@@ -7,7 +7,7 @@ use Rattle.il_lex.specs.declared.kind.Kind.TheVariants.{Symbol, Natural, Negativ
 use Rattle.il_lex.specs.declared.scan.Ahead.{Ahead}
 use Rattle.il_lex.specs.declared.scan.Ahead.TheVariants.{End, Bad, Found}
 use Rattle.il_lex.specs.Scan.{scan}
-use Rattle.il_reader.specs.State.{State}
+use Rattle.il_reader.specs.Prelude.{State}
 use Rattle.il_reader.specs.Steps as step
 
 -- a test that each kind passes

@@ -2,7 +2,7 @@
 use Rattle.std.proofs.Common.{◌≡◌, inl, inr, ⊎_elim, ℕ, zero, suc, ◌<◌, Bool, true, false, cond, List, [], ◌∷◌, length, Option, Some, None, refl, sym, ap, ◌∙◌, arith, subst, option_and_then}
 use Rattle.std.proofs.lemmas.Option.{option_and_then_some, some_pair_parts, none-some}
 use Rattle.il_lex.proofs.Runs.{cond_cases}
-use Rattle.il_reader.specs.State.{State}
+use Rattle.il_reader.specs.Prelude.{State}
 use Rattle.il_reader.specs.Rules as rule
 use Rattle.il_reader.specs.Steps as step
 use Rattle.il_reader.proofs.Exact.{Exact}

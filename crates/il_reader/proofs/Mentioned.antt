@@ -4,7 +4,7 @@ use Rattle.il_lex.specs.declared.kind.Symbol.{Symbol as Mark}
 use Rattle.il_lex.specs.declared.kind.Kind.{Kind}
 use Rattle.il_lex.specs.declared.kind.Kind.TheVariants.{Symbol, Newline, Word, Natural, Negative, Quoted}
 use Rattle.il_lex.specs.Line.{line_ends}
-use Rattle.il_ast.specs.Mentions.{come_after}
+use Rattle.il_ast.specs.Prelude.{come_after}
 use Rattle.il_ast.specs.declared.operand.Val.{Val}
 use Rattle.il_ast.specs.declared.operand.Val.TheVariants.{Int, Temp, Global}
 use Rattle.il_ast.specs.declared.operand.Dest.{Dest}
@@ -22,7 +22,7 @@ use Rattle.il_ast.specs.declared.datum.Item.{Item}
 use Rattle.il_ast.specs.declared.datum.Item.TheVariants.{Int as NumberItem, Bytes, Address}
 use Rattle.il_ast.specs.declared.datum.Field.{Field as DataField}
 use Rattle.il_ast.specs.declared.datum.Field.TheVariants.{Items, Zeros}
-use Rattle.il_reader.specs.State.{State}
+use Rattle.il_reader.specs.Prelude.{State}
 use Rattle.il_reader.specs.Rules as rule
 use Rattle.il_reader.specs.Grammar as grammar
 use Rattle.il_reader.specs.Reads as reads

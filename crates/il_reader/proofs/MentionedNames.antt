@@ -1,8 +1,7 @@
 -- What is mentioned, in the words of the tree.
 use Rattle.std.proofs.Common.{◌≡◌, ℕ, List, [], ◌∷◌, ◌++◌, Option, Some, None, refl, ap, ◌∙◌, map, flat_map, append-nil}
 use mathlib.Core.Path.{fun_ext}
-use Rattle.il_ast.specs.Mentions.{temps_of, labels_of, temps_in_value, temps_in_phi, temps_in_inst, temps_in_jump, temps_at_end, temps_in_block, labels_in_jump, labels_at_end, labels_in_block}
-use Rattle.il_ast.specs.Symbols.{symbols_of, symbols_in_value, symbols_in_phi, symbols_in_inst, symbols_in_jump, symbols_at_end, symbols_in_block, symbols_in_item, symbols_in_field, symbols_in_definition}
+use Rattle.il_ast.specs.Prelude.{temps_of, labels_of, temps_in_value, temps_in_phi, temps_in_inst, temps_in_jump, temps_at_end, temps_in_block, labels_in_jump, labels_at_end, labels_in_block, symbols_of, symbols_in_value, symbols_in_phi, symbols_in_inst, symbols_in_jump, symbols_at_end, symbols_in_block, symbols_in_item, symbols_in_field, symbols_in_definition}
 use Rattle.il_ast.specs.declared.operand.Val.{Val}
 use Rattle.il_ast.specs.declared.operand.Val.TheVariants.{Int, Temp, Global}
 use Rattle.il_ast.specs.declared.operand.Arg.{Arg}
@@ -20,7 +19,7 @@ use Rattle.il_ast.specs.declared.datum.Field.{Field}
 use Rattle.il_ast.specs.declared.datum.Field.TheVariants.{Items, Zeros}
 use Rattle.il_ast.specs.declared.text.Definition.{Definition}
 use Rattle.il_ast.specs.declared.text.Definition.TheVariants.{Function, Object}
-use Rattle.il_reader.specs.Definitions.{FunctionParts, definition_parts}
+use Rattle.il_reader.specs.Prelude.{FunctionParts, definition_parts}
 use Rattle.il_reader.proofs.Mentioned.{in_maybe, in_value, in_argument, in_phi_argument, in_phi, in_inst, in_line, in_jump, in_end, in_block, in_parameter, in_item, in_field}
 use Rattle.il_reader.proofs.Definers.{in_function, in_parts}
 use Rattle.il_reader.proofs.Namings.{Temps, Labels, Symbols}

@@ -1,7 +1,7 @@
 -- The three lists of names: a function's temporaries and labels, and a text's global names.
 use Rattle.std.proofs.Common.{◌≡◌, ℕ, List, [], ◌∷◌, length, Some, IsTrue, refl, sym, ap, ◌∙◌, subst}
-use Rattle.il_ast.specs.Mentions.{come_after, are_distinct}
-use Rattle.il_reader.specs.State.{State, place, with_name}
+use Rattle.il_ast.specs.Prelude.{come_after, are_distinct}
+use Rattle.il_reader.specs.Prelude.{State, place, with_name}
 use Rattle.il_reader.proofs.InOrder.{Goes, stays, comes, stay_distinct, come_twice}
 use Rattle.il_reader.proofs.Mentioned.{Naming, seq}
 

@@ -3,15 +3,12 @@ use Rattle.std.proofs.Common.{◌≡◌, ℕ, List, [], ◌∷◌, length, Some,
 use Rattle.std.proofs.lemmas.Option.{same_Some}
 use Rattle.std.proofs.Props.{props}
 use mathlib.Core.HLevel.{Σ_prop_path}
-use Rattle.il_ast.specs.Written.{has_block, have_arguments}
-use Rattle.il_ast.specs.Mentions.{come_after, temps_of, labels_of, are_distinct}
-use Rattle.il_ast.specs.Symbols.{symbols_of}
+use Rattle.il_ast.specs.Prelude.{has_block, have_arguments, come_after, temps_of, labels_of, are_distinct, symbols_of}
 use Rattle.il_ast.specs.declared.function.Func.{Func}
 use Rattle.il_ast.specs.declared.text.Definition.{Definition}
 use Rattle.il_ast.specs.declared.text.Definition.TheVariants.{Function, Object}
 use Rattle.il_ast.specs.declared.text.Text.{Text}
-use Rattle.il_reader.specs.Definitions.{FunctionParts, function_parts, definition_parts, TextParts, text_parts}
-use Rattle.il_reader.specs.Laws.{OneTree}
+use Rattle.il_reader.specs.Prelude.{FunctionParts, function_parts, definition_parts, TextParts, text_parts, OneTree}
 use Rattle.il_reader.proofs.ExactTexts.{text_complete, no_object, no_function, same_function, same_object, no_cons, no_nil, same_list}
 
 -- what is proved of the parts of a function

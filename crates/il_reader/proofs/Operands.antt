@@ -11,8 +11,7 @@ use Rattle.il_ast.specs.declared.operation.Class.TheVariants.{W, L}
 use Rattle.il_ast.specs.declared.operation.Size.{Size}
 use Rattle.il_ast.specs.declared.operation.Size.TheVariants.{Byte, Half, Word, Long}
 use Rattle.il_ast.specs.declared.operand.Val.TheVariants.{Int, Temp, Global}
-use Rattle.il_reader.specs.State.{State}
-use Rattle.il_reader.specs.Words.{class_word, size_word, store_word}
+use Rattle.il_reader.specs.Prelude.{State, class_word, size_word, store_word}
 use Rattle.il_reader.specs.Rules as rule
 use Rattle.il_reader.specs.Grammar as grammar
 use Rattle.il_reader.specs.Steps as step

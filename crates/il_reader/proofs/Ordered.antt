@@ -1,11 +1,9 @@
 -- The names of a function, and of a text, stand in order of first appearance, each once.
 use Rattle.std.proofs.Common.{◌≡◌, ℕ, Bool, List, [], length, Some, IsTrue, refl, sym, ap, ◌∙◌, subst, map}
-use Rattle.il_ast.specs.Mentions.{come_after, are_distinct}
-use Rattle.il_ast.specs.Symbols.{symbols_of}
+use Rattle.il_ast.specs.Prelude.{come_after, are_distinct, symbols_of}
 use Rattle.il_ast.specs.declared.text.Definition.{Definition}
-use Rattle.il_reader.specs.State.{State, start}
+use Rattle.il_reader.specs.Prelude.{State, start, FunctionParts, DefinitionParts, FunctionOf, ObjectOf, definition_parts}
 use Rattle.il_reader.specs.Definitions as definitions
-use Rattle.il_reader.specs.Definitions.{FunctionParts, DefinitionParts, FunctionOf, ObjectOf, definition_parts}
 use Rattle.il_reader.proofs.ExactFunctions.{Functions, functions_exact}
 use Rattle.il_reader.proofs.ExactTexts.{AllParts, all_parts_exact}
 use Rattle.il_reader.proofs.OneTree.{Named}

@@ -1,9 +1,7 @@
 -- One round of the loops that read lists.
 use Rattle.std.proofs.Common.{◌≡◌, ℕ, suc, ◌+◌, ◌-◌, ◌<◌, Bool, true, false, cond, List, [], ◌∷◌, ◌++◌, Option, Some, None, refl, sym, ap, ◌∙◌, arith, append_assoc, length, option_and_then, append-nil}
 use Rattle.std.proofs.lemmas.Option.{some_pair_parts}
-use Rattle.il_reader.specs.State.{State}
-use Rattle.il_reader.specs.Steps.{Step, repeated, separated, commas}
-use Rattle.il_reader.specs.Gives.{appended, pushed, passed, some}
+use Rattle.il_reader.specs.Prelude.{State, Step, repeated, separated, commas, appended, pushed, passed, some}
 
 pub less_one : (n i : ℕ) → i < n → n - i ≡ suc (n - (i + 1))
 less_one n i h = omega arith

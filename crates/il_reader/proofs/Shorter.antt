@@ -2,7 +2,7 @@
 use Rattle.std.proofs.Common.{◌≡◌, ℕ, ◌<◌, ◌≤◌, List, [], ◌∷◌, length, Option, Some, None, sym, ap, arith, ⊎_elim, subst}
 use Rattle.il_lex.specs.declared.kind.Symbol.{Symbol as Mark}
 use Rattle.il_lex.specs.declared.kind.Kind.TheVariants.{Symbol, Newline, Word, Global, Temp, Label, Natural, Negative, Quoted}
-use Rattle.il_reader.specs.State.{State}
+use Rattle.il_reader.specs.Prelude.{State}
 use Rattle.il_reader.specs.Rules as rule
 use Rattle.il_reader.specs.Grammar as grammar
 use Rattle.il_reader.specs.Reads as reads

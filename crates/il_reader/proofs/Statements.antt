@@ -4,7 +4,7 @@ use Rattle.std.proofs.lemmas.Option.{some_pair_parts}
 use Rattle.il_lex.specs.declared.kind.Symbol.TheVariants.{Comma}
 use Rattle.il_lex.specs.declared.kind.Kind.TheVariants.{Label as LabelKind, Newline}
 use Rattle.il_ast.specs.declared.block.PhiArg.{PhiArg}
-use Rattle.il_reader.specs.State.{State}
+use Rattle.il_reader.specs.Prelude.{State}
 use Rattle.il_reader.specs.Rules as rule
 use Rattle.il_reader.specs.Grammar as grammar
 use Rattle.il_reader.specs.Reads as reads

@@ -13,7 +13,7 @@ use Rattle.il_lex.specs.Next.{symbol_byte, IsName}
 use Rattle.il_lex.specs.Quoted.{IsString}
 use Rattle.il_lex.specs.Scan.{symbol_of, string_bytes}
 use Rattle.il_lex.proofs.Exact.{string_complete}
-use Rattle.il_reader.specs.State.{State, place, with_name}
+use Rattle.il_reader.specs.Prelude.{State, place, with_name}
 use Rattle.il_reader.specs.Rules as rule
 use Rattle.il_reader.specs.Steps as step
 use Rattle.il_reader.proofs.Exact.{Exact, Anything, chosen, choose_exact, said, bind}

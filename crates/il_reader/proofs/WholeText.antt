@@ -3,9 +3,7 @@ use Rattle.std.proofs.Common.{◌≡◌, ℕ, ◌+◌, Bool, true, false, cond, 
 use Rattle.std.proofs.lemmas.Option.{same_Some}
 use Rattle.il_lex.specs.Scan.{scan}
 use Rattle.il_lex.specs.Line.{lines_in}
-use Rattle.il_reader.specs.State.{State, start}
-use Rattle.il_reader.specs.Definitions.{DefinitionParts, TextParts, definitions, is_end, whole, text_step}
-use Rattle.il_reader.specs.Gives.{to_the_end, whole_text}
+use Rattle.il_reader.specs.Prelude.{State, start, DefinitionParts, TextParts, definitions, is_end, whole, text_step, to_the_end, whole_text}
 
 abbrev Read : Type 0
 Read = List DefinitionParts × State

@@ -5,12 +5,10 @@ use Rattle.std.specs.List.{list_all}
 use Rattle.std.proofs.lemmas.Bool.{and_from}
 use Rattle.il_ast.specs.declared.block.Phi.{Phi}
 use Rattle.il_ast.specs.declared.block.Block.{Block}
-use Rattle.il_ast.specs.Written.{has_block, has_argument, have_arguments}
-use Rattle.il_reader.specs.State.{State}
-use Rattle.il_reader.specs.Rules.{many, some}
-use Rattle.il_reader.specs.Grammar.{phi}
-use Rattle.il_reader.specs.Reads.{on_line, block, falling}
-use Rattle.il_reader.specs.Definitions.{FunctionParts}
+use Rattle.il_ast.specs.Prelude.{has_block, has_argument, have_arguments}
+use Rattle.il_reader.specs.Prelude.{State, many, phi, falling, FunctionParts}
+use Rattle.il_reader.specs.Rules.{some}
+use Rattle.il_reader.specs.Reads.{on_line, block}
 use Rattle.il_reader.proofs.ExactFunctions.{Functions}
 
 abbrev has_arguments : Block → Bool

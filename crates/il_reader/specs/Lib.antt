@@ -15,3 +15,4 @@ pub mod Gives
 pub mod Laws
 pub mod Examples
 pub mod Answers
+pub mod Prelude

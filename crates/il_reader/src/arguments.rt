@@ -1,9 +1,7 @@
 //! Reading the lists of arguments.
 ghost use Rattle.std.specs.Prelude.{◌≡◌, None, Some, suc, length, MatchResult};
 ghost use Rattle.il_reader.specs.declared.fault.Unread.TheVariants.{Syntax};
-ghost use Rattle.il_reader.specs.Gives.{Gives, appended};
-ghost use Rattle.il_reader.specs.Steps.{sees, separated, commas};
-ghost use Rattle.il_reader.specs.Reading.{argument, phi_argument, arguments, comma, is_comma, is_word, is_label};
+ghost use Rattle.il_reader.specs.Prelude.{Gives, appended, sees, separated, commas, argument, phi_argument, arguments, comma, is_comma, is_word, is_label};
 
 use crate::fault::Unread;
 use crate::kinds::{is_comma, is_label, is_word};

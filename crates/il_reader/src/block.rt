@@ -1,10 +1,7 @@
 //! Reading blocks.
 ghost use Rattle.std.specs.Prelude.{◌≡◌, None, Some, suc, length, false, MatchResult};
 ghost use Rattle.il_reader.specs.declared.fault.Unread.TheVariants.{Syntax};
-ghost use Rattle.il_reader.specs.Gives.{Gives, with_lines, with_line};
-ghost use Rattle.il_reader.specs.Steps.{maybe, sees, label};
-ghost use Rattle.il_reader.specs.Reading.{on_line, lined, jump, is_word};
-ghost use Rattle.il_reader.specs.Blocks.{statement, lines, body, block};
+ghost use Rattle.il_reader.specs.Prelude.{Gives, with_lines, with_line, maybe, sees, label, on_line, lined, jump, is_word, statement, lines, body, block};
 
 use crate::fault::Unread;
 use crate::jump::lined_jump;

@@ -1,10 +1,7 @@
 //! Reading data definitions. Between their tokens the ends of lines are spacing.
 ghost use Rattle.std.specs.Prelude.{◌≡◌, None, Some, suc, length, unwrap_or, MatchResult};
 ghost use Rattle.il_reader.specs.declared.fault.Unread.TheVariants.{Syntax};
-ghost use Rattle.il_reader.specs.Gives.{Gives, appended, pushed, some};
-ghost use Rattle.il_reader.specs.Steps.{sees, separated, repeated, maybe, piece, keyword, word, natural, integer, string, symbol, commas};
-ghost use Rattle.il_reader.specs.Reading.{size_of, comma, is_comma, is_word};
-ghost use Rattle.il_reader.specs.Definitions.{spaced, is_item, is_plus, offset, address, item, items, zeros, field, fields, aligned, alignment, object_head, object};
+ghost use Rattle.il_reader.specs.Prelude.{Gives, appended, pushed, some, sees, separated, repeated, maybe, piece, keyword, word, natural, integer, string, symbol, commas, size_of, comma, is_comma, is_word, spaced, is_item, is_plus, offset, address, item, items, zeros, field, fields, aligned, alignment, object_head, object};
 
 use crate::fault::Unread;
 use crate::kinds::{is_comma, is_item, is_number, is_plus, is_quoted, is_word};

@@ -1,12 +1,7 @@
 //! Reading functions.
 ghost use Rattle.std.specs.Prelude.{◌≡◌, None, Some, suc, length, MatchResult};
 ghost use Rattle.il_reader.specs.declared.fault.Unread.TheVariants.{Syntax};
-ghost use Rattle.il_reader.specs.Gives.{Gives, appended, pushed, fell, next_fallen, fallen, falling_blocks};
-ghost use Rattle.il_reader.specs.Reads.{jump_to};
-ghost use Rattle.il_reader.specs.Steps.{sees, separated, repeated, maybe, piece};
-ghost use Rattle.il_reader.specs.Reading.{on_line, class, comma, is_comma, is_label, is_word};
-ghost use Rattle.il_reader.specs.Blocks.{block};
-ghost use Rattle.il_reader.specs.Definitions.{parameter, parameters, function_head, function_params, function_body, function, function_parts};
+ghost use Rattle.il_reader.specs.Prelude.{Gives, appended, pushed, fell, next_fallen, fallen, falling_blocks, jump_to, sees, separated, repeated, maybe, piece, on_line, class, comma, is_comma, is_label, is_word, block, parameter, parameters, function_head, function_params, function_body, function, function_parts};
 
 use crate::block::block;
 use crate::fault::Unread;

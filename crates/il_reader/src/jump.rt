@@ -1,7 +1,6 @@
 //! Reading the end of a block.
 ghost use Rattle.std.specs.Prelude.{◌≡◌};
-ghost use Rattle.il_reader.specs.Gives.{Gives};
-ghost use Rattle.il_reader.specs.Reading.{goto, branch, returning, jump, lined};
+ghost use Rattle.il_reader.specs.Prelude.{Gives, goto, branch, returning, jump, lined};
 
 use crate::fault::Unread;
 use crate::kinds::is_value;

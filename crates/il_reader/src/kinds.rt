@@ -1,9 +1,7 @@
 //! What stands next, and what a token is.
 ghost use Rattle.std.specs.Prelude.{◌≡◌, Some, drop, option_copied, option_map};
 ghost use Rattle.il_lex.specs.Scan.{string_bytes};
-ghost use Rattle.il_reader.specs.Steps.{kind_is, newline_test, piece_test, natural_test, integer_test, temp_test, label_test, symbol_test, string_test, word_test};
-ghost use Rattle.il_reader.specs.Reading.{is_number, is_temp, is_value, is_comma, is_word, is_label, is_newline};
-ghost use Rattle.il_reader.specs.Definitions.{is_quoted, is_plus, is_item};
+ghost use Rattle.il_reader.specs.Prelude.{kind_is, newline_test, piece_test, natural_test, integer_test, temp_test, label_test, symbol_test, string_test, word_test, is_number, is_temp, is_value, is_comma, is_word, is_label, is_newline, is_quoted, is_plus, is_item};
 
 use il_lex::kind::{Kind, Symbol};
 use il_lex::scan::Ahead;

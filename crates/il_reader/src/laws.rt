@@ -1,7 +1,6 @@
 //! Laws of trees, each the contract of a function that does nothing.
 
-ghost use Rattle.il_reader.specs.Examples.{Examples};
-ghost use Rattle.il_reader.specs.Laws.{OneTree};
+ghost use Rattle.il_reader.specs.Prelude.{Examples, OneTree};
 
 /// A text has at most one tree.
 pub fn one_tree()

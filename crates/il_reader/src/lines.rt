@@ -1,9 +1,6 @@
 //! Reading a line of a block before its jump.
 ghost use Rattle.std.specs.Prelude.{◌≡◌, is_some};
-ghost use Rattle.il_reader.specs.Gives.{Gives};
-ghost use Rattle.il_reader.specs.Steps.{keyword};
-ghost use Rattle.il_reader.specs.Reading.{store_of, storing, blit, sees_word};
-ghost use Rattle.il_reader.specs.Blocks.{operation_of, called, unary_to, binary_to, alloc_to, assigned, assignment, effect, statement, sees_statement};
+ghost use Rattle.il_reader.specs.Prelude.{Gives, keyword, store_of, storing, blit, sees_word, operation_of, called, unary_to, binary_to, alloc_to, assigned, assignment, effect, statement, sees_statement};
 
 use crate::arguments::{arguments, phi_arguments};
 use crate::fault::Unread;

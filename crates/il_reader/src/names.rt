@@ -4,8 +4,7 @@ ghost use Rattle.std.specs.Cmp.Lexicographic.{pointwise, nat_list_eq_equiv};
 ghost use Rattle.std.specs.Cmp.{partial_equiv_from_equiv, on_per, on_equiv};
 ghost use Rattle.std.specs.Cmp.Rules.{hashing};
 ghost use Rattle.std.proofs.Common.{rules};
-ghost use Rattle.il_reader.specs.State.{place, with_name};
-ghost use Rattle.il_reader.specs.Keys.{key_bytes};
+ghost use Rattle.il_reader.specs.Prelude.{place, with_name, key_bytes};
 
 use crate::words::is_text;
 use il_ast::{Name, Seq};

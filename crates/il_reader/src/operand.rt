@@ -1,8 +1,7 @@
 //! Reading operands and destinations.
 ghost use Rattle.std.specs.Prelude.{◌≡◌, None, Some, MatchResult};
 ghost use Rattle.il_reader.specs.declared.fault.Unread.TheVariants.{Syntax};
-ghost use Rattle.il_reader.specs.Gives.{Gives, pushed};
-ghost use Rattle.il_reader.specs.Reading.{class, value, destination, argument, phi_argument};
+ghost use Rattle.il_reader.specs.Prelude.{Gives, pushed, class, value, destination, argument, phi_argument};
 
 use crate::fault::Unread;
 use crate::kinds::{is_number, is_temp};

@@ -2,10 +2,7 @@
 ghost use Rattle.std.specs.Prelude.{◌≡◌, ◌≤◌, length, IfOk, IfErr};
 ghost use Rattle.il_lex.specs.Line.{lines_in, line_at};
 ghost use Rattle.il_ast.specs.declared.text.Text.{Text};
-ghost use Rattle.il_reader.specs.State.{start};
-ghost use Rattle.il_reader.specs.Reads.{Reads};
-ghost use Rattle.il_reader.specs.Answers.{IsTree, NamesLine};
-ghost use Rattle.il_reader.specs.Definitions.{IsFound};
+ghost use Rattle.il_reader.specs.Prelude.{start, Reads, IsTree, NamesLine, IsFound};
 
 use crate::error::ReadError;
 use crate::fault::Unread;

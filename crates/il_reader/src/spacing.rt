@@ -1,10 +1,7 @@
 //! Reading the ends of lines.
 ghost use Rattle.std.specs.Prelude.{◌≡◌, None, Some, suc, length, MatchResult};
 ghost use Rattle.il_reader.specs.declared.fault.Unread.TheVariants.{Syntax};
-ghost use Rattle.il_reader.specs.Gives.{passed};
-ghost use Rattle.il_reader.specs.Steps.{sees, repeated, newline};
-ghost use Rattle.il_reader.specs.Reading.{is_newline, line_ends};
-ghost use Rattle.il_reader.specs.Definitions.{newlines};
+ghost use Rattle.il_reader.specs.Prelude.{passed, sees, repeated, newline, is_newline, line_ends, newlines};
 
 use crate::fault::Unread;
 use crate::kinds::is_newline;

@@ -1,10 +1,7 @@
 //! Reading texts.
 ghost use Rattle.std.specs.Prelude.{◌≡◌, None, Some, suc, length, map, MatchResult};
 ghost use Rattle.il_reader.specs.declared.fault.Unread.TheVariants.{Syntax};
-ghost use Rattle.il_reader.specs.Gives.{Gives, appended, pushed, parts_of, definition_list, whole_text};
-ghost use Rattle.il_reader.specs.Steps.{sees, separated};
-ghost use Rattle.il_reader.specs.Reading.{is_newline, is_word};
-ghost use Rattle.il_reader.specs.Definitions.{exporting, between, definition, definition_parts, definitions};
+ghost use Rattle.il_reader.specs.Prelude.{Gives, appended, pushed, parts_of, definition_list, whole_text, sees, separated, is_newline, is_word, exporting, between, definition, definition_parts, definitions};
 
 use crate::datum::object;
 use crate::fault::Unread;

@@ -1,7 +1,6 @@
 //! The words of classes, sizes and operations (QBE IL reference, "Types" and "Instructions").
 ghost use Rattle.std.specs.Prelude.{◌≡◌, ◌++◌, codes};
-ghost use Rattle.il_reader.specs.Reading.{class_of, size_of, unary_of, binary_of, alloc_of, store_of, is_text};
-ghost use Rattle.il_reader.specs.Blocks.{operation_of, is_jump};
+ghost use Rattle.il_reader.specs.Prelude.{class_of, size_of, unary_of, binary_of, alloc_of, store_of, is_text, operation_of, is_jump};
 
 use crate::statement::Operation;
 use il_ast::{Alignment, BinaryOp, Class, Condition, Extension, Size, UnaryOp};

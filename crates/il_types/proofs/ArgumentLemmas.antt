@@ -8,9 +8,7 @@ use Rattle.il_ast.specs.declared.block.PhiArg.{PhiArg}
 use Rattle.il_ast.specs.declared.block.Phi.{Phi}
 use Rattle.il_ast.specs.declared.block.Block.{Block}
 use Rattle.il_ast.specs.declared.function.Func.{Func}
-use Rattle.il_types.specs.First.{when, or_else, first}
-use Rattle.il_types.specs.Locals.{names_from, is_predecessor, jumps_to, covers, phi_sites, first_repeated, uncovered_in, uncovered_phi}
-use Rattle.il_types.specs.Arguments.{are_distinct, are_all_distinct}
+use Rattle.il_types.specs.Prelude.{when, or_else, first, names_from, is_predecessor, jumps_to, covers, phi_sites, first_repeated, uncovered_in, uncovered_phi, are_distinct, are_all_distinct}
 use Rattle.il_ast.proofs.Listed.{all_at}
 
 -- ---- one phi

@@ -5,9 +5,7 @@ use Rattle.std.proofs.lemmas.List.{take_more, flat_map_more}
 use Rattle.il_ast.specs.declared.block.PhiArg.{PhiArg}
 use Rattle.il_ast.specs.declared.block.Phi.{Phi}
 use Rattle.il_ast.specs.declared.block.Block.{Block}
-use Rattle.il_types.specs.First.{or_else, when, first}
-use Rattle.il_types.specs.Locals.{first_repeated, phi_sites, jumps_to, names_from, is_predecessor, covers, uncovered_in}
-use Rattle.il_types.specs.Covering.{predecessor_in, predecessors_of, are_args_right, are_all_named, covers_by, row, first_uncovered_by, uncovered_by}
+use Rattle.il_types.specs.Prelude.{or_else, when, first, first_repeated, phi_sites, jumps_to, names_from, is_predecessor, covers, uncovered_in, predecessor_in, predecessors_of, are_args_right, are_all_named, covers_by, row, first_uncovered_by, uncovered_by}
 use Rattle.il_types.proofs.FirstLemmas.{first_same}
 
 any_first : (l from label : ℕ) (t : Bool) (rest : List ℕ) → list_any (λ p. nat_eq p from) (cond t (label ∷ []) [] ++ rest) ≡ (nat_eq label from && t) || list_any (λ p. nat_eq p from) rest

@@ -8,10 +8,7 @@ use Rattle.il_ast.specs.declared.text.Text.{Text}
 use Rattle.il_types.specs.declared.rule.Rule.{Rule}
 use Rattle.il_types.specs.declared.rule.Rule.TheVariants.{DistinctGlobals, DistinctLocals, KnownLabels, EntryNotTarget, LastBlockEnds, OneType, OperandFits, PhiCoversPredecessors, AllocInEntry, ReturnFits, DefinedTemporaries, DataFields, Alignment, BlitSize}
 use Rattle.il_types.specs.declared.rule.BrokenRule.{BrokenRule}
-use Rattle.il_types.specs.First.{or_else, first}
-use Rattle.il_types.specs.Faults.{fault_at, fault_or, label_fault, temp_fault, size_fault, function_fault, object_fault, definition_fault, first_fault, text_fault}
-use Rattle.il_types.specs.Locals.{repeated_local, unknown_label, jump_to_entry, block_without_jump, two_types, misplaced, uncovered_phi, wrong_alloc, wrong_return, undefined_temp, long_blit}
-use Rattle.il_types.specs.Rules.{wrong_fields, wrong_alignment, repeated_global, broken_in_function, broken_in_object, broken_in, broken}
+use Rattle.il_types.specs.Prelude.{or_else, first, fault_at, fault_or, label_fault, temp_fault, size_fault, function_fault, object_fault, definition_fault, first_fault, text_fault, repeated_local, unknown_label, jump_to_entry, block_without_jump, two_types, misplaced, uncovered_phi, wrong_alloc, wrong_return, undefined_temp, long_blit, wrong_fields, wrong_alignment, repeated_global, broken_in_function, broken_in_object, broken_in, broken}
 
 -- ---- choices
 

@@ -1,7 +1,7 @@
 -- The first place that breaks a rule, found from front to back.
 use Rattle.std.proofs.Common.{◌≡◌, ℕ, zero, suc, ◌+◌, ◌<◌, Bool, false, List, [], ◌∷◌, length, drop, get_or, refl, ap, sym, ◌∙◌, arith, ◌&&◌, Option}
 use Rattle.std.specs.List.{list_all}
-use Rattle.il_types.specs.First.{or_else, first}
+use Rattle.il_types.specs.Prelude.{or_else, first}
 
 pub first_same : {X : Type 0} (f g : X → Option ℕ) → ((x : X) → f x ≡ g x) → (xs : List X) → first f xs ≡ first g xs
 first_same f g h [] = refl

@@ -3,7 +3,7 @@ use Rattle.std.proofs.Common.{◌≡◌, ℕ, zero, suc, ◌+◌, ◌<◌, max, 
 use Rattle.il_ast.specs.declared.instruction.Inst.{Inst}
 use Rattle.il_ast.specs.declared.instruction.Lined.{Lined}
 use Rattle.il_ast.specs.declared.block.Block.{Block}
-use Rattle.il_ast.specs.Cost.{args_on_stack, largest_in, largest_of}
+use Rattle.il_ast.specs.Prelude.{args_on_stack, largest_in, largest_of}
 
 pub largest_in_more : (xs : List (Lined Inst)) (i : ℕ) (d : Lined Inst) → i < length xs → largest_in (take (i + 1) xs) ≡ max (largest_in (take i xs)) (args_on_stack (get_or xs i d).item)
 largest_in_more [] i d lt = absurd (omega arith)

@@ -3,7 +3,7 @@ use Rattle.std.proofs.Common.{◌≡◌, ℕ, ◌+◌, ◌<◌, Bool, true, fals
 use Rattle.std.specs.List.{flat_map, list_any}
 use Rattle.std.proofs.lemmas.List.{take_more, drop_more, map_more, flat_map_more}
 use Rattle.std.proofs.lemmas.List.Folds.{list_any_more}
-use Rattle.il_types.specs.First.{or_else, first}
+use Rattle.il_types.specs.Prelude.{or_else, first}
 
 pub map_on : {X Y : Type 0} (f : X → Y) (xs : List X) (i : ℕ) (x : X) (y : Y) (found more : List Y) → i < length xs → x ≡ get_or xs i x → y ≡ f x → found ≡ map f (take i xs) → more ≡ found ++ y ∷ []
     → more ≡ map f (take (i + 1) xs)

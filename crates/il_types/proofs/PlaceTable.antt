@@ -6,8 +6,8 @@ use Rattle.std.specs.Option.{option_or}
 use Rattle.std.proofs.lemmas.List.{take_more, length-take-le}
 use Rattle.std.proofs.lemmas.Bool.Decides.{nat_tests}
 use Rattle.il_ast.specs.declared.block.Block.{Block}
-use Rattle.il_ast.specs.Effect.{place_of}
-use Rattle.il_types.specs.LabelBlocks.{place_in}
+use Rattle.il_ast.specs.Prelude.{place_of}
+use Rattle.il_types.specs.Prelude.{place_in}
 use Rattle.il_ast.proofs.Truth.{eq_zero_suc, eq_suc_zero, eq_suc_suc}
 
 -- ---- one table

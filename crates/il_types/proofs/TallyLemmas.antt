@@ -8,10 +8,7 @@ use Rattle.il_ast.specs.declared.block.PhiArg.{PhiArg}
 use Rattle.il_types.specs.declared.site.Site.{Site}
 use Rattle.il_types.specs.declared.tally.Often.{Often}
 use Rattle.il_types.specs.declared.tally.Often.TheVariants.{Never, Once, Again}
-use Rattle.il_types.specs.First.{when, first}
-use Rattle.il_types.specs.Locals.{times, first_repeated, names_from}
-use Rattle.il_types.specs.Tally.{named, once_more, often, is_never, is_once, is_again, times_in}
-use Rattle.il_types.specs.Covering.{are_args_right, covers_by}
+use Rattle.il_types.specs.Prelude.{when, first, times, first_repeated, names_from, named, once_more, often, is_never, is_once, is_again, times_in, are_args_right, covers_by}
 use Rattle.il_types.proofs.FirstLemmas.{first_same}
 
 -- ---- how often

@@ -13,3 +13,4 @@ pub mod Faults
 pub mod Refusals
 pub mod Arguments
 pub mod LabelBlocks
+pub mod Prelude

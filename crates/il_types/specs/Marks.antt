@@ -2,7 +2,7 @@
 use Rattle.std.specs.Prelude.{ℕ, Bool, false, nat_eq, ◌&&◌, List, slice_index_or}
 use Rattle.std.specs.List.{list_any}
 use Rattle.il_ast.specs.declared.operation.Class.{Class}
-use Rattle.il_ast.specs.Values.{same_class}
+use Rattle.il_ast.specs.Prelude.{same_class}
 use Rattle.il_types.specs.declared.site.Definer.{Definer}
 
 -- a number past the end is not marked

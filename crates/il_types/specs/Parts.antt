@@ -3,7 +3,7 @@ use Rattle.std.specs.Prelude.{ℕ, List, length, sum_by}
 use Rattle.il_ast.specs.declared.instruction.Inst.{Inst}
 use Rattle.il_ast.specs.declared.instruction.Lined.{Lined}
 use Rattle.il_ast.specs.declared.block.Phi.{Phi}
-use Rattle.il_ast.specs.Cost.{inst_weight, alloc_bytes}
+use Rattle.il_ast.specs.Prelude.{inst_weight, alloc_bytes}
 
 abbrev pub phis_weight : List Phi → ℕ
 phis_weight phis = sum_by (λ (p : Phi). length p.args) phis

@@ -18,7 +18,7 @@ use Rattle.il_ast.specs.declared.datum.DataDef.{DataDef}
 use Rattle.il_ast.specs.declared.text.Definition.{Definition}
 use Rattle.il_ast.specs.declared.text.Definition.TheVariants.{Function, Object}
 use Rattle.il_ast.specs.declared.text.Text.{Text}
-use Rattle.il_ast.specs.Cost.{weight, alloc_area}
+use Rattle.il_ast.specs.Prelude.{weight, alloc_area}
 use Rattle.il_types.specs.declared.rule.Rule.{Rule}
 use Rattle.il_types.specs.declared.rule.Rule.TheVariants.{DistinctGlobals, DistinctLocals, KnownLabels, EntryNotTarget, LastBlockEnds, OneType, OperandFits, PhiCoversPredecessors, AllocInEntry, ReturnFits, DefinedTemporaries, DataFields, Alignment, BlitSize}
 use Rattle.il_types.specs.declared.site.Site.{Site}

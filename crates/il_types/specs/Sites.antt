@@ -15,8 +15,7 @@ use Rattle.il_ast.specs.declared.block.PhiArg.{PhiArg}
 use Rattle.il_ast.specs.declared.block.Block.{Block}
 use Rattle.il_ast.specs.declared.function.Param.{Param}
 use Rattle.il_ast.specs.declared.function.Func.{Func}
-use Rattle.il_ast.specs.Operations.{operand_class, left_class, right_class}
-use Rattle.il_ast.specs.Effect.{stored_class}
+use Rattle.il_ast.specs.Prelude.{operand_class, left_class, right_class, stored_class}
 use Rattle.il_types.specs.declared.site.Definer.{Definer}
 use Rattle.il_types.specs.declared.site.Operand.{Operand}
 use Rattle.il_types.specs.declared.site.Site.{Site}

@@ -1,7 +1,7 @@
 //! The arguments of a phi by their labels.
 ghost use Rattle.std.specs.Prelude.{◌≡◌, nat_eq, true, Some, IfSome, find};
 ghost use Rattle.il_ast.specs.declared.block.PhiArg.{PhiArg as PhiArgOf};
-ghost use Rattle.il_types.specs.Arguments.{are_distinct};
+ghost use Rattle.il_types.specs.Prelude.{are_distinct};
 
 use il_ast::{Label, PhiArg};
 

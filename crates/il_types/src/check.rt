@@ -1,9 +1,7 @@
 //! The check of a text.
 ghost use Rattle.std.specs.Prelude.{◌≡◌, IfOk, IfErr, MatchResult};
 ghost use Rattle.il_types.specs.declared.error.CheckError.TheVariants.{Memory};
-ghost use Rattle.il_types.specs.Faults.{first_fault, fault_or, text_fault};
-ghost use Rattle.il_types.specs.Rules.{IsGood};
-ghost use Rattle.il_types.specs.Refusals.{Refuses};
+ghost use Rattle.il_types.specs.Prelude.{first_fault, fault_or, text_fault, IsGood, Refuses};
 
 use crate::checked::Checked;
 use crate::error::CheckError;

@@ -1,7 +1,6 @@
 //! The classes of the places that operands stand in.
 ghost use Rattle.std.specs.Prelude.{◌≡◌};
-ghost use Rattle.il_ast.specs.Operations.{operand_class, left_class, right_class};
-ghost use Rattle.il_ast.specs.Effect.{stored_class};
+ghost use Rattle.il_ast.specs.Prelude.{operand_class, left_class, right_class, stored_class};
 
 use il_ast::{BinaryOp, Class, Size, UnaryOp};
 

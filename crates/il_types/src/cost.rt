@@ -3,10 +3,8 @@
 //! Each measure takes no memory and goes over the function once. A number that would pass 64 bits
 //! stays at the largest one; within the limits of a text none does.
 ghost use Rattle.std.specs.Prelude.{◌≡◌, ◌+◌, ◌<◌, ◌^◌, max, sum_by};
-ghost use Rattle.il_ast.specs.Cost.{weight, need, inst_weight, block_weight, alloc_bytes, alloc_area, phi_count, args_on_stack, largest_in, largest_of, round_16};
-ghost use Rattle.il_ast.specs.Effect.{call_weight, blit_weight};
-ghost use Rattle.il_types.specs.Capped.{capped};
-ghost use Rattle.il_types.specs.Parts.{phis_weight, insts_weight, insts_alloc};
+ghost use Rattle.il_ast.specs.Prelude.{weight, need, inst_weight, block_weight, alloc_bytes, alloc_area, phi_count, args_on_stack, largest_in, largest_of, round_16, call_weight, blit_weight};
+ghost use Rattle.il_types.specs.Prelude.{capped, phis_weight, insts_weight, insts_alloc};
 
 use il_ast::{Block, Func, Inst, Lined, Phi};
 

@@ -1,8 +1,7 @@
 //! The places of a function, each in one list, in the order of the text.
 ghost use Rattle.std.specs.Prelude.{◌≡◌, ◌++◌, OnOk, IfOk, flat_map};
-ghost use Rattle.il_ast.specs.Operations.{operand_class, left_class, right_class};
-ghost use Rattle.il_ast.specs.Effect.{stored_class};
-ghost use Rattle.il_types.specs.Sites.{param_definers, definer, phi_definers, inst_definers, block_definers, definers_of};
+ghost use Rattle.il_ast.specs.Prelude.{operand_class, left_class, right_class, stored_class};
+ghost use Rattle.il_types.specs.Prelude.{param_definers, definer, phi_definers, inst_definers, block_definers, definers_of};
 
 use crate::site::Definer;
 use il_ast::{Block, Dest, Func, Inst, Lined, Param, Phi};

@@ -1,6 +1,6 @@
 //! The first fault of a definition.
 ghost use Rattle.std.specs.Prelude.{◌≡◌, IfOk};
-ghost use Rattle.il_types.specs.Faults.{fault_at, fault_or, label_fault, temp_fault, size_fault, function_fault, object_fault, definition_fault};
+ghost use Rattle.il_types.specs.Prelude.{fault_at, fault_or, label_fault, temp_fault, size_fault, function_fault, object_fault, definition_fault};
 
 use crate::definers::definers;
 use crate::insts::{long_blit, wrong_alloc};

@@ -1,6 +1,6 @@
 //! The rule on global names: distinct globals.
 ghost use Rattle.std.specs.Prelude.{◌≡◌, IfOk};
-ghost use Rattle.il_types.specs.Rules.{definition_site, global_sites, repeated_global};
+ghost use Rattle.il_types.specs.Prelude.{definition_site, global_sites, repeated_global};
 
 use crate::repeats::repeated;
 use crate::site::Site;

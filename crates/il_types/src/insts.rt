@@ -2,8 +2,7 @@
 ghost use Rattle.std.specs.Prelude.{◌≡◌};
 ghost use Rattle.il_ast.specs.declared.instruction.Inst.{Inst as InstOf};
 ghost use Rattle.il_ast.specs.declared.instruction.Lined.{Lined as LinedOf};
-ghost use Rattle.il_types.specs.First.{when, first};
-ghost use Rattle.il_types.specs.Locals.{is_long_only, has_wrong_result, in_insts, has_wrong_size, is_alloc, is_long_blit, wrong_alloc, wrong_alloc_in, long_blit};
+ghost use Rattle.il_types.specs.Prelude.{when, first, is_long_only, has_wrong_result, in_insts, has_wrong_size, is_alloc, is_long_blit, wrong_alloc, wrong_alloc_in, long_blit};
 
 use crate::labels::or_else;
 use il_ast::limits::{ALLOC_BYTES, BLIT_BYTES};

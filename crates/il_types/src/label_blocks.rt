@@ -1,8 +1,8 @@
 //! Where the block of each label stands.
 ghost use Rattle.std.specs.Prelude.{◌≡◌, ℕ, cond, nat_eq, Some, None, IfOk, OnOk};
 ghost use Rattle.std.specs.Option.{option_or};
-ghost use Rattle.il_ast.specs.Effect.{place_of};
-ghost use Rattle.il_types.specs.LabelBlocks.{place_in};
+ghost use Rattle.il_ast.specs.Prelude.{place_of};
+ghost use Rattle.il_types.specs.Prelude.{place_in};
 
 use il_ast::Block;
 use std::alloc::{AllocError, Global};

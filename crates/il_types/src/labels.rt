@@ -2,10 +2,7 @@
 ghost use Rattle.std.specs.Prelude.{◌≡◌, ℕ, not, IfOk, is_none};
 ghost use Rattle.il_ast.specs.declared.block.Block.{Block as BlockOf};
 ghost use Rattle.il_types.specs.declared.site.Site.{Site as SiteOf};
-ghost use Rattle.il_types.specs.First.{or_else, when, first};
-ghost use Rattle.il_types.specs.Marks.{marked};
-ghost use Rattle.il_types.specs.Sites.{targets_of, sources_of};
-ghost use Rattle.il_types.specs.Locals.{repeated_local, unknown_label, jump_to_entry, block_without_jump, is_label, is_entry};
+ghost use Rattle.il_types.specs.Prelude.{or_else, when, first, marked, targets_of, sources_of, repeated_local, unknown_label, jump_to_entry, block_without_jump, is_label, is_entry};
 
 use crate::marks::mark;
 use crate::repeats::{first_unmarked, repeated};

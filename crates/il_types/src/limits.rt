@@ -4,7 +4,7 @@ ghost use Rattle.std.specs.List.{list_all};
 ghost use Rattle.il_ast.specs.declared.block.Block.{Block as BlockOf};
 ghost use Rattle.il_ast.specs.declared.instruction.Inst.{Inst as InstOf};
 ghost use Rattle.il_ast.specs.declared.instruction.Lined.{Lined as LinedOf};
-ghost use Rattle.il_types.specs.Rules.{has_few_args, is_within, definition_within, within_limits};
+ghost use Rattle.il_types.specs.Prelude.{has_few_args, is_within, definition_within, within_limits};
 
 use crate::cost::{alloc_area, weight};
 use il_ast::limits::{ALLOC_BYTES, ARGUMENTS, FUNCTION_WEIGHT, TEMPORARIES, TEXT_BYTES};

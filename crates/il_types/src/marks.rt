@@ -1,6 +1,6 @@
 //! Which numbers are marked: a list that grows as far as it must.
 ghost use Rattle.std.specs.Prelude.{◌≡◌, ℕ, ◌||◌, nat_eq, IfOk, OnOk};
-ghost use Rattle.il_types.specs.Marks.{marked, is_given};
+ghost use Rattle.il_types.specs.Prelude.{marked, is_given};
 
 use crate::site::Definer;
 use il_ast::Class;

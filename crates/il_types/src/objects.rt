@@ -1,7 +1,7 @@
 //! The rules on data: data fields, alignment.
 ghost use Rattle.std.specs.Prelude.{◌≡◌};
 ghost use Rattle.std.specs.List.{list_any};
-ghost use Rattle.il_types.specs.Rules.{is_misfit, has_misfit, takes_bytes, has_bytes, wrong_fields, is_alignment, wrong_alignment};
+ghost use Rattle.il_types.specs.Prelude.{is_misfit, has_misfit, takes_bytes, has_bytes, wrong_fields, is_alignment, wrong_alignment};
 
 use il_ast::{DataDef, Field, Item, Size};
 

@@ -1,6 +1,6 @@
 //! The operands of a function, in the order of the text.
 ghost use Rattle.std.specs.Prelude.{◌≡◌, ◌++◌, OnOk, IfOk, flat_map};
-ghost use Rattle.il_types.specs.Sites.{operand_at, phi_operands, arg_operands, inst_operands, end_operands, block_operands, operands_of};
+ghost use Rattle.il_types.specs.Prelude.{operand_at, phi_operands, arg_operands, inst_operands, end_operands, block_operands, operands_of};
 
 use crate::classes::{left_class, operand_class, right_class, stored_class};
 use crate::site::Operand;

@@ -3,10 +3,7 @@ ghost use Rattle.std.specs.Prelude.{◌≡◌, ℕ, not, map, ◌&&◌, IfOk, On
 ghost use Rattle.std.specs.List.{list_all};
 ghost use Rattle.il_ast.specs.declared.block.PhiArg.{PhiArg as PhiArgOf};
 ghost use Rattle.il_types.specs.declared.site.Site.{Site as SiteOf};
-ghost use Rattle.il_types.specs.First.{when, first};
-ghost use Rattle.il_types.specs.Locals.{first_repeated, phi_sites, uncovered_phi};
-ghost use Rattle.il_types.specs.Tally.{named, often, is_never, is_once, is_again, times_in, NothingNamed};
-ghost use Rattle.il_types.specs.Covering.{covers_by, first_uncovered_by, uncovered_by};
+ghost use Rattle.il_types.specs.Prelude.{when, first, first_repeated, phi_sites, uncovered_phi, named, often, is_never, is_once, is_again, times_in, NothingNamed, covers_by, first_uncovered_by, uncovered_by};
 
 use crate::labels::or_else;
 use crate::predecessors::{predecessors, row};

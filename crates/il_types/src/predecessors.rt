@@ -1,7 +1,6 @@
 //! The predecessors of all blocks of a function.
 ghost use Rattle.std.specs.Prelude.{◌≡◌, ℕ, ◌++◌, ◌∷◌, [], ◌||◌, cond, nat_eq, OnOk, IfOk};
-ghost use Rattle.il_types.specs.Locals.{jumps_to};
-ghost use Rattle.il_types.specs.Covering.{row, predecessors_of};
+ghost use Rattle.il_types.specs.Prelude.{jumps_to, row, predecessors_of};
 
 use il_ast::{Block, Jump, Lined, Seq};
 use std::alloc::{AllocError, Global};

@@ -1,9 +1,7 @@
 //! Numbers that are named more than once.
 ghost use Rattle.std.specs.Prelude.{◌≡◌, ℕ, not, nat_lt, IfOk};
 ghost use Rattle.il_types.specs.declared.site.Site.{Site as SiteOf};
-ghost use Rattle.il_types.specs.First.{when, first};
-ghost use Rattle.il_types.specs.Marks.{marked};
-ghost use Rattle.il_types.specs.Locals.{times, first_repeated};
+ghost use Rattle.il_types.specs.Prelude.{when, first, marked, times, first_repeated};
 
 use crate::marks::{is_marked, mark};
 use crate::site::Site;

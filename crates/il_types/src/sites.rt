@@ -1,7 +1,6 @@
 //! Places that name something by a number, in the order of the text.
 ghost use Rattle.std.specs.Prelude.{◌≡◌, ◌++◌, OnOk, IfOk, flat_map};
-ghost use Rattle.il_types.specs.Sites.{end_sites, block_targets, targets_of, phi_sources, sources_in, sources_of};
-ghost use Rattle.il_types.specs.Locals.{param_sites, label_sites, phi_sites};
+ghost use Rattle.il_types.specs.Prelude.{end_sites, block_targets, targets_of, phi_sources, sources_in, sources_of, param_sites, label_sites, phi_sites};
 
 use crate::site::Site;
 use il_ast::{Block, Func, Jump, Lined, Param, Phi};

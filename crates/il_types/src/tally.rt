@@ -1,7 +1,7 @@
 //! How often numbers are named: a list that grows as far as it must.
 ghost use Rattle.std.specs.Prelude.{◌≡◌, ℕ, cond, nat_eq, OnOk};
 ghost use Rattle.il_types.specs.declared.tally.Often.TheVariants.{Never};
-ghost use Rattle.il_types.specs.Tally.{named, once_more, often, is_never, is_once, is_again, times_in, NothingNamed};
+ghost use Rattle.il_types.specs.Prelude.{named, once_more, often, is_never, is_once, is_again, times_in, NothingNamed};
 
 use std::alloc::AllocError;
 

@@ -3,11 +3,7 @@ ghost use Rattle.std.specs.Prelude.{◌≡◌, ℕ, not, ◌&&◌};
 ghost use Rattle.il_ast.specs.declared.operation.Class.TheVariants.{W, L};
 ghost use Rattle.il_types.specs.declared.site.Definer.{Definer as DefinerOf};
 ghost use Rattle.il_types.specs.declared.site.Operand.{Operand as OperandOf};
-ghost use Rattle.il_types.specs.First.{when, first};
-ghost use Rattle.il_types.specs.Marks.{marked, is_given};
-ghost use Rattle.il_types.specs.Locals.{two_types, misplaced, undefined_temp, wrong_return, fits, is_defined, in_returns};
-ghost use Rattle.il_types.specs.Sites.{definers_of, operands_of};
-ghost use Rattle.il_types.specs.Tables.{value_fits, value_is_defined, result_takes, returned_misfit, returned_undefined, returned_at};
+ghost use Rattle.il_types.specs.Prelude.{when, first, marked, is_given, two_types, misplaced, undefined_temp, wrong_return, fits, is_defined, in_returns, definers_of, operands_of, value_fits, value_is_defined, result_takes, returned_misfit, returned_undefined, returned_at};
 
 use crate::insts::wrong_result;
 use crate::labels::or_else;

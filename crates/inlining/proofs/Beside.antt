@@ -3,14 +3,10 @@ use Rattle.std.proofs.Common.{◌≡◌, ℕ, suc, ◌+◌, ◌≤◌, List, [],
 use Rattle.il_ast.specs.declared.value.Callee.{Callee}
 use Rattle.il_ast.specs.declared.value.Value.{Value}
 use Rattle.il_ast.specs.declared.value.Value.TheVariants.{Function}
-use Rattle.il_ast.specs.Run.{Spent, nothing, one_call, both, Outcome, Callees}
-use Rattle.il_ast.specs.Logged.{Next, On, Over, Event, Does, Calls, Entry}
-use Rattle.il_ast.specs.Keeps.{Asked, Given}
+use Rattle.il_ast.specs.Prelude.{Spent, nothing, one_call, both, Outcome, Callees, Next, On, Over, Event, Does, Calls, Entry, Asked, Given}
 use Rattle.il_ast.proofs.Simulated.{LoggedFrom, step_back, call_back}
 use Rattle.vcode.specs.declared.code.Code.{Code}
-use Rattle.vcode.specs.Places.{Values, virtual}
-use Rattle.vcode.specs.Step.{State, step}
-use Rattle.vcode.specs.InPlace.{IsCheaper, GoesSo, HasRoom, RunsAs}
+use Rattle.vcode.specs.Prelude.{Values, virtual, State, step, IsCheaper, GoesSo, HasRoom, RunsAs}
 use Rattle.inlining.specs.InPlace.{Site, IsSite, in_place}
 use Rattle.inlining.specs.Candidates.{IsCandidateOf}
 

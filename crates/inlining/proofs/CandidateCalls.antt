@@ -6,22 +6,13 @@ use Rattle.il_ast.specs.declared.operation.Class.{Class}
 use Rattle.il_ast.specs.declared.value.Value.{Value}
 use Rattle.il_ast.specs.declared.value.Value.TheVariants.{Pointer}
 use Rattle.il_ast.specs.declared.value.End.TheVariants.{Turns}
-use Rattle.il_ast.specs.Memory.{Memory, fresh}
-use Rattle.il_ast.specs.Effect.{Call as Calling}
-use Rattle.il_ast.specs.Run.{Spent, one_turn, both, Outcome, Returned, Ended}
-use Rattle.il_ast.specs.Logged.{Over, Event, Does, LoggedNext, LoggedEvent, Logged}
-use Rattle.il_ast.specs.Keeps.{Asked, Given, Log}
+use Rattle.il_ast.specs.Prelude.{Memory, fresh, Call as Calling, Spent, one_turn, both, Outcome, Returned, Ended, Over, Event, Does, LoggedNext, LoggedEvent, Logged, Asked, Given, Log}
 use Rattle.vcode.specs.declared.line.Line.{Line}
 use Rattle.vcode.specs.declared.line.Line.TheVariants.{Tick, Set, Operate, Load, Store, Alloc, Blit, Call}
 use Rattle.vcode.specs.declared.line.Jump.{Jump}
 use Rattle.vcode.specs.declared.code.Block.{Block}
 use Rattle.vcode.specs.declared.code.Code.{Code}
-use Rattle.vcode.specs.Operations.{held}
-use Rattle.vcode.specs.Places.{Values, virtual}
-use Rattle.vcode.specs.Step.{State, begin, weighs, goes_on, step}
-use Rattle.vcode.specs.Writes.{line_writes}
-use Rattle.vcode.specs.Acts.{Act, Fails, Spends, Gives, Leaves, Makes, Asks, given, left, act, written, Way, Lost, Enters, Answers, Halts, way}
-use Rattle.vcode.specs.InPlace.{HasRoom}
+use Rattle.vcode.specs.Prelude.{held, Values, virtual, State, begin, weighs, goes_on, step, line_writes, Act, Fails, Spends, Gives, Leaves, Makes, Asks, given, left, act, written, Way, Lost, Enters, Answers, Halts, way, HasRoom}
 use Rattle.vcode.proofs.Acting.{perform, lead, received, resumed}
 use Rattle.vcode.proofs.Rewriting.{Left, at_start, behind_it, line_is, jump_is}
 use Rattle.vcode.proofs.Stepping.{step_nowhere}

@@ -2,8 +2,7 @@
 use Rattle.std.proofs.Common.{◌≡◌, ℕ, ◌+◌, List, [], ◌∷◌, map, Option, Some, ◌∙◌, ap, subst, option_and_then}
 use Rattle.il_ast.specs.declared.operation.Class.{Class}
 use Rattle.il_ast.specs.declared.value.Value.{Value}
-use Rattle.il_ast.specs.Run.{Spent}
-use Rattle.il_ast.specs.Logged.{On}
+use Rattle.il_ast.specs.Prelude.{Spent, On}
 use Rattle.vcode.specs.declared.place.Operand.{Operand}
 use Rattle.vcode.specs.declared.place.Argument.{Argument}
 use Rattle.vcode.specs.declared.place.Destination.{Destination}
@@ -11,11 +10,7 @@ use Rattle.vcode.specs.declared.place.Extension.{Extension}
 use Rattle.vcode.specs.declared.line.Line.{Line}
 use Rattle.vcode.specs.declared.line.Jump.{Jump}
 use Rattle.vcode.specs.declared.line.Jump.TheVariants.{Goto}
-use Rattle.vcode.specs.Coded.{classes_in}
-use Rattle.vcode.specs.Operations.{held, passed}
-use Rattle.vcode.specs.Places.{Values, virtual, put}
-use Rattle.vcode.specs.Step.{State, bound, value_of, read_argument, read_all}
-use Rattle.vcode.specs.Acts.{act, written}
+use Rattle.vcode.specs.Prelude.{classes_in, held, passed, Values, virtual, put, State, bound, value_of, read_argument, read_all, act, written}
 use Rattle.vcode.proofs.Acting.{perform}
 use Rattle.vcode.proofs.Following.{Follows, AllFollow, then_follows}
 use Rattle.vcode.proofs.Rewriting.{Left, behind_it, line_is, jump_is}

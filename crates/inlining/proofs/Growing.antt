@@ -14,10 +14,7 @@ use Rattle.vcode.specs.declared.line.Line.TheVariants.{Tick, Set, Operate, Load,
 use Rattle.vcode.specs.declared.code.Block.{Block}
 use Rattle.vcode.specs.declared.code.Code.{Code}
 use Rattle.vcode.specs.declared.function.VFunc.{VFunc}
-use Rattle.vcode.specs.Becomes.{with_these}
-use Rattle.vcode.specs.Cost.{is_paid}
-use Rattle.vcode.specs.Named.{operand_keeps, wanted_keeps, line_keeps, jump_keeps, block_keeps, is_below}
-use Rattle.vcode.specs.Regular.{leads_inside, is_alloc, allocs_first, alloc_bytes, turns_of, passes_few, weight_of, area, code_weight, IsRegular}
+use Rattle.vcode.specs.Prelude.{with_these, is_paid, operand_keeps, wanted_keeps, line_keeps, jump_keeps, block_keeps, is_below, leads_inside, is_alloc, allocs_first, alloc_bytes, turns_of, passes_few, weight_of, area, code_weight, IsRegular}
 use Rattle.inlining.specs.declared.growth.Room.{Room}
 use Rattle.inlining.specs.declared.growth.Growth.{Growth}
 use Rattle.inlining.specs.declared.growth.Cut.{Cut}

@@ -10,13 +10,9 @@ use Rattle.il_ast.specs.declared.value.Callee.{Callee}
 use Rattle.il_ast.specs.declared.value.Callee.TheVariants.{Defined, SystemWrite, SystemExit}
 use Rattle.il_ast.specs.declared.value.Value.{Value}
 use Rattle.il_ast.specs.declared.value.End.TheVariants.{Exit, Halt, Undefined, Stack, Turns}
-use Rattle.il_ast.specs.Memory.{Memory}
-use Rattle.il_ast.specs.Cost.{need}
-use Rattle.il_ast.specs.Effect.{Env, Activation, Call, Effect, Goes, Calls, Returns, Ends, effect}
-use Rattle.il_ast.specs.Run.{Spent, nothing, one_turn, one_call, Outcome, Returned, Ended, after, Callees, Rest, receive, resume, perform, run, body, begun}
-use Rattle.il_ast.specs.Start.{globals_of}
-use Rattle.il_ast.specs.Meaning.{call_fits, call_function, call_named, callees}
-use Rattle.vcode.specs.InPlace.{HasRoom}
+use Rattle.il_ast.specs.Prelude.{Memory, need, Env, Activation, Call, Effect, Goes, Returns, Ends, effect, Spent, nothing, one_turn, one_call, Outcome, Returned, Ended, after, Callees, Rest, receive, resume, perform, run, body, begun, globals_of, call_fits, call_function, call_named, callees}
+use Rattle.il_ast.specs.Effect.{Calls}
+use Rattle.vcode.specs.Prelude.{HasRoom}
 
 -- the second goes as the first, where that has room
 abbrev Stays : Outcome → Outcome → Type 0

@@ -4,9 +4,7 @@ use Rattle.std.proofs.lemmas.Bool.Decides.{nat_tests}
 use Rattle.il_ast.specs.declared.operation.Class.{Class}
 use Rattle.il_ast.specs.declared.value.Value.{Value}
 use Rattle.il_ast.specs.declared.value.Value.TheVariants.{Integer, Pointer, Function}
-use Rattle.il_ast.specs.Values.{byte_count, in_place}
-use Rattle.il_ast.specs.Memory.{Memory, store, copy}
-use Rattle.il_ast.specs.Effect.{stored_class}
+use Rattle.il_ast.specs.Prelude.{byte_count, in_place, Memory, store, copy, stored_class}
 use Rattle.rv_isa.specs.declared.instruction.RegOp.TheVariants.{Add}
 use Rattle.vcode.specs.declared.place.Operand.{Operand}
 use Rattle.vcode.specs.declared.place.Operand.TheVariants.{At, Number, Name}
@@ -18,13 +16,7 @@ use Rattle.vcode.specs.declared.line.Line.TheVariants.{Tick, Set, Operate, Load,
 use Rattle.vcode.specs.declared.line.Operation.TheVariants.{Reg, Compare}
 use Rattle.vcode.specs.declared.line.Comparison.{Comparison}
 use Rattle.vcode.specs.declared.line.Jump.TheVariants.{Branch}
-use Rattle.vcode.specs.Addresses.{distance}
-use Rattle.vcode.specs.Operations.{loaded}
-use Rattle.vcode.specs.Places.{Values}
-use Rattle.vcode.specs.Step.{value_of, read_all, operated, address_of}
-use Rattle.vcode.specs.Replaced.{with_base, with_argument}
-use Rattle.vcode.specs.Writes.{line_writes}
-use Rattle.vcode.specs.Acts.{Act, Gives, Makes, given, left, asked, act, written, Way, Enters, entering, way}
+use Rattle.vcode.specs.Prelude.{distance, loaded, Values, value_of, read_all, operated, address_of, with_base, with_argument, line_writes, Act, Gives, Makes, given, left, asked, act, written, Way, Enters, entering, way}
 use Rattle.vcode.proofs.Following.{Follows, AllFollow}
 use Rattle.vcode.proofs.SameReads.{SameValue}
 use Rattle.vcode.proofs.SameActs.{reads_every, act_same}

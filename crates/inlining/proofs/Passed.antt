@@ -5,21 +5,14 @@ use Rattle.il_ast.specs.declared.operation.Class.{Class}
 use Rattle.il_ast.specs.declared.operation.Class.TheVariants.{W, L}
 use Rattle.il_ast.specs.declared.value.Value.{Value}
 use Rattle.il_ast.specs.declared.value.Value.TheVariants.{Integer, Pointer, Function}
-use Rattle.il_ast.specs.Values.{in_place}
-use Rattle.il_ast.specs.Memory.{Memory}
-use Rattle.il_ast.specs.Keeps.{Passes, AreArgs}
-use Rattle.il_ast.specs.Meaning.{result_fits}
+use Rattle.il_ast.specs.Prelude.{in_place, Memory, Passes, AreArgs, result_fits}
 use Rattle.rv_isa.specs.declared.instruction.RegWOp.TheVariants.{Addw}
 use Rattle.vcode.specs.declared.place.Operand.{Operand}
 use Rattle.vcode.specs.declared.place.Argument.{Argument}
 use Rattle.vcode.specs.declared.place.Extension.{Extension}
 use Rattle.vcode.specs.declared.place.Extension.TheVariants.{Made, Claimed}
 use Rattle.vcode.specs.declared.line.Operation.TheVariants.{RegW}
-use Rattle.vcode.specs.Operations.{held, is_extended, stands_extended, passed, operate}
-use Rattle.vcode.specs.Places.{Values}
-use Rattle.vcode.specs.Step.{value_of, read_argument, read_all, operated}
-use Rattle.vcode.specs.Writes.{line_writes}
-use Rattle.vcode.specs.Acts.{Gives, act}
+use Rattle.vcode.specs.Prelude.{held, is_extended, stands_extended, passed, operate, Values, value_of, read_argument, read_all, operated, line_writes, Gives, act}
 use Rattle.inlining.specs.InPlace.{brought}
 use Rattle.il_ast.proofs.Alike.{same_class_is}
 use Rattle.il_ast.proofs.Wrapping.{low_twice}

@@ -7,12 +7,7 @@ use Rattle.il_ast.specs.declared.operation.Class.{Class}
 use Rattle.il_ast.specs.declared.value.Value.{Value}
 use Rattle.il_ast.specs.declared.value.Value.TheVariants.{Integer, Pointer, Function}
 use Rattle.il_ast.specs.declared.value.End.TheVariants.{Halt as Halted, Turns}
-use Rattle.il_ast.specs.Memory.{Memory, free_all}
-use Rattle.il_ast.specs.Effect.{Call as Calling}
-use Rattle.il_ast.specs.Meaning.{result_fits}
-use Rattle.il_ast.specs.Run.{Spent, nothing, one_turn, both, Outcome, Returned, Ended}
-use Rattle.il_ast.specs.Logged.{On, Over, Event, Does, Entry, LoggedNext, LoggedEvent, Logged}
-use Rattle.il_ast.specs.Keeps.{Asked, Given, Log}
+use Rattle.il_ast.specs.Prelude.{Memory, free_all, Call as Calling, result_fits, Spent, nothing, one_turn, both, Outcome, Returned, Ended, On, Over, Event, Does, Entry, LoggedNext, LoggedEvent, Logged, Asked, Given, Log}
 use Rattle.vcode.specs.declared.place.ReturnValue.{ReturnValue}
 use Rattle.vcode.specs.declared.place.Destination.{Destination}
 use Rattle.vcode.specs.declared.line.Line.{Line}
@@ -20,12 +15,7 @@ use Rattle.vcode.specs.declared.line.Operation.TheVariants.{Compare}
 use Rattle.vcode.specs.declared.line.Jump.{Jump}
 use Rattle.vcode.specs.declared.line.Jump.TheVariants.{Goto, Branch, Return, Halt}
 use Rattle.vcode.specs.declared.code.Block.{Block}
-use Rattle.vcode.specs.Operations.{held, passed}
-use Rattle.vcode.specs.Places.{Values, virtual}
-use Rattle.vcode.specs.Step.{State, begin, value_of, operated, read_result, weighs, goes_on, step}
-use Rattle.vcode.specs.Writes.{line_writes}
-use Rattle.vcode.specs.Acts.{Act, Fails, Spends, Gives, Leaves, Makes, Asks, act, written, Way, entering, answering, way}
-use Rattle.vcode.specs.InPlace.{IsCheaper, GoesSo, HasRoom}
+use Rattle.vcode.specs.Prelude.{held, passed, Values, virtual, State, begin, value_of, operated, read_result, weighs, goes_on, step, line_writes, Act, Fails, Spends, Gives, Leaves, Makes, Asks, act, written, Way, entering, answering, way, IsCheaper, GoesSo, HasRoom}
 use Rattle.vcode.proofs.Acting.{perform, lead, received, resumed}
 use Rattle.vcode.proofs.Following.{AllFollow, ActFollows, act_follows, WayFollows, way_follows, then_follows, assign_follows}
 use Rattle.vcode.proofs.InPlace.{as_cheap, cheaper_after}

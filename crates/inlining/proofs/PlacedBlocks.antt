@@ -4,7 +4,7 @@ use Rattle.std.specs.List.{list_all}
 use Rattle.std.proofs.lemmas.Bool.{and_parts}
 use Rattle.std.proofs.lemmas.Option.{slice_get-map}
 use Rattle.vcode.specs.declared.code.Block.{Block}
-use Rattle.vcode.specs.Named.{line_keeps, block_keeps, is_below}
+use Rattle.vcode.specs.Prelude.{line_keeps, block_keeps, is_below}
 use Rattle.inlining.specs.InPlace.{up_to_call, behind_call, candidate_block}
 use Rattle.inlining.proofs.Beside.{Setting, placed}
 use Rattle.il_ast.proofs.Listed.{all_at, get_before, get_set_other, length_slice_set}

@@ -7,12 +7,7 @@ use Rattle.il_ast.specs.declared.operation.Class.{Class}
 use Rattle.il_ast.specs.declared.value.Value.{Value}
 use Rattle.il_ast.specs.declared.value.Value.TheVariants.{Pointer, Function}
 use Rattle.il_ast.specs.declared.value.End.TheVariants.{Halt as Halted, Undefined, Turns}
-use Rattle.il_ast.specs.Memory.{Memory, fresh, free_all}
-use Rattle.il_ast.specs.Effect.{Call as Calling}
-use Rattle.il_ast.specs.Meaning.{same_classes, result_fits}
-use Rattle.il_ast.specs.Run.{Spent, nothing, one_turn, one_call, both, Outcome, Returned, Ended, after}
-use Rattle.il_ast.specs.Logged.{On, Over, Event, Does, LoggedNext, LoggedEvent, Logged}
-use Rattle.il_ast.specs.Keeps.{Asked, Log, AreArgs, AllGo}
+use Rattle.il_ast.specs.Prelude.{Memory, fresh, free_all, Call as Calling, same_classes, result_fits, Spent, nothing, one_turn, one_call, both, Outcome, Returned, Ended, after, On, Over, Event, Does, LoggedNext, LoggedEvent, Logged, Asked, Log, AreArgs, AllGo}
 use Rattle.vcode.specs.declared.place.Operand.TheVariants.{Name}
 use Rattle.vcode.specs.declared.place.Argument.{Argument}
 use Rattle.vcode.specs.declared.place.Destination.{Destination}
@@ -21,14 +16,7 @@ use Rattle.vcode.specs.declared.line.Line.TheVariants.{Tick, Set, Operate, Load,
 use Rattle.vcode.specs.declared.line.Jump.{Jump}
 use Rattle.vcode.specs.declared.line.Jump.TheVariants.{Goto}
 use Rattle.vcode.specs.declared.code.Block.{Block}
-use Rattle.vcode.specs.Coded.{classes_in}
-use Rattle.vcode.specs.Named.{line_keeps, is_below}
-use Rattle.vcode.specs.Operations.{held}
-use Rattle.vcode.specs.Places.{Values, virtual, unknown, put}
-use Rattle.vcode.specs.Step.{State, bound, begin, read_all, weighs, goes_on, step}
-use Rattle.vcode.specs.Writes.{place_of, line_writes}
-use Rattle.vcode.specs.Acts.{Act, Fails, Spends, Gives, Leaves, Makes, Asks, asked, act, written, Way, Lost, Enters, Answers, Halts, way}
-use Rattle.vcode.specs.InPlace.{IsCheaper, GoesSo, HasRoom}
+use Rattle.vcode.specs.Prelude.{classes_in, line_keeps, is_below, held, Values, virtual, unknown, put, State, bound, begin, read_all, weighs, goes_on, step, place_of, line_writes, Act, Fails, Spends, Gives, Leaves, Makes, Asks, asked, act, written, Way, Lost, Enters, Answers, Halts, way, IsCheaper, GoesSo, HasRoom}
 use Rattle.vcode.proofs.Acting.{perform, lead, received, resumed}
 use Rattle.vcode.proofs.Following.{AllFollow, ActFollows, act_follows, WayFollows, way_follows, assign_follows}
 use Rattle.vcode.proofs.InPlace.{as_cheap, cheaper_after, goes_room}

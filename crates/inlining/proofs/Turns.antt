@@ -3,14 +3,10 @@ use Rattle.std.proofs.Common.{◌≡◌, ℕ, ◌<◌, Bool, true, false, ◌||�
 use Rattle.il_ast.specs.declared.value.Value.{Value}
 use Rattle.il_ast.specs.declared.value.End.{End}
 use Rattle.il_ast.specs.declared.value.End.TheVariants.{Exit, Halt as Halted, Undefined, Stack, Turns}
-use Rattle.il_ast.specs.Memory.{Memory}
-use Rattle.il_ast.specs.Run.{Spent, both, Ended}
-use Rattle.il_ast.specs.Keeps.{Given}
+use Rattle.il_ast.specs.Prelude.{Memory, Spent, both, Ended, Given}
 use Rattle.vcode.specs.declared.line.Line.{Line}
 use Rattle.vcode.specs.declared.line.Line.TheVariants.{Tick, Set, Operate, Load, Store, Alloc, Blit, Call}
-use Rattle.vcode.specs.Places.{Values}
-use Rattle.vcode.specs.Acts.{Act, Spends, act}
-use Rattle.vcode.specs.InPlace.{HasRoom}
+use Rattle.vcode.specs.Prelude.{Values, Act, Spends, act, HasRoom}
 use Rattle.inlining.specs.Candidates.{begins_turn}
 
 -- a line that begins a turn

@@ -6,8 +6,7 @@ use Rattle.vcode.specs.declared.limits.TheConstants.{PLACES}
 use Rattle.vcode.specs.declared.place.Destination.{Destination}
 use Rattle.vcode.specs.declared.code.Block.{Block}
 use Rattle.vcode.specs.declared.function.VFunc.{VFunc}
-use Rattle.vcode.specs.Named.{block_keeps, is_below}
-use Rattle.vcode.specs.Regular.{leads_inside, IsRegular}
+use Rattle.vcode.specs.Prelude.{block_keeps, is_below, leads_inside, IsRegular}
 use Rattle.inlining.specs.declared.limits.TheConstants.{BLOCKS}
 use Rattle.inlining.proofs.Listing.{all_weaker}
 use Rattle.inlining.proofs.Fitting.{inside_more}

@@ -4,20 +4,12 @@ use Rattle.std.specs.Prelude.{◌≡◌, ℕ, ◌<◌, ◌≤◌, Bool, true, fa
 use Rattle.std.specs.List.{list_all}
 use Rattle.il_ast.specs.declared.value.Callee.{Callee}
 use Rattle.il_ast.specs.declared.value.Value.{Value}
-use Rattle.il_ast.specs.Memory.{Memory}
-use Rattle.il_ast.specs.Effect.{Call as Calling}
-use Rattle.il_ast.specs.Run.{Outcome, Callees, one_call, after}
-use Rattle.il_ast.specs.Meaning.{call_fits}
-use Rattle.il_ast.specs.Logged.{Logged}
-use Rattle.il_ast.specs.Keeps.{Given, Log, AreArgs}
+use Rattle.il_ast.specs.Prelude.{Memory, Call as Calling, Outcome, Callees, one_call, after, call_fits, Logged, Given, Log, AreArgs}
 use Rattle.vcode.specs.declared.line.Line.{Line}
 use Rattle.vcode.specs.declared.line.Line.TheVariants.{Tick, Alloc, Call}
 use Rattle.vcode.specs.declared.code.Block.{Block}
 use Rattle.vcode.specs.declared.code.Code.{Code}
-use Rattle.vcode.specs.Coded.{classes_in}
-use Rattle.vcode.specs.Places.{virtual}
-use Rattle.vcode.specs.Step.{begin, step}
-use Rattle.vcode.specs.InPlace.{GoesSo, HasRoom}
+use Rattle.vcode.specs.Prelude.{classes_in, virtual, begin, step, GoesSo, HasRoom}
 
 -- ---- candidates
 

@@ -2,7 +2,7 @@
 use Rattle.std.specs.Prelude.{◌≡◌, ℕ, ◌+◌, ◌<◌, not, ◌∷◌, map, length, take, drop, slice_get, Some, IsTrue, option_map}
 use Rattle.std.specs.List.{list_all, list_any, sum_by}
 use Rattle.il_ast.specs.declared.limits.TheConstants.{FUNCTION_WEIGHT}
-use Rattle.il_ast.specs.Meaning.{same_classes, result_fits}
+use Rattle.il_ast.specs.Prelude.{same_classes, result_fits}
 use Rattle.vcode.specs.declared.limits.TheConstants.{PLACES}
 use Rattle.vcode.specs.declared.place.Destination.{Destination}
 use Rattle.vcode.specs.declared.place.Argument.{Argument}
@@ -10,11 +10,7 @@ use Rattle.vcode.specs.declared.place.Operand.TheVariants.{Name}
 use Rattle.vcode.specs.declared.line.Line.TheVariants.{Call}
 use Rattle.vcode.specs.declared.code.Block.{Block}
 use Rattle.vcode.specs.declared.function.VFunc.{VFunc}
-use Rattle.vcode.specs.Becomes.{with_these}
-use Rattle.vcode.specs.Coded.{classes_in}
-use Rattle.vcode.specs.Cost.{is_paid}
-use Rattle.vcode.specs.Named.{keeps_places, is_below}
-use Rattle.vcode.specs.Regular.{IsRegular, is_alloc, code_weight}
+use Rattle.vcode.specs.Prelude.{with_these, classes_in, is_paid, keeps_places, is_below, IsRegular, is_alloc, code_weight}
 use Rattle.inlining.specs.declared.limits.TheConstants.{BLOCKS}
 use Rattle.inlining.specs.declared.growth.Room.{Room}
 use Rattle.inlining.specs.declared.growth.Growth.{Growth}

@@ -5,7 +5,7 @@ use Rattle.std.specs.Prelude.{◌≡◌, ℕ, ◌+◌, IsTrue, List, [], ◌∷�
 use Rattle.std.specs.List.{list_any}
 use Rattle.il_ast.specs.declared.operation.Class.{Class}
 use Rattle.il_ast.specs.declared.operation.Class.TheVariants.{W, L}
-use Rattle.il_ast.specs.Meaning.{same_classes, result_fits}
+use Rattle.il_ast.specs.Prelude.{same_classes, result_fits}
 use Rattle.rv_isa.specs.declared.instruction.RegWOp.TheVariants.{Addw}
 use Rattle.vcode.specs.declared.place.Operand.{Operand}
 use Rattle.vcode.specs.declared.place.Operand.TheVariants.{Number, Name}
@@ -20,8 +20,7 @@ use Rattle.vcode.specs.declared.line.Jump.{Jump}
 use Rattle.vcode.specs.declared.line.Jump.TheVariants.{Goto, Return}
 use Rattle.vcode.specs.declared.code.Block.{Block}
 use Rattle.vcode.specs.declared.code.Code.{Code}
-use Rattle.vcode.specs.Coded.{classes_in}
-use Rattle.vcode.specs.Named.{keeps_places, is_below}
+use Rattle.vcode.specs.Prelude.{classes_in, keeps_places, is_below}
 use Rattle.inlining.specs.Moved.{moved, moved_line, moved_jump}
 use Rattle.inlining.specs.Candidates.{begins_turn, is_candidate}
 

@@ -3,12 +3,9 @@ use Rattle.std.specs.Prelude.{◌≡◌, ℕ, List, slice_get, Some}
 use Rattle.il_ast.specs.declared.value.Callee.{Callee}
 use Rattle.il_ast.specs.declared.value.Value.{Value}
 use Rattle.il_ast.specs.declared.value.Value.TheVariants.{Function}
-use Rattle.il_ast.specs.Run.{Callees}
+use Rattle.il_ast.specs.Prelude.{Callees}
 use Rattle.vcode.specs.declared.code.Code.{Code}
-use Rattle.vcode.specs.Coded.{classes_in}
-use Rattle.vcode.specs.Places.{virtual}
-use Rattle.vcode.specs.Step.{begin, step}
-use Rattle.vcode.specs.InPlace.{KeepsIn}
+use Rattle.vcode.specs.Prelude.{classes_in, virtual, begin, step, KeepsIn}
 use Rattle.inlining.specs.InPlace.{Site, IsSite, in_place}
 use Rattle.inlining.specs.Candidates.{IsCandidateOf}
 

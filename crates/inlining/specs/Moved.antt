@@ -7,7 +7,7 @@ use Rattle.vcode.specs.declared.line.Line.{Line}
 use Rattle.vcode.specs.declared.line.Line.TheVariants.{Tick, Set, Operate, Load, Store, Alloc, Blit, Call}
 use Rattle.vcode.specs.declared.line.Jump.{Jump}
 use Rattle.vcode.specs.declared.line.Jump.TheVariants.{Goto, Branch, Return, Halt}
-use Rattle.vcode.specs.Replaced.{with_base, with_argument, with_comparison}
+use Rattle.vcode.specs.Prelude.{with_base, with_argument, with_comparison}
 
 -- the same register, so many further
 abbrev pub moved : (base : ℕ) → Operand ℕ → Operand ℕ

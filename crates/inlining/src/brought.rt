@@ -3,7 +3,7 @@ ghost use Rattle.std.specs.Prelude.{◌≡◌, ℕ, ◌++◌, ◌<◌, IsTrue, O
 ghost use Rattle.std.specs.List.{list_all};
 ghost use Rattle.vcode.specs.declared.limits.TheConstants.{PLACES};
 ghost use Rattle.vcode.specs.declared.place.Destination.{Destination as DestinationOf};
-ghost use Rattle.vcode.specs.Named.{operand_keeps, jump_keeps, is_below};
+ghost use Rattle.vcode.specs.Prelude.{operand_keeps, jump_keeps, is_below};
 ghost use Rattle.inlining.specs.InPlace.{brought, arguments_brought, result_brought};
 
 use crate::moved::moved;

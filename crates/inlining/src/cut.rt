@@ -1,7 +1,7 @@
 //! Blocks that are cut at a call.
 ghost use Rattle.std.specs.Prelude.{◌≡◌, ℕ, ◌+◌, ◌<◌, ◌∷◌, [], false, not, map, length, take, drop, slice_get, Some, IsTrue, IfOk, IfSome};
 ghost use Rattle.std.specs.List.{list_all, list_any};
-ghost use Rattle.vcode.specs.Regular.{is_alloc};
+ghost use Rattle.vcode.specs.Prelude.{is_alloc};
 ghost use Rattle.vcode.specs.declared.limits.TheConstants.{PLACES};
 ghost use Rattle.inlining.specs.declared.limits.TheConstants.{BLOCKS};
 ghost use Rattle.inlining.specs.Candidates.{begins_turn};

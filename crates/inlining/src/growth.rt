@@ -1,7 +1,7 @@
 //! A function's blocks while calls in it are done in place, and how far it may still grow.
 ghost use Rattle.std.specs.Prelude.{◌≡◌, ℕ, ◌+◌, ◌<◌, ◌++◌, length, slice_set, IfOk, IfSome, sum_by};
 ghost use Rattle.vcode.specs.declared.code.Block.{Block as BlockOf};
-ghost use Rattle.vcode.specs.Regular.{weight_of};
+ghost use Rattle.vcode.specs.Prelude.{weight_of};
 ghost use Rattle.inlining.specs.Growth.{Takes, line_count};
 
 use crate::limits::BLOCKS;

@@ -3,9 +3,7 @@ ghost use Rattle.std.specs.Prelude.{◌≡◌, ℕ, ◌+◌, ◌++◌, ◌<◌, 
 ghost use Rattle.std.specs.List.{list_all};
 ghost use Rattle.vcode.specs.declared.limits.TheConstants.{PLACES};
 ghost use Rattle.vcode.specs.declared.place.Argument.{Argument as ArgumentOf};
-ghost use Rattle.vcode.specs.Named.{operand_keeps, wanted_keeps, line_keeps, jump_keeps, is_below};
-ghost use Rattle.vcode.specs.Regular.{is_target, leads_inside};
-ghost use Rattle.vcode.specs.Replaced.{with_base, with_argument, with_comparison};
+ghost use Rattle.vcode.specs.Prelude.{operand_keeps, wanted_keeps, line_keeps, jump_keeps, is_below, is_target, leads_inside, with_base, with_argument, with_comparison};
 ghost use Rattle.inlining.specs.declared.limits.TheConstants.{BLOCKS};
 ghost use Rattle.inlining.specs.Moved.{moved, moved_destination, moved_line, moved_jump};
 

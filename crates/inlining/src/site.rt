@@ -1,12 +1,10 @@
 //! Calls that can be done in place.
 ghost use Rattle.std.specs.Prelude.{◌≡◌, ℕ, ◌+◌, ◌<◌, true, false, map, length, take, drop, IsTrue, IfOk, IfSome, option_map};
 ghost use Rattle.std.specs.List.{list_all, list_any};
-ghost use Rattle.il_ast.specs.Meaning.{same_classes, result_fits};
+ghost use Rattle.il_ast.specs.Prelude.{same_classes, result_fits};
 ghost use Rattle.vcode.specs.declared.place.Argument.{Argument as ArgumentOf};
 ghost use Rattle.vcode.specs.declared.place.Destination.{Destination as DestinationOf};
-ghost use Rattle.vcode.specs.Coded.{classes_in};
-ghost use Rattle.vcode.specs.Cost.{is_paid};
-ghost use Rattle.vcode.specs.Regular.{is_alloc};
+ghost use Rattle.vcode.specs.Prelude.{classes_in, is_paid, is_alloc};
 ghost use Rattle.inlining.specs.Placed.{site_of};
 ghost use Rattle.inlining.specs.Growth.{Answers};
 

@@ -5,8 +5,8 @@ use Rattle.std.proofs.lemmas.Bool.{and_parts}
 use Rattle.std.proofs.lemmas.Bool.Decides.{nat_tests}
 use Rattle.il_ast.specs.declared.function.Func.{Func}
 use Rattle.il_ast.specs.declared.program.InText.{InText}
-use Rattle.rv_isa.specs.Words.{Words}
-use Rattle.obj_link.specs.Placed.{AreCodes}
+use Rattle.rv_isa.specs.Prelude.{Words}
+use Rattle.obj_link.specs.Prelude.{AreCodes}
 
 pub small_codes : (codes : List Words) (fs : List (InText Func)) → length codes ≡ length fs
     → list_all (λ (c : Words). nat_le (length c.words) 256) codes ≡ true → AreCodes codes fs

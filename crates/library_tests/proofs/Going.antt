@@ -2,7 +2,7 @@
 use Rattle.std.proofs.Common.{◌≡◌, ℕ, zero, suc, ◌+◌, ◌<◌, ◌≤◌, Bool, true, false, [], ◌∷◌, ◌++◌, refl, arith, lit≤, replicate, slice_set, if◌then◌else◌}
 use Rattle.std.specs.List.{list_all}
 use Rattle.std.proofs.lemmas.Bool.{and_from}
-use Rattle.rv_isa.specs.Labels.{IsLabelled, longest, longest_size, is_label, times_labelled, has_label_below}
+use Rattle.rv_isa.specs.Prelude.{IsLabelled, longest, longest_size, is_label, times_labelled, has_label_below}
 use Rattle.rv_isa.specs.declared.labelled.Item.{Item}
 use Rattle.rv_isa.specs.declared.labelled.Item.TheVariants.{Plain, Label, Branch, Goto, Call, Relocated}
 use Rattle.rv_isa.specs.declared.instruction.Instr.{Instr}

@@ -1,7 +1,7 @@
 //! Words at the ends of each form's range, as the GNU assembler gives them, and whole functions.
 
 ghost use Rattle.std.specs.Prelude.{◌≡◌, ◌<◌, ◌≤◌, true, false};
-ghost use Rattle.rv_isa.specs.Labels.{longest, has_label_below};
+ghost use Rattle.rv_isa.specs.Prelude.{longest, has_label_below};
 
 use crate::same::is_number;
 use asm_layout::call::CallForm;

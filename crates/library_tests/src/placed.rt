@@ -1,7 +1,7 @@
 //! Images of programs: words as the GNU assembler gives them, and bytes of data.
 ghost use Rattle.std.specs.Prelude.{◌≡◌, ◌<◌, length, nat_le};
 ghost use Rattle.std.specs.List.{list_all};
-ghost use Rattle.obj_link.specs.ProgramOf.{IsLinked};
+ghost use Rattle.obj_link.specs.Prelude.{IsLinked};
 
 use crate::same::is_number;
 use crate::texts::{MAIN, checked};

@@ -3,12 +3,9 @@ use Rattle.std.proofs.Common.{◌≡◌, ℕ, ◌+◌, ◌*◌, ◌<◌, ◌≤�
 use Rattle.std.proofs.lemmas.List.{drop_more}
 use Rattle.il_ast.specs.declared.datum.DataDef.{DataDef}
 use Rattle.il_ast.specs.declared.program.InText.{InText}
-use Rattle.il_ast.specs.Cost.{round_16}
-use Rattle.rv_isa.specs.Words.{Words}
-use Rattle.obj_link.specs.Shown.{shown}
-use Rattle.obj_link.specs.Limits.{object_size}
-use Rattle.obj_link.specs.Placed.{function_addresses, functions_end, objects_end}
-use Rattle.obj_link.specs.ImageOf.{object_addresses}
+use Rattle.il_ast.specs.Prelude.{round_16}
+use Rattle.rv_isa.specs.Prelude.{Words}
+use Rattle.obj_link.specs.Prelude.{shown, object_size, function_addresses, functions_end, objects_end, object_addresses}
 
 pub functions_rise : (at : ℕ) (codes : List Words) → at ≤ functions_end at codes
 functions_rise at [] = omega arith

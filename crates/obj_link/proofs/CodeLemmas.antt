@@ -4,11 +4,9 @@ use Rattle.std.proofs.lemmas.List.{drop_more}
 use Rattle.il_ast.specs.declared.function.Func.{Func}
 use Rattle.il_ast.specs.declared.program.InText.{InText}
 use Rattle.il_ast.specs.declared.program.Target.{Target}
-use Rattle.rv_isa.specs.Words.{Words}
-use Rattle.rv_isa.specs.Laid.{filled, all_reach}
+use Rattle.rv_isa.specs.Prelude.{Words, filled, all_reach}
 use Rattle.obj_link.specs.declared.placing.addresses.Addresses.{Addresses}
-use Rattle.obj_link.specs.Shown.{shown}
-use Rattle.obj_link.specs.Placed.{functions_end, functions_words, functions_reach, name_address}
+use Rattle.obj_link.specs.Prelude.{shown, functions_end, functions_words, functions_reach, name_address}
 
 pub functions_further : (a : Addresses) (targets : List (List Target)) (at : ℕ) (codes : List Words) (fs : List (InText (Bor Func))) (i : ℕ) (c : Words)
     (f : InText (Bor Func)) → i < length codes → i < length fs

@@ -6,9 +6,8 @@ use Rattle.il_ast.specs.declared.datum.DataDef.{DataDef}
 use Rattle.il_ast.specs.declared.program.InText.{InText}
 use Rattle.il_ast.specs.declared.program.Target.{Target}
 use Rattle.obj_link.specs.declared.placing.addresses.Addresses.{Addresses}
-use Rattle.obj_link.specs.Shown.{shown}
-use Rattle.obj_link.specs.DataBytes.{slot_bytes}
-use Rattle.il_ast.specs.Values.{bytes_of}
+use Rattle.obj_link.specs.Prelude.{shown, slot_bytes}
+use Rattle.il_ast.specs.Prelude.{bytes_of}
 
 -- byte i of a number that was divided by 256
 byte_two : (n : ℕ) → n / 256 / 256 % 256 ≡ n / 256 ^ 2 % 256

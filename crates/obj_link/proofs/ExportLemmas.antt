@@ -10,8 +10,7 @@ use Rattle.il_ast.specs.declared.program.Target.TheVariants.{Code}
 use Rattle.il_ast.specs.declared.value.Callee.TheVariants.{SystemWrite, SystemExit}
 use Rattle.il_types.specs.declared.checked.Checked.{Checked}
 use Rattle.obj_link.specs.declared.linking.names.GlobalName.{GlobalName}
-use Rattle.obj_link.specs.Names.{symbol_name, is_export, exported, predefined, visible, times_exported}
-use Rattle.obj_link.specs.Tables.{is_free}
+use Rattle.obj_link.specs.Prelude.{symbol_name, is_export, exported, predefined, visible, times_exported, is_free}
 
 -- 1 for a name that the table has
 abbrev pub once : Option Target → ℕ

@@ -7,14 +7,10 @@ use Rattle.il_ast.specs.declared.datum.DataDef.{DataDef}
 use Rattle.il_ast.specs.declared.function.Func.{Func}
 use Rattle.il_ast.specs.declared.program.InText.{InText}
 use Rattle.il_ast.specs.declared.program.Program.{Program}
-use Rattle.il_ast.specs.Cost.{weight, round_16}
+use Rattle.il_ast.specs.Prelude.{weight, round_16}
 use Rattle.il_types.specs.declared.checked.Checked.{Checked}
-use Rattle.rv_isa.specs.Words.{Words}
-use Rattle.obj_link.specs.Limits.{object_size, total_weight, total_size, within_limits}
-use Rattle.obj_link.specs.Names.{functions_of}
-use Rattle.obj_link.specs.Image.{functions_start}
-use Rattle.obj_link.specs.Program.{IsProgram}
-use Rattle.obj_link.specs.Placed.{functions_end, objects_end, objects_start, AreCodes, FitsBelow}
+use Rattle.rv_isa.specs.Prelude.{Words}
+use Rattle.obj_link.specs.Prelude.{object_size, total_weight, total_size, within_limits, functions_of, functions_start, IsProgram, functions_end, objects_end, objects_start, AreCodes, FitsBelow}
 
 code_bound : (at : ℕ) (codes : List Words) (fs : List (InText Func)) → AreCodes codes fs
     → functions_end at codes ≤ at + 4 * (32 * total_weight fs + 256 * length fs)

@@ -18,14 +18,8 @@ use Rattle.il_ast.specs.declared.program.Target.TheVariants.{Code, Object}
 use Rattle.il_ast.specs.declared.value.Cell.TheVariants.{Plain, Blank}
 use Rattle.il_ast.specs.declared.value.Value.{Value}
 use Rattle.il_ast.specs.declared.value.Value.TheVariants.{Function}
-use Rattle.il_ast.specs.Values.{bytes_of, byte_count}
-use Rattle.il_ast.specs.Cost.{round_16}
-use Rattle.il_ast.specs.Memory.{parts}
-use Rattle.il_ast.specs.Start.{target_value, values_of, address_cells, item_cells, field_cells}
-use Rattle.rv_isa.specs.Words.{Words}
-use Rattle.rv_isa.specs.Laid.{filled}
-use Rattle.rv_isa.specs.Encoding.{word}
-use Rattle.rv_isa.specs.Relocations.{upper_part, lower_part, named, filled_in}
+use Rattle.il_ast.specs.Prelude.{bytes_of, byte_count, round_16, parts, target_value, values_of, address_cells, item_cells, field_cells}
+use Rattle.rv_isa.specs.Prelude.{Words, filled, word, upper_part, lower_part, named, filled_in}
 use Rattle.rv_isa.specs.declared.instruction.Instr.{Instr}
 use Rattle.rv_isa.specs.declared.instruction.Instr.TheVariants.{Lui, Addiw}
 use Rattle.rv_isa.specs.declared.code.Hole.{Hole}
@@ -34,12 +28,7 @@ use Rattle.il_ast.specs.declared.value.Callee.TheVariants.{Defined}
 use Rattle.asm_layout.proofs.Filling.{filled_length}
 use Rattle.asm_layout.proofs.WordRanges.{small_at, word_small}
 use Rattle.obj_link.specs.declared.placing.addresses.Addresses.{Addresses}
-use Rattle.obj_link.specs.Image.{Contents, IsImage, code_start, functions_start}
-use Rattle.obj_link.specs.Limits.{item_size, field_size, object_size}
-use Rattle.obj_link.specs.Natives.{start_words, write_words, exit_words}
-use Rattle.obj_link.specs.Placed.{functions_end, objects_end, objects_start, meaning, name_address, functions_words, code_of, addresses_of, contents_of, FitsBelow, EveryCode}
-use Rattle.obj_link.specs.ImageOf.{callee_address, cell_byte, in_slots, object_bytes}
-use Rattle.obj_link.specs.DataBytes.{address_bytes, item_bytes, field_bytes, slot_bytes}
+use Rattle.obj_link.specs.Prelude.{Contents, IsImage, code_start, functions_start, item_size, field_size, object_size, start_words, write_words, exit_words, functions_end, objects_end, objects_start, meaning, name_address, functions_words, code_of, addresses_of, contents_of, FitsBelow, EveryCode, callee_address, cell_byte, in_slots, object_bytes, address_bytes, item_bytes, field_bytes, slot_bytes}
 use Rattle.obj_link.proofs.AddressLemmas.{functions_rise, objects_rise}
 use Rattle.il_ast.proofs.Measured.{length_bytes}
 

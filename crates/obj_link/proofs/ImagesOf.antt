@@ -3,10 +3,8 @@ use Rattle.std.proofs.Common.{◌≡◌, ℕ, ◌+◌, ◌-◌, ◌*◌, List, [
 use Rattle.il_ast.specs.declared.function.Func.{Func}
 use Rattle.il_ast.specs.declared.program.InText.{InText}
 use Rattle.il_ast.specs.declared.program.Program.{Program}
-use Rattle.rv_isa.specs.Words.{Words}
-use Rattle.obj_link.specs.Image.{code_start, code_size, data_start, round_to_page, functions_start}
-use Rattle.obj_link.specs.ImageOf.{StandFrom, IsImageOf, object_addresses}
-use Rattle.obj_link.specs.Placed.{function_addresses, functions_end, objects_start, addresses_of, contents_of, EveryCode, AreCodes}
+use Rattle.rv_isa.specs.Prelude.{Words}
+use Rattle.obj_link.specs.Prelude.{code_start, code_size, data_start, round_to_page, functions_start, StandFrom, IsImageOf, object_addresses, function_addresses, functions_end, objects_start, addresses_of, contents_of, EveryCode, AreCodes}
 use Rattle.obj_link.proofs.ImageLemmas.{functions_count}
 
 as_many : (codes : List Words) (fs : List (InText Func)) → AreCodes codes fs → length codes ≡ length fs

@@ -14,9 +14,7 @@ use Rattle.il_ast.specs.declared.value.Callee.{Callee}
 use Rattle.il_ast.specs.declared.value.Callee.TheVariants.{Defined, SystemWrite, SystemExit}
 use Rattle.il_types.specs.declared.checked.Checked.{Checked}
 use Rattle.obj_link.specs.declared.linking.names.GlobalName.{GlobalName}
-use Rattle.obj_link.specs.Names.{functions_of, objects_of, names_of, names_of_functions, names_of_objects, symbol_name, is_export, predefined, visible, times_exported}
-use Rattle.obj_link.specs.Main.{is_main, main_at, main_in, main_of, IsMain, ExportsMain}
-use Rattle.obj_link.specs.Program.{IsProgram}
+use Rattle.obj_link.specs.Prelude.{functions_of, objects_of, names_of, names_of_functions, names_of_objects, symbol_name, is_export, predefined, visible, times_exported, is_main, main_at, main_in, main_of, IsMain, ExportsMain, IsProgram}
 use Rattle.std.proofs.lemmas.Option.{same_Some}
 
 -- the name of function n

@@ -8,8 +8,7 @@ use Rattle.il_ast.specs.declared.program.InText.{InText}
 use Rattle.il_ast.specs.declared.program.Target.TheVariants.{Code, Object}
 use Rattle.il_ast.specs.declared.value.Callee.TheVariants.{Defined}
 use Rattle.il_types.specs.declared.checked.Checked.{Checked}
-use Rattle.obj_link.specs.Shown.{shown}
-use Rattle.obj_link.specs.Names.{function_in, object_in, functions_from, objects_from, names_of_functions, names_of_objects}
+use Rattle.obj_link.specs.Prelude.{shown, function_in, object_in, functions_from, objects_from, names_of_functions, names_of_objects}
 
 pub functions_further : (xs : List Checked) (i : ℕ) (d : Checked) → i < length xs → functions_from i (drop i xs) ≡ flat_map (function_in i) (get_or xs i d).text.definitions ++ functions_from (i + 1) (drop (i + 1) xs)
 functions_further xs i d lt = ap (functions_from i) (drop_more xs i d lt)

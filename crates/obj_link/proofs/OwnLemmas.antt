@@ -6,7 +6,7 @@ use Rattle.std.proofs.lemmas.List.Folds.{find-append}
 use Rattle.std.proofs.lemmas.Bool.Decides.{nat_tests}
 use Rattle.il_ast.specs.declared.program.Target.{Target}
 use Rattle.obj_link.specs.declared.linking.names.GlobalName.{GlobalName}
-use Rattle.obj_link.specs.Names.{is_own, own}
+use Rattle.obj_link.specs.Prelude.{is_own, own}
 use Rattle.obj_link.proofs.ExportLemmas.{map_or}
 
 own_push : (names : List GlobalName) (g : GlobalName) (t s : ℕ) → own (names ++ g ∷ []) t s ≡ option_or (own names t s) (cond (is_own t s g) (Some g.target) None)

@@ -9,14 +9,7 @@ use Rattle.il_types.specs.declared.checked.Checked.{Checked}
 use Rattle.obj_link.specs.declared.linking.names.GlobalName.{GlobalName}
 use Rattle.obj_link.specs.declared.linking.error.LinkError.{LinkError}
 use Rattle.obj_link.specs.declared.linking.error.LinkError.TheVariants.{UnknownName, ExportedTwice, NoMain, Limit, Memory}
-use Rattle.obj_link.specs.Shown.{shown}
-use Rattle.obj_link.specs.Names.{functions_of, objects_of, names_of, names_of_functions, names_of_objects, visible, meaning_of, symbols_by, targets_by, targets_of, symbol_at, IsUnknown}
-use Rattle.obj_link.specs.Main.{main_in, ExportsMain}
-use Rattle.obj_link.specs.Limits.{within_limits}
-use Rattle.obj_link.specs.Refusals.{Refuses}
-use Rattle.obj_link.specs.Joined.{IsJoined}
-use Rattle.obj_link.specs.Linked.{program_with}
-use Rattle.obj_link.specs.Program.{IsProgram}
+use Rattle.obj_link.specs.Prelude.{shown, functions_of, objects_of, names_of, names_of_functions, names_of_objects, visible, meaning_of, symbols_by, targets_by, targets_of, symbol_at, IsUnknown, main_in, ExportsMain, within_limits, Refuses, IsJoined, program_with, IsProgram}
 use Rattle.obj_link.proofs.MainLemmas.{exported_main, main_is}
 use Rattle.std.proofs.lemmas.Option.{same_Some}
 

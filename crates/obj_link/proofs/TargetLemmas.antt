@@ -5,8 +5,7 @@ use Rattle.il_ast.specs.declared.program.Target.{Target}
 use Rattle.il_types.specs.declared.checked.Checked.{Checked}
 use Rattle.obj_link.specs.declared.linking.error.LinkError.{LinkError}
 use Rattle.obj_link.specs.declared.linking.error.LinkError.TheVariants.{UnknownName, ExportedTwice, NoMain, Limit, Memory}
-use Rattle.obj_link.specs.Refusals.{RefusesSymbols, RefusesNames}
-use Rattle.obj_link.specs.Names.{symbols_by, targets_by}
+use Rattle.obj_link.specs.Prelude.{RefusesSymbols, RefusesNames, symbols_by, targets_by}
 use Rattle.il_ast.proofs.Listed.{get_there}
 
 -- what is found so far stands before what is still to be found

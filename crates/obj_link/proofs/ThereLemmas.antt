@@ -10,10 +10,7 @@ use Rattle.il_ast.specs.declared.program.Target.TheVariants.{Code, Object}
 use Rattle.il_ast.specs.declared.value.Callee.TheVariants.{Defined, SystemWrite, SystemExit}
 use Rattle.il_types.specs.declared.checked.Checked.{Checked}
 use Rattle.obj_link.specs.declared.linking.names.GlobalName.{GlobalName}
-use Rattle.obj_link.specs.Names.{functions_of, objects_of, names_of, names_of_functions, names_of_objects, is_own, own, is_export, exported, predefined, visible, meaning_of, symbols_by, targets_by}
-use Rattle.obj_link.specs.Main.{is_main, main_at, main_in}
-use Rattle.obj_link.specs.Laws.{IsThere, HasWhatNamesMean}
-use Rattle.obj_link.specs.Program.{IsProgram}
+use Rattle.obj_link.specs.Prelude.{functions_of, objects_of, names_of, names_of_functions, names_of_objects, is_own, own, is_export, exported, predefined, visible, meaning_of, symbols_by, targets_by, is_main, main_at, main_in, IsThere, HasWhatNamesMean, IsProgram}
 
 -- ---- what definitions give their names
 

@@ -2,7 +2,7 @@
 use Rattle.std.specs.Prelude.{ℕ, Bool, true, not, ◌&&◌, ◌==◌, nat_le, List, [], ◌∷◌, length}
 use Rattle.std.specs.List.{list_any}
 pub use Rattle.il_ast.specs.declared.limits.TheConstants.{WORDS, WORD_BYTES}
-use Rattle.rv_isa.specs.Start.{word_bytes}
+use Rattle.rv_isa.specs.Prelude.{word_bytes}
 
 -- no word holds the byte 0, which closes it in memory
 abbrev pub hold_no_zero : List (List ℕ) → Bool

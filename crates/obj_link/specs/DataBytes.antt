@@ -8,7 +8,7 @@ use Rattle.il_ast.specs.declared.datum.Field.TheVariants.{Items, Zeros}
 use Rattle.il_ast.specs.declared.operation.Size.{Size}
 use Rattle.il_ast.specs.declared.program.Target.{Target}
 use Rattle.il_ast.specs.declared.program.Target.TheVariants.{Code, Object}
-use Rattle.il_ast.specs.Values.{bytes_of, byte_count}
+use Rattle.il_ast.specs.Prelude.{bytes_of, byte_count}
 use Rattle.obj_link.specs.declared.placing.addresses.Addresses.{Addresses}
 use Rattle.il_ast.specs.declared.program.InText.{InText}
 use Rattle.il_ast.specs.declared.datum.DataDef.{DataDef}

@@ -12,8 +12,7 @@ use Rattle.il_ast.specs.declared.value.Cell.{Cell}
 use Rattle.il_ast.specs.declared.value.Cell.TheVariants.{Plain, Part, Blank}
 use Rattle.il_ast.specs.declared.value.Value.{Value}
 use Rattle.il_ast.specs.declared.value.Value.TheVariants.{Integer, Pointer, Function}
-use Rattle.il_ast.specs.Cost.{weight, round_16}
-use Rattle.il_ast.specs.Start.{object_cells}
+use Rattle.il_ast.specs.Prelude.{weight, round_16, object_cells}
 use Rattle.obj_link.specs.declared.placing.addresses.Addresses.{Addresses}
 use Rattle.obj_link.specs.Image.{Contents, code_start, code_size, data_start, write_address, exit_address, functions_start}
 use Rattle.obj_link.specs.Limits.{object_size}

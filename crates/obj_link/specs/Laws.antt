@@ -8,7 +8,7 @@ use Rattle.il_ast.specs.declared.program.Target.TheVariants.{Code, Object}
 use Rattle.il_ast.specs.declared.value.Callee.TheVariants.{Defined, SystemWrite, SystemExit}
 use Rattle.il_types.specs.declared.checked.Checked.{Checked}
 use Rattle.obj_link.specs.Main.{is_main, IsMain}
-use Rattle.rv_isa.specs.Words.{Words}
+use Rattle.rv_isa.specs.Prelude.{Words}
 use Rattle.obj_link.specs.Program.{IsProgram}
 use Rattle.obj_link.specs.Placed.{AreCodes, FitsBelow}
 

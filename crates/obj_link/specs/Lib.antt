@@ -15,3 +15,4 @@ pub mod ImageOf
 pub mod Placed
 pub mod DataBytes
 pub mod Arguments
+pub mod Prelude

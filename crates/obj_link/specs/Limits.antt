@@ -9,8 +9,7 @@ use Rattle.il_ast.specs.declared.datum.Field.TheVariants.{Items, Zeros}
 use Rattle.il_ast.specs.declared.datum.DataDef.{DataDef}
 use Rattle.il_ast.specs.declared.function.Func.{Func}
 use Rattle.il_ast.specs.declared.program.InText.{InText}
-use Rattle.il_ast.specs.Values.{byte_count}
-use Rattle.il_ast.specs.Cost.{round_16, weight}
+use Rattle.il_ast.specs.Prelude.{byte_count, round_16, weight}
 use Rattle.il_types.specs.declared.checked.Checked.{Checked}
 
 -- how many bytes a datum has

@@ -3,7 +3,7 @@
 use Rattle.std.specs.Prelude.{ℕ, List, [], ◌∷◌, pos}
 use Rattle.bits.specs.Words.{upper_field, lower_field}
 use Rattle.rv_isa.specs.declared.abi.TheConstants.{ZERO, RETURN_ADDRESS, STACK_POINTER, FIRST_TEMPORARY, FIRST_ARGUMENT, SECOND_ARGUMENT, SYSTEM_CALL, WRITE, EXIT}
-use Rattle.rv_isa.specs.Formats.{i_type, u_type}
+use Rattle.rv_isa.specs.Prelude.{i_type, u_type}
 
 abbrev pub load_double : (rd rs1 offset : ℕ) → ℕ
 load_double rd rs1 offset = i_type 0x03 3 rd rs1 (pos offset)

@@ -7,9 +7,8 @@ use Rattle.il_ast.specs.declared.program.Program.{Program}
 use Rattle.il_ast.specs.declared.program.Target.{Target}
 use Rattle.il_ast.specs.declared.program.Target.TheVariants.{Code, Object}
 use Rattle.il_ast.specs.declared.value.Callee.TheVariants.{Defined}
-use Rattle.il_ast.specs.Cost.{weight, round_16}
-use Rattle.rv_isa.specs.Words.{Words, IsCode}
-use Rattle.rv_isa.specs.Laid.{filled, all_reach}
+use Rattle.il_ast.specs.Prelude.{weight, round_16}
+use Rattle.rv_isa.specs.Prelude.{Words, IsCode, filled, all_reach}
 use Rattle.obj_link.specs.declared.placing.addresses.Addresses.{Addresses}
 use Rattle.obj_link.specs.Image.{Contents, code_start, image_end, round_to_page, functions_start}
 use Rattle.obj_link.specs.ImageOf.{object_addresses, callee_address, object_bytes}

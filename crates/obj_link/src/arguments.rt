@@ -1,7 +1,7 @@
 //! The argument words of a program.
 ghost use Rattle.std.specs.Prelude.{◌≡◌, length, map, nat_le};
-ghost use Rattle.rv_isa.specs.Start.{word_bytes};
-ghost use Rattle.obj_link.specs.Arguments.{are_arguments, hold_no_zero};
+ghost use Rattle.rv_isa.specs.Prelude.{word_bytes};
+ghost use Rattle.obj_link.specs.Prelude.{are_arguments, hold_no_zero};
 
 use il_ast::limits::{WORD_BYTES, WORDS};
 

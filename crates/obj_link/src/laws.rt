@@ -1,5 +1,5 @@
 //! The laws of linking, each as the contract of a function that does nothing.
-ghost use Rattle.obj_link.specs.Laws.{AtMostOneProgram, ProgramsExportMain, ProgramsFit, ProgramsHaveWhatNamesMean};
+ghost use Rattle.obj_link.specs.Prelude.{AtMostOneProgram, ProgramsExportMain, ProgramsFit, ProgramsHaveWhatNamesMean};
 
 /// Texts are at most one program.
 pub fn at_most_one_program()

@@ -5,15 +5,14 @@ use Rattle.std.proofs.lemmas.Bool.Decides.{nat_tests}
 use Rattle.il_ast.specs.declared.operation.Class.TheVariants.{L}
 use Rattle.il_ast.specs.declared.operation.Condition.{Condition}
 use Rattle.il_ast.specs.declared.operation.Condition.TheVariants.{Equal, NotEqual, SignedLessEqual, SignedLess, SignedGreaterEqual, SignedGreater, UnsignedLessEqual, UnsignedLess, UnsignedGreaterEqual, UnsignedGreater}
-use Rattle.il_ast.specs.Operations.{holds, truth}
-use Rattle.rv_isa.specs.State.{State, register}
-use Rattle.rv_isa.specs.Arithmetic.{imm_value, truth as bit_of}
+use Rattle.il_ast.specs.Prelude.{holds, truth}
+use Rattle.rv_isa.specs.Prelude.{State, register, imm_value, truth as bit_of}
 use Rattle.rv_isa.specs.declared.instruction.Instr.TheVariants.{Reg, Imm}
 use Rattle.rv_isa.specs.declared.instruction.ImmOp.TheVariants.{Xori, Sltiu}
 use Rattle.rv_isa.specs.declared.instruction.RegOp.TheVariants.{Sub, Slt, Sltu}
 use Rattle.rv_isa.specs.declared.labelled.Item.{Item}
 use Rattle.rv_isa.specs.declared.labelled.Item.TheVariants.{Plain}
-use Rattle.vcode.specs.Addresses.{low}
+use Rattle.vcode.specs.Prelude.{low}
 use Rattle.operation_code.specs.Fields.{reg, negate, is_zero, is_not_zero}
 use Rattle.operation_code.specs.Operations.{compare_items}
 use Rattle.operation_code.proofs.Leading.{Site, Leads, leads_fixed, leads_again, leads_set, Sets, IsReg, register_reg, in_register, in_register_small}

@@ -4,9 +4,8 @@ use Rattle.std.specs.Int.{cast_unsigned, w64}
 use Rattle.std.proofs.lemmas.Int.{ints}
 use Rattle.std.proofs.lemmas.Bool.Decides.{nat_tests}
 use Rattle.bits.specs.Words.{sign_extended, upper_field, lower_field, Fits12}
-use Rattle.rv_isa.specs.Formats.{signed}
-use Rattle.rv_isa.specs.Arithmetic.{moved}
-use Rattle.vcode.specs.Cost.{is_immediate}
+use Rattle.rv_isa.specs.Prelude.{signed, moved}
+use Rattle.vcode.specs.Prelude.{is_immediate}
 
 -- ---- immediates
 

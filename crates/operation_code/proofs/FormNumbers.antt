@@ -5,8 +5,8 @@ use Rattle.std.proofs.lemmas.Int.{ints}
 use Rattle.std.proofs.lemmas.Bool.{and_parts}
 use Rattle.std.proofs.lemmas.Bool.Decides.{nat_tests}
 use Rattle.bits.specs.Words.{sign_extended}
-use Rattle.rv_isa.specs.Formats.{signed}
-use Rattle.vcode.specs.Cost.{is_immediate}
+use Rattle.rv_isa.specs.Prelude.{signed}
+use Rattle.vcode.specs.Prelude.{is_immediate}
 use Rattle.operation_code.specs.Constants.{word}
 use Rattle.std.proofs.lemmas.Nat.{one_shl}
 use Rattle.operation_code.specs.Immediates.{opposite, next, is_power}

@@ -7,9 +7,8 @@ use Rattle.bits.specs.Words.{sign_extended}
 use Rattle.il_ast.specs.declared.operation.Class.TheVariants.{W, L}
 use Rattle.il_ast.specs.declared.operation.Condition.{Condition}
 use Rattle.il_ast.specs.declared.operation.Condition.TheVariants.{Equal, NotEqual, SignedLessEqual, SignedLess, SignedGreaterEqual, SignedGreater, UnsignedLessEqual, UnsignedLess, UnsignedGreaterEqual, UnsignedGreater}
-use Rattle.il_ast.specs.Operations.{holds, truth}
-use Rattle.rv_isa.specs.State.{State}
-use Rattle.rv_isa.specs.Arithmetic.{reg_value, regw_value, imm_value, imm_op_of, addiw_value, shift_value, shiftw_value, truth as bit_of}
+use Rattle.il_ast.specs.Prelude.{holds, truth}
+use Rattle.rv_isa.specs.Prelude.{State, reg_value, regw_value, imm_value, imm_op_of, addiw_value, shift_value, shiftw_value, truth as bit_of}
 use Rattle.rv_isa.specs.declared.instruction.Instr.TheVariants.{Imm, Reg}
 use Rattle.rv_isa.specs.declared.instruction.ImmOp.{ImmOp}
 use Rattle.rv_isa.specs.declared.instruction.ImmOp.TheVariants.{Addi, Slti, Sltiu, Xori, Ori, Andi}
@@ -23,9 +22,8 @@ use Rattle.rv_isa.specs.declared.labelled.Item.TheVariants.{Plain}
 use Rattle.vcode.specs.declared.place.Operand.TheVariants.{Number}
 use Rattle.vcode.specs.declared.line.Operation.{Operation}
 use Rattle.vcode.specs.declared.line.Operation.TheVariants.{Reg as RegOperation, RegW as RegWOperation, Compare}
-use Rattle.vcode.specs.Cost.{is_immediate}
+use Rattle.vcode.specs.Prelude.{is_immediate, low}
 use Rattle.flat_code.specs.Step.{computed}
-use Rattle.vcode.specs.Addresses.{low}
 use Rattle.operation_code.specs.Fields.{reg, add_low, is_zero, is_not_zero}
 use Rattle.operation_code.specs.Constants.{word}
 use Rattle.operation_code.specs.Immediates.{opposite, next, form_if, immediate_form, sum_form, reg_form, regw_form, compares_with, comparison_form, number_form, turned, left_form, compare_number, form_items, is_power}

@@ -3,9 +3,7 @@ use Rattle.std.proofs.Common.{◌≡◌, ℕ, zero, suc, ◌+◌, ◌-◌, ◌*�
 use Rattle.std.proofs.lemmas.Bool.{and_parts, eqb-true}
 use Rattle.std.proofs.lemmas.Bool.Decides.{nat_tests}
 use Rattle.bits.specs.Words.{sign_extended}
-use Rattle.rv_isa.specs.State.{State, register}
-use Rattle.rv_isa.specs.Arithmetic.{moved, upper_value, reg_value, regw_value, imm_value, addiw_value, shift_value, shiftw_value}
-use Rattle.rv_isa.specs.Labelled.{Stand, Stands}
+use Rattle.rv_isa.specs.Prelude.{State, register, moved, upper_value, reg_value, regw_value, imm_value, addiw_value, shift_value, shiftw_value, Stand, Stands, upper_part, lower_part as rest_part, relocated, signed}
 use Rattle.rv_isa.specs.declared.ranges.Immediate.{Immediate}
 use Rattle.rv_isa.specs.declared.ranges.UpperField.{UpperField}
 use Rattle.rv_isa.specs.declared.instruction.Instr.TheVariants.{Lui, Imm, Addiw, Shift, ShiftW, Reg, RegW}
@@ -21,13 +19,10 @@ use Rattle.rv_isa.specs.declared.labelled.Item.{Item}
 use Rattle.rv_isa.specs.declared.labelled.Item.TheVariants.{Plain, Relocated}
 use Rattle.rv_isa.specs.declared.relocation.Partial.TheVariants.{Upper, Add as AddBy}
 use Rattle.rv_isa.specs.declared.relocation.Relocation.{Relocation}
-use Rattle.rv_isa.specs.Relocations.{upper_part, lower_part as rest_part, relocated}
-use Rattle.vcode.specs.Cost.{is_immediate}
-use Rattle.vcode.specs.Addresses.{low}
+use Rattle.vcode.specs.Prelude.{is_immediate, low}
 use Rattle.operation_code.specs.Fields.{reg, field, high, amount, word_amount, add_low, extend, sum_to, shift_11}
 use Rattle.operation_code.specs.Constants.{parted_constant, without_low, zeros_of, has_zeros, before_zeros, left_of, is_shifted, is_near_number, near_constant, is_made, added, shifted_by, made_constant, long_constant, word, is_word, lower_part, word_constant, constant}
 use Rattle.operation_code.specs.Fields.{with_name, name_into}
-use Rattle.rv_isa.specs.Formats.{signed}
 use Rattle.operation_code.proofs.ConstantNumbers.{low_moves, immediate_is, near_moves, top_bits, part_1, part_2, part_3, part_4, word_made, upper_made, parts_made}
 use Rattle.operation_code.proofs.Leading.{Site, Leads, leads_nowhere, leads_so, leads_set, leads_again, Sets, IsReg, register_reg, in_register}
 

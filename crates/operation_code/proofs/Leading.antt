@@ -1,10 +1,6 @@
 -- What labelled code does from a state, wherever it stands: it leads the machine to what follows it, within its size, where something holds.
 use Rattle.std.proofs.Common.{◌≡◌, ◌≢◌, ℕ, ◌+◌, ◌%◌, ◌^◌, ◌<◌, ◌≤◌, Bool, true, false, List, [], ◌∷◌, ◌++◌, refl, sym, ◌∙◌, ap, subst, arith, lit<, ne_eqb, zero-add, append_assoc, ◌==◌, if◌then◌else◌, Ok}
-use Rattle.rv_isa.specs.State.{State, IsState, register, updated, written, put}
-use Rattle.rv_isa.specs.Step.{step, act}
-use Rattle.rv_isa.specs.Runs.{Comes}
-use Rattle.rv_isa.specs.Labels.{longest_size}
-use Rattle.rv_isa.specs.Labelled.{Ground, Fixed, InstrAt, Stand, Stands}
+use Rattle.rv_isa.specs.Prelude.{State, IsState, register, updated, written, put, step, act, Comes, longest_size, Ground, Fixed, InstrAt, Stand, Stands}
 use Rattle.rv_isa.specs.declared.ranges.Register.{Register}
 use Rattle.rv_isa.specs.declared.instruction.Instr.{Instr}
 use Rattle.rv_isa.specs.declared.labelled.Item.{Item}

@@ -7,8 +7,7 @@ use Rattle.rv_isa.specs.declared.instruction.Instr.TheVariants.{Lui, Addiw, Shif
 use Rattle.rv_isa.specs.declared.instruction.ShiftOp.TheVariants.{Slli, Srli}
 use Rattle.rv_isa.specs.declared.labelled.Item.{Item}
 use Rattle.rv_isa.specs.declared.labelled.Item.TheVariants.{Plain}
-use Rattle.vcode.specs.Addresses.{low}
-use Rattle.vcode.specs.Cost.{is_immediate}
+use Rattle.vcode.specs.Prelude.{low, is_immediate}
 use Rattle.operation_code.specs.Fields.{reg, field, high, amount, add_low, shift_11}
 
 -- ---- numbers of 64 bits, one way: as 20 bits and four times 11, none of which is read with a sign

@@ -19,7 +19,7 @@ use Rattle.rv_isa.specs.declared.instruction.ShiftOp.TheVariants.{Slli}
 use Rattle.rv_isa.specs.declared.instruction.RegOp.TheVariants.{Add, Sltu}
 use Rattle.rv_isa.specs.declared.labelled.Item.{Item}
 use Rattle.rv_isa.specs.declared.labelled.Item.TheVariants.{Plain, Relocated}
-use Rattle.vcode.specs.Addresses.{low}
+use Rattle.vcode.specs.Prelude.{low}
 
 -- ---- fields
 

@@ -21,8 +21,7 @@ use Rattle.vcode.specs.declared.place.Operand.{Operand}
 use Rattle.vcode.specs.declared.place.Operand.TheVariants.{Number}
 use Rattle.vcode.specs.declared.line.Operation.{Operation}
 use Rattle.vcode.specs.declared.line.Operation.TheVariants.{Reg as RegOperation, RegW as RegWOperation, Compare}
-use Rattle.vcode.specs.Cost.{is_immediate}
-use Rattle.vcode.specs.Addresses.{low}
+use Rattle.vcode.specs.Prelude.{is_immediate, low}
 use Rattle.operation_code.specs.Fields.{reg, amount, word_amount, add_low, negate, is_zero, is_not_zero}
 use Rattle.operation_code.specs.Constants.{word}
 use Rattle.operation_code.specs.declared.immediate.Form.{Form}

@@ -7,7 +7,7 @@ use Rattle.il_ast.specs.declared.limits.TheConstants.{FUNCTION_WEIGHT}
 use Rattle.il_ast.specs.declared.block.Phi.{Phi}
 use Rattle.il_ast.specs.declared.block.Block.{Block}
 use Rattle.il_ast.specs.declared.function.Func.{Func}
-use Rattle.il_ast.specs.Cost.{block_weight, weight, phi_count}
+use Rattle.il_ast.specs.Prelude.{block_weight, weight, phi_count}
 use Rattle.phi_copies.specs.Good.{IsGoodFunction}
 use Rattle.il_ast.proofs.Truth.{and_first, and_second}
 

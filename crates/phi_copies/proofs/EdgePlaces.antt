@@ -5,7 +5,7 @@ use Rattle.std.proofs.lemmas.List.Sums.{sum_by-cons}
 use Rattle.il_ast.specs.declared.block.Phi.{Phi}
 use Rattle.il_ast.specs.declared.block.Block.{Block}
 use Rattle.il_ast.specs.declared.function.Func.{Func}
-use Rattle.il_ast.specs.Mentions.{come_after, temps_of, temps_in_block, temps_in_phi}
+use Rattle.il_ast.specs.Prelude.{come_after, temps_of, temps_in_block, temps_in_phi}
 use Rattle.phi_copies.specs.declared.ending.Ending.{Ending}
 use Rattle.phi_copies.specs.Copies.{phis_before}
 use Rattle.phi_copies.specs.Lowered.{Edge, block_edges, all_edges, IsBlockEnding, AreEndings, IsOnEdge, AreOnEdges}

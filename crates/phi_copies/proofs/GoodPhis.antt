@@ -3,7 +3,7 @@ use Rattle.std.proofs.Common.{◌≡◌, ℕ, true, refl, slice_get, Option, Som
 use Rattle.il_ast.specs.declared.block.Block.{Block}
 use Rattle.il_ast.specs.declared.function.Func.{Func}
 use Rattle.il_types.specs.declared.rule.Rule.TheVariants.{PhiCoversPredecessors}
-use Rattle.il_types.specs.Arguments.{are_all_distinct}
+use Rattle.il_types.specs.Prelude.{are_all_distinct}
 use Rattle.il_types.proofs.ArgumentLemmas.{block_distinct}
 use Rattle.phi_copies.specs.Good.{IsGoodFunction}
 use Rattle.phi_copies.specs.Copies.{phis_of, phis_at}

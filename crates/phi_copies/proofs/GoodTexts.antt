@@ -8,8 +8,7 @@ use Rattle.il_ast.specs.declared.text.Definition.TheVariants.{Function}
 use Rattle.il_ast.specs.declared.text.Text.{Text}
 use Rattle.il_types.specs.declared.rule.Rule.{Rule}
 use Rattle.il_types.specs.declared.rule.Rule.TheVariants.{DistinctGlobals, DistinctLocals, KnownLabels, EntryNotTarget, LastBlockEnds, OneType, OperandFits, PhiCoversPredecessors, AllocInEntry, ReturnFits, DefinedTemporaries, DataFields, Alignment, BlitSize}
-use Rattle.il_types.specs.First.{first}
-use Rattle.il_types.specs.Rules.{broken_in_function, broken_in, definition_within, IsGood}
+use Rattle.il_types.specs.Prelude.{first, broken_in_function, broken_in, definition_within, IsGood}
 use Rattle.phi_copies.specs.Good.{IsGoodFunction}
 use Rattle.il_types.proofs.ArgumentLemmas.{none_first}
 

@@ -18,21 +18,13 @@ use Rattle.il_ast.specs.declared.function.Func.{Func}
 use Rattle.il_ast.specs.declared.value.Value.{Value}
 use Rattle.il_ast.specs.declared.value.Value.TheVariants.{Integer, Pointer, Function}
 use Rattle.il_ast.specs.declared.value.End.TheVariants.{Turns}
-use Rattle.il_ast.specs.Values.{in_place}
-use Rattle.il_ast.specs.Memory.{Memory}
-use Rattle.il_ast.specs.Cost.{phi_count}
-use Rattle.il_ast.specs.Effect.{Env, Activation, InstEffect, Done, Asks, Fails, value_at, operand, assign, inst_effect, phi_values, with_phis, place_of, entered, enter_at, enter_place, enter, branched, returned, return_value, jump_effect, end_effect, after_inst, turn_in, turn_of, effect, branch_to}
-use Rattle.il_ast.specs.Run.{Spent, nothing, one_turn, both, Outcome, Returned, Ended, with_args, begun}
-use Rattle.il_ast.specs.Logged.{Next, On, Over, Event, Does, Calls}
-use Rattle.il_ast.specs.Keeps.{Asked, Given}
-use Rattle.il_ast.specs.Simulation.{Leads, ComesTo, Receives, Resumes, TakesTurn, Takes, TakesTurns}
+use Rattle.il_ast.specs.Prelude.{in_place, Memory, phi_count, Env, Activation, InstEffect, Done, Asks, Fails, value_at, operand, assign, inst_effect, phi_values, with_phis, place_of, entered, enter_at, enter_place, enter, branched, returned, return_value, jump_effect, end_effect, after_inst, turn_in, turn_of, effect, branch_to, Spent, nothing, one_turn, both, Outcome, Returned, Ended, with_args, begun, Next, On, Over, Event, Does, Calls, Asked, Given, Leads, ComesTo, Receives, Resumes, TakesTurn, Takes, TakesTurns, classes_of}
 use Rattle.il_ast.proofs.TurnsLogged.{turns_keep, both_assoc}
 use Rattle.phi_copies.specs.declared.ending.Leave.TheVariants.{Goto as GotoBlock, Branch as BranchTo, Return as ReturnWith, Halt as HaltRun}
 use Rattle.phi_copies.specs.declared.ending.Ending.{Ending}
 use Rattle.phi_copies.specs.Endings.{Endings, State, begin, weighs, receives, resumes, goes_on, in_turn, copied, branches, returns, returns_in, leaves, copies_and_leaves, after_mark, marked, ends, block_step, step_in, step}
 use Rattle.phi_copies.specs.Copies.{phis_of, phis_at, AreCopies}
 use Rattle.phi_copies.specs.Lowered.{or_zero, target, Edge, edge_with, edge, past_edge, branch_target, jump_edges, end_edges, one_turn_ending, block_edges, all_edges, IsJumpEnding, IsEndEnding, IsOnEdge, IsLowered, straight_if, straight}
-use Rattle.il_ast.specs.Passes.{classes_of}
 use Rattle.phi_copies.specs.Keeping.{KeepsFunction}
 use Rattle.phi_copies.proofs.MoreKnown.{operand_less, behind, set_both, length_behind, Follows, locals, inst_follows}
 use Rattle.phi_copies.proofs.Lists.{take_own, parts_of, mapped, length_copied, length_with_phis}

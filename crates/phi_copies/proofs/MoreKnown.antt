@@ -11,10 +11,7 @@ use Rattle.il_ast.specs.declared.instruction.Inst.{Inst}
 use Rattle.il_ast.specs.declared.instruction.Inst.TheVariants.{Unary, Binary, Alloc, Store, Blit, Call as CallInst}
 use Rattle.il_ast.specs.declared.value.Value.{Value}
 use Rattle.il_ast.specs.declared.value.Value.TheVariants.{Integer, Pointer, Function}
-use Rattle.il_ast.specs.Values.{in_place, byte_count}
-use Rattle.il_ast.specs.Memory.{Memory, store, copy, fresh}
-use Rattle.il_ast.specs.Operations.{operand_class, left_class, right_class, operate_one, operate_two}
-use Rattle.il_ast.specs.Effect.{Locals, InstEffect, Done, Asks, Fails, value_at, operand, all_operands, assigned, changed, stored_class, blit_weight, call_effect, inst_effect}
+use Rattle.il_ast.specs.Prelude.{in_place, byte_count, Memory, store, copy, fresh, operand_class, left_class, right_class, operate_one, operate_two, Locals, InstEffect, Done, Asks, Fails, value_at, operand, all_operands, assigned, changed, stored_class, blit_weight, call_effect, inst_effect}
 use Rattle.il_ast.proofs.Listed.{get_before}
 
 -- ---- lists with more behind them

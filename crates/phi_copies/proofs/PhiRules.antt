@@ -10,16 +10,12 @@ use Rattle.il_ast.specs.declared.block.Phi.{Phi}
 use Rattle.il_ast.specs.declared.block.PhiArg.{PhiArg}
 use Rattle.il_ast.specs.declared.block.Block.{Block}
 use Rattle.il_ast.specs.declared.function.Func.{Func}
-use Rattle.il_ast.specs.Mentions.{temps_of, temps_in_block, temps_in_phi, temps_in_value}
-use Rattle.il_ast.specs.Values.{same_class}
+use Rattle.il_ast.specs.Prelude.{temps_of, temps_in_block, temps_in_phi, temps_in_value, same_class}
 use Rattle.il_types.specs.declared.rule.Rule.TheVariants.{OperandFits, PhiCoversPredecessors}
 use Rattle.il_types.specs.declared.site.Definer.{Definer}
 use Rattle.il_types.specs.declared.site.Operand.{Operand}
 use Rattle.il_types.specs.declared.site.Site.{Site}
-use Rattle.il_types.specs.First.{when, or_else, first}
-use Rattle.il_types.specs.Locals.{times, first_repeated, phi_sites, fits, in_insts, has_wrong_result, uncovered_in}
-use Rattle.il_types.specs.Marks.{is_given}
-use Rattle.il_types.specs.Sites.{definer, param_definers, phi_definers, inst_definers, block_definers, definers_of, operand_at, phi_operands, inst_operands, end_operands, block_operands, operands_of}
+use Rattle.il_types.specs.Prelude.{when, or_else, first, times, first_repeated, phi_sites, fits, in_insts, has_wrong_result, uncovered_in, is_given, definer, param_definers, phi_definers, inst_definers, block_definers, definers_of, operand_at, phi_operands, inst_operands, end_operands, block_operands, operands_of}
 use Rattle.phi_copies.specs.Good.{IsGoodFunction}
 use Rattle.phi_copies.specs.Source.{value_or_zero, source}
 use Rattle.phi_copies.proofs.EdgePlaces.{AllLess, come_up}

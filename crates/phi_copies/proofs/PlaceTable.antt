@@ -2,8 +2,8 @@
 use Rattle.std.proofs.Common.{◌≡◌, ℕ, List, ap, sym, ◌∙◌, slice_get, Option, Some, None}
 use Rattle.std.specs.Option.{option_flatten}
 use Rattle.il_ast.specs.declared.block.Block.{Block}
-use Rattle.il_ast.specs.Effect.{place_of}
-use Rattle.il_types.specs.LabelBlocks.{place_in}
+use Rattle.il_ast.specs.Prelude.{place_of}
+use Rattle.il_types.specs.Prelude.{place_in}
 use Rattle.phi_copies.specs.Lowered.{or_zero, target}
 
 pub found : (blocks : List Block) (table : List (Option ℕ)) (l : ℕ) (o : Option ℕ) → ((j : ℕ) → place_in table j ≡ place_of blocks j) → slice_get table l ≡ Some o → or_zero o ≡ target blocks l

@@ -6,8 +6,7 @@ use Rattle.il_ast.specs.declared.operation.Class.TheVariants.{W, L}
 use Rattle.il_ast.specs.declared.operand.Val.TheVariants.{Temp}
 use Rattle.il_ast.specs.declared.value.Value.{Value}
 use Rattle.il_ast.specs.declared.value.Value.TheVariants.{Integer, Pointer, Function}
-use Rattle.il_ast.specs.Values.{in_place}
-use Rattle.il_ast.specs.Effect.{operand}
+use Rattle.il_ast.specs.Prelude.{in_place, operand}
 use Rattle.phi_copies.specs.declared.moves.Move.{Move}
 use Rattle.phi_copies.specs.Endings.{copied}
 use Rattle.phi_copies.specs.Moves.{after, ReadsKnown}

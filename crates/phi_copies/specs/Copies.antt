@@ -7,8 +7,7 @@ use Rattle.il_ast.specs.declared.block.Phi.{Phi}
 use Rattle.il_ast.specs.declared.block.Block.{Block}
 use Rattle.il_ast.specs.declared.function.Func.{Func}
 use Rattle.il_ast.specs.declared.value.Value.{Value}
-use Rattle.il_ast.specs.Cost.{phi_count}
-use Rattle.il_ast.specs.Effect.{phi_values, with_phis}
+use Rattle.il_ast.specs.Prelude.{phi_count, phi_values, with_phis}
 use Rattle.phi_copies.specs.declared.ending.Assignment.{Assignment}
 use Rattle.phi_copies.specs.Classed.{Classes, CopiesFit, PhisFit}
 use Rattle.phi_copies.specs.Endings.{copied}

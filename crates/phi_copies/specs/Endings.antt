@@ -13,12 +13,7 @@ use Rattle.il_ast.specs.declared.function.Func.{Func}
 use Rattle.il_ast.specs.declared.value.Value.{Value}
 use Rattle.il_ast.specs.declared.value.Value.TheVariants.{Integer, Pointer, Function}
 use Rattle.il_ast.specs.declared.value.End.TheVariants.{Halt as Halted, Undefined, Turns}
-use Rattle.il_ast.specs.Memory.{Memory, free_all}
-use Rattle.il_ast.specs.Cost.{phi_count}
-use Rattle.il_ast.specs.Effect.{Locals, InstEffect, Done, Asks, Fails, operand, assign, inst_effect}
-use Rattle.il_ast.specs.Run.{Spent, nothing, one_turn, both, Outcome, Returned, Ended, with_args}
-use Rattle.il_ast.specs.Logged.{Next, On, Over, Event, Does, Calls}
-use Rattle.il_ast.specs.Keeps.{Asked, Given}
+use Rattle.il_ast.specs.Prelude.{Memory, free_all, phi_count, Locals, InstEffect, Done, Asks, Fails, operand, assign, inst_effect, Spent, nothing, one_turn, both, Outcome, Returned, Ended, with_args, Next, On, Over, Event, Does, Calls, Asked, Given}
 use Rattle.phi_copies.specs.declared.ending.Assignment.{Assignment}
 use Rattle.phi_copies.specs.declared.ending.Leave.{Leave}
 use Rattle.phi_copies.specs.declared.ending.Leave.TheVariants.{Goto, Branch, Return, Halt}

@@ -2,7 +2,7 @@
 use Rattle.std.specs.Prelude.{◌≡◌, true, None}
 use Rattle.il_ast.specs.declared.function.Func.{Func}
 use Rattle.il_types.specs.declared.rule.Rule.{Rule}
-use Rattle.il_types.specs.Rules.{broken_in_function, is_within}
+use Rattle.il_types.specs.Prelude.{broken_in_function, is_within}
 
 pub record IsGoodFunction (f : Func) : Type 0 where
   -- it breaks no rule, and passes no limit of one function

@@ -2,8 +2,7 @@
 use Rattle.std.specs.Prelude.{List}
 use Rattle.il_ast.specs.declared.function.Func.{Func}
 use Rattle.il_ast.specs.declared.value.Value.{Value}
-use Rattle.il_ast.specs.Keeps.{KeepsMeaning}
-use Rattle.il_ast.specs.Passes.{classes_of, body_of}
+use Rattle.il_ast.specs.Prelude.{KeepsMeaning, classes_of, body_of}
 use Rattle.phi_copies.specs.Endings.{Endings, begin, step}
 
 -- with these values of the text's global names

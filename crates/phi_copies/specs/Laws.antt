@@ -3,7 +3,7 @@ use Rattle.std.specs.Prelude.{◌≡◌, ℕ, slice_get, Some}
 use Rattle.il_ast.specs.declared.function.Func.{Func}
 use Rattle.il_ast.specs.declared.text.Definition.TheVariants.{Function}
 use Rattle.il_ast.specs.declared.text.Text.{Text}
-use Rattle.il_types.specs.Rules.{IsGood}
+use Rattle.il_types.specs.Prelude.{IsGood}
 use Rattle.phi_copies.specs.Endings.{Endings}
 use Rattle.phi_copies.specs.Good.{IsGoodFunction}
 use Rattle.phi_copies.specs.Lowered.{IsLowered}

@@ -6,7 +6,7 @@ use Rattle.il_ast.specs.declared.operation.Class.TheVariants.{W, L}
 use Rattle.il_ast.specs.declared.operand.Val.{Val}
 use Rattle.il_ast.specs.declared.operand.Val.TheVariants.{Int, Temp, Global}
 use Rattle.il_ast.specs.declared.block.Phi.{Phi}
-use Rattle.il_ast.specs.Values.{same_class}
+use Rattle.il_ast.specs.Prelude.{same_class}
 use Rattle.phi_copies.specs.declared.ending.Assignment.{Assignment}
 use Rattle.phi_copies.specs.declared.moves.Move.{Move}
 use Rattle.phi_copies.specs.Moves.{DoesAtOnce, IsBetween, IsRead, ReadsKnown, proper_count}

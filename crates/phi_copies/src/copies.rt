@@ -2,7 +2,7 @@
 ghost use Rattle.std.specs.Prelude.{◌≡◌, ℕ, ◌+◌, ◌≤◌, length, map, nat_eq, true, Some, IfOk, IfSome, OnOk, find};
 ghost use Rattle.il_ast.specs.declared.limits.TheConstants.{FUNCTION_WEIGHT, TEMPORARIES};
 ghost use Rattle.il_ast.specs.declared.block.PhiArg.{PhiArg as PhiArgOf};
-ghost use Rattle.il_types.specs.Arguments.{are_distinct, are_all_distinct};
+ghost use Rattle.il_types.specs.Prelude.{are_distinct, are_all_distinct};
 ghost use Rattle.phi_copies.specs.Copies.{AreCopies};
 ghost use Rattle.phi_copies.specs.Source.{source};
 ghost use Rattle.phi_copies.specs.Together.{wanted};

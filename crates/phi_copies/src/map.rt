@@ -1,10 +1,10 @@
 //! What is worked out once for a function.
 ghost use Rattle.std.specs.Prelude.{◌≡◌, ℕ, length, slice_get, IfOk};
-ghost use Rattle.il_ast.specs.Effect.{place_of};
+ghost use Rattle.il_ast.specs.Prelude.{place_of};
 ghost use Rattle.phi_copies.specs.Good.{IsGoodFunction};
 ghost use Rattle.phi_copies.specs.Copies.{phis_at};
 ghost use Rattle.phi_copies.specs.Lowered.{target};
-ghost use Rattle.il_types.specs.LabelBlocks.{place_in};
+ghost use Rattle.il_types.specs.Prelude.{place_in};
 ghost use Rattle.phi_copies.specs.Map.{first_numbers};
 ghost use Rattle.std.proofs.Props.{props};
 

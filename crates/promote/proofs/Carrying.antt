@@ -16,9 +16,7 @@ use Rattle.il_ast.specs.declared.value.Value.{Value}
 use Rattle.il_ast.specs.declared.value.Value.TheVariants.{Integer, Pointer, Function}
 use Rattle.il_ast.specs.declared.value.Cell.{Cell}
 use Rattle.il_ast.specs.declared.value.Cell.TheVariants.{Plain}
-use Rattle.il_ast.specs.Values.{bytes_of, number_of, byte_count, in_place, same_value}
-use Rattle.il_ast.specs.Memory.{Memory, parts, cells_for, plain_bytes, are_parts_from, value_of}
-use Rattle.il_ast.specs.Operations.{operand_class, extended, extension_bytes, widened, operate_one}
+use Rattle.il_ast.specs.Prelude.{bytes_of, number_of, byte_count, in_place, same_value, Memory, parts, cells_for, plain_bytes, are_parts_from, value_of, operand_class, extended, extension_bytes, widened, operate_one}
 use Rattle.promote.specs.Uses.{extension_size}
 use Rattle.promote.specs.Promoted.{storing, extending, loading}
 use Rattle.promote.proofs.Hiding.{Marks, moved, moved_if, Clean, IfClean}

@@ -9,8 +9,7 @@ use Rattle.il_ast.specs.declared.value.Value.{Value}
 use Rattle.il_ast.specs.declared.value.Value.TheVariants.{Integer, Pointer, Function}
 use Rattle.il_ast.specs.declared.value.Cell.{Cell}
 use Rattle.il_ast.specs.declared.value.Cell.TheVariants.{Plain, Part, Blank}
-use Rattle.il_ast.specs.Values.{bytes_of, number_of, same_value}
-use Rattle.il_ast.specs.Memory.{Memory, block_at, parts, cells_for, plain_bytes, are_parts_from, value_of, span, put, cells_at, write_at, load, store, apart_or_same, copy, fresh, free, free_all}
+use Rattle.il_ast.specs.Prelude.{bytes_of, number_of, same_value, Memory, block_at, parts, cells_for, plain_bytes, are_parts_from, value_of, span, put, cells_at, write_at, load, store, apart_or_same, copy, fresh, free, free_all}
 use Rattle.il_ast.proofs.Listed.{get_before, get_set_other}
 
 -- for each block ever made whether it is hidden

@@ -13,10 +13,7 @@ use Rattle.il_ast.specs.declared.operand.Arg.{Arg}
 use Rattle.il_ast.specs.declared.instruction.Inst.TheVariants.{Unary, Binary, Store, Blit, Call as CallInst}
 use Rattle.il_ast.specs.declared.value.Value.{Value}
 use Rattle.il_ast.specs.declared.value.Value.TheVariants.{Integer, Pointer, Function}
-use Rattle.il_ast.specs.Values.{in_place, byte_count}
-use Rattle.il_ast.specs.Memory.{Memory, store, copy}
-use Rattle.il_ast.specs.Operations.{operand_class, left_class, right_class, operate_one, operate_two}
-use Rattle.il_ast.specs.Effect.{Locals, Call, value_at, operand, all_operands, InstEffect, Done, Asks, Fails, assigned, changed, stored_class, blit_weight, calls_value, call_effect, inst_effect}
+use Rattle.il_ast.specs.Prelude.{in_place, byte_count, Memory, store, copy, operand_class, left_class, right_class, operate_one, operate_two, Locals, Call, value_at, operand, all_operands, InstEffect, Done, Asks, Fails, assigned, changed, stored_class, blit_weight, calls_value, call_effect, inst_effect}
 use Rattle.promote.specs.declared.mention.Role.TheVariants.{Used}
 use Rattle.promote.specs.Uses.{value_mentions, arg_mentions}
 use Rattle.promote.specs.Promoted.{Widths}

@@ -22,10 +22,7 @@ use Rattle.il_ast.specs.declared.value.Value.{Value}
 use Rattle.il_ast.specs.declared.value.Value.TheVariants.{Integer, Pointer, Function}
 use Rattle.il_ast.specs.declared.value.Cell.{Cell}
 use Rattle.il_ast.specs.declared.value.Cell.TheVariants.{Plain, Blank}
-use Rattle.il_ast.specs.Values.{bytes_of, in_place, byte_count}
-use Rattle.il_ast.specs.Memory.{Memory, parts, cells_for, value_of, span, put, write_at, load, store, fresh}
-use Rattle.il_ast.specs.Operations.{operand_class, extension_bytes, widened, operate_one}
-use Rattle.il_ast.specs.Effect.{operand, InstEffect, Done, assigned, changed, stored_class, inst_effect}
+use Rattle.il_ast.specs.Prelude.{bytes_of, in_place, byte_count, Memory, parts, cells_for, value_of, span, put, write_at, load, store, fresh, operand_class, extension_bytes, widened, operate_one, operand, InstEffect, Done, assigned, changed, stored_class, inst_effect}
 use Rattle.promote.specs.declared.mention.Role.TheVariants.{Accessed, Used}
 use Rattle.promote.specs.Uses.{value_mentions, operand_role, extension_size, same_size, suits, destination_mentions, arg_mentions, item_mentions}
 use Rattle.promote.specs.declared.mention.Mention.{Mention}

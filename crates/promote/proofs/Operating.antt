@@ -13,9 +13,7 @@ use Rattle.il_ast.specs.declared.operation.BinaryOp.TheVariants.{Add, Sub, Mul, 
 use Rattle.il_ast.specs.declared.value.Value.{Value}
 use Rattle.il_ast.specs.declared.value.Value.TheVariants.{Integer, Pointer, Function}
 use Rattle.il_ast.specs.declared.value.Cell.{Cell}
-use Rattle.il_ast.specs.Values.{modulus, in_place}
-use Rattle.il_ast.specs.Memory.{Memory, block_at, load, size_at}
-use Rattle.il_ast.specs.Operations.{left_class, right_class, on_integers, extension_bytes, truth, where_different, on_offsets, reaches, lies_in, compare_pointers, compare_with_zero, compare_places, on_places, widened, operate_one, operate_two}
+use Rattle.il_ast.specs.Prelude.{modulus, in_place, Memory, block_at, load, size_at, left_class, right_class, on_integers, extension_bytes, truth, where_different, on_offsets, reaches, lies_in, compare_pointers, compare_with_zero, compare_places, on_places, widened, operate_one, operate_two}
 use Rattle.promote.proofs.Ranges.{IfBelow, integers_fit, extended_fits, neg_fits, modulus_fits}
 use Rattle.promote.proofs.Hiding.{Marks, place, moved, moved_if, moved_cell, moved_block, shown, Clean, IfClean, CleanMemory, place_same, integer_moved, block_shown, load_shown, load_clean}
 

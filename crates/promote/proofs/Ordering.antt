@@ -20,8 +20,7 @@ use Rattle.il_ast.specs.declared.block.PhiArg.{PhiArg}
 use Rattle.il_ast.specs.declared.block.Block.{Block}
 use Rattle.il_ast.specs.declared.function.Param.{Param}
 use Rattle.il_ast.specs.declared.function.Func.{Func}
-use Rattle.il_ast.specs.Mentions.{come_after, temps_in_value, temps_in_destination, temps_in_phi, temps_in_inst, temps_in_jump, temps_at_end, temps_in_block, temps_of, labels_in_block, labels_of}
-use Rattle.il_ast.specs.Written.{has_block, has_argument, have_arguments}
+use Rattle.il_ast.specs.Prelude.{come_after, temps_in_value, temps_in_destination, temps_in_phi, temps_in_inst, temps_in_jump, temps_at_end, temps_in_block, temps_of, labels_in_block, labels_of, has_block, has_argument, have_arguments}
 use Rattle.promote.specs.declared.mention.Role.{Role}
 use Rattle.promote.specs.declared.mention.Role.TheVariants.{Made, Accessed, Used}
 use Rattle.promote.specs.declared.mention.Mention.{Mention}

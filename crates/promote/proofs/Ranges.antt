@@ -13,8 +13,7 @@ use Rattle.il_ast.specs.declared.operation.Extension.{Extension}
 use Rattle.il_ast.specs.declared.operation.Extension.TheVariants.{SignedWord, UnsignedWord, SignedHalf, UnsignedHalf, SignedByte, UnsignedByte}
 use Rattle.il_ast.specs.declared.operation.BinaryOp.{BinaryOp}
 use Rattle.il_ast.specs.declared.operation.BinaryOp.TheVariants.{Add, Sub, Mul, And, Or, Xor, Div, Rem, Udiv, Urem, Sar, Shr, Shl, Compare}
-use Rattle.il_ast.specs.Values.{modulus, signed, unsigned}
-use Rattle.il_ast.specs.Operations.{left_class, right_class, on_integers, extended, truth, holds, shift_amount, can_divide}
+use Rattle.il_ast.specs.Prelude.{modulus, signed, unsigned, left_class, right_class, on_integers, extended, truth, holds, shift_amount, can_divide}
 
 mag64 : (n : ℕ) → n < 2 ^ 64 → mag (cast_signed w64 n) < 2 ^ 63
 mag64 n h = grind (arith, ints)

@@ -27,20 +27,13 @@ use Rattle.il_ast.specs.declared.block.PhiArg.{PhiArg}
 use Rattle.il_ast.specs.declared.block.Block.{Block}
 use Rattle.il_ast.specs.declared.function.Param.{Param}
 use Rattle.il_ast.specs.declared.function.Func.{Func}
-use Rattle.il_ast.specs.Values.{same_class}
-use Rattle.il_ast.specs.Operations.{operand_class}
-use Rattle.il_ast.specs.Effect.{stored_class}
-use Rattle.il_ast.specs.Cost.{round_16, inst_weight, end_weight, block_weight, weight, alloc_bytes, alloc_area, phi_count, args_on_stack, largest_in, largest_of, need}
+use Rattle.il_ast.specs.Prelude.{same_class, operand_class, stored_class, round_16, inst_weight, end_weight, block_weight, weight, alloc_bytes, alloc_area, phi_count, args_on_stack, largest_in, largest_of, need}
 use Rattle.il_types.specs.declared.rule.Rule.{Rule}
 use Rattle.il_types.specs.declared.rule.Rule.TheVariants.{DistinctGlobals, DistinctLocals, KnownLabels, EntryNotTarget, LastBlockEnds, OneType, OperandFits, PhiCoversPredecessors, AllocInEntry, ReturnFits, DefinedTemporaries, DataFields, Alignment, BlitSize}
 use Rattle.il_types.specs.declared.site.Definer.{Definer}
 use Rattle.il_types.specs.declared.site.Operand.{Operand}
 use Rattle.il_types.specs.declared.site.Site.{Site}
-use Rattle.il_types.specs.First.{when, or_else, first}
-use Rattle.il_types.specs.Marks.{is_given}
-use Rattle.il_types.specs.Sites.{definer, param_definers, phi_definers, item_definers, inst_definers, block_definers, definers_of, operand_at, phi_operands, item_operands, inst_operands, end_operands, block_operands, operands_of, block_targets, sources_in}
-use Rattle.il_types.specs.Locals.{first_repeated, param_sites, label_sites, phi_sites, is_label, is_entry, two_types, fits, is_long_only, is_word, has_wrong_result, in_insts, misplaced, is_defined, fits_result, returned_breaks, breaks_in, value_returned, in_returns, wrong_return, undefined_temp, has_wrong_size, is_alloc, wrong_alloc_in, is_long_blit, is_predecessor, names_from, jumps_to, covers, uncovered_in}
-use Rattle.il_types.specs.Rules.{broken_in_function, has_few_args, is_within}
+use Rattle.il_types.specs.Prelude.{when, or_else, first, is_given, definer, param_definers, phi_definers, item_definers, inst_definers, block_definers, definers_of, operand_at, phi_operands, item_operands, inst_operands, end_operands, block_operands, operands_of, block_targets, sources_in, first_repeated, param_sites, label_sites, phi_sites, is_label, is_entry, two_types, fits, is_long_only, is_word, has_wrong_result, in_insts, misplaced, is_defined, fits_result, returned_breaks, breaks_in, value_returned, in_returns, wrong_return, undefined_temp, has_wrong_size, is_alloc, wrong_alloc_in, is_long_blit, is_predecessor, names_from, jumps_to, covers, uncovered_in, broken_in_function, has_few_args, is_within}
 use Rattle.promote.specs.declared.mention.Role.TheVariants.{Used}
 use Rattle.promote.specs.Uses.{item_mentions, inst_mentions, end_mentions, phi_mentions, block_mentions, param_mentions, mentions_of}
 use Rattle.promote.specs.Promoted.{Widths, Rewrites, promoted, promoted_line, promoted_block, taken_from, made_in, stored_in, storing, loading}

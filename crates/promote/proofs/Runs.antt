@@ -7,9 +7,8 @@ use Rattle.il_ast.specs.declared.function.Func.{Func}
 use Rattle.il_ast.specs.declared.value.Value.{Value}
 use Rattle.il_ast.specs.declared.value.End.{End}
 use Rattle.il_ast.specs.declared.value.End.TheVariants.{Exit, Halt, Undefined, Stack, Turns}
-use Rattle.il_ast.specs.Memory.{Memory}
-use Rattle.il_ast.specs.Effect.{Locals, Activation, Call, Effect, Goes, Calls, Returns, Ends, assign, effect}
-use Rattle.il_ast.specs.Run.{Spent, one_turn, both, Outcome, Returned, Ended, after, Callees, Rest, receive, resume, perform, run, with_args, begun, body}
+use Rattle.il_ast.specs.Prelude.{Memory, Locals, Activation, Call, Effect, Goes, Returns, Ends, assign, effect, Spent, one_turn, both, Outcome, Returned, Ended, after, Callees, Rest, receive, resume, perform, run, with_args, begun, body}
+use Rattle.il_ast.specs.Effect.{Calls}
 use Rattle.promote.specs.Uses.{param_mentions, block_mentions, mentions_of}
 use Rattle.promote.specs.Promoted.{Widths, Rewrites}
 use Rattle.promote.proofs.Respect.{Respected, respected_first, respected_then}

@@ -1,9 +1,9 @@
 -- What is proved of functions in which temporaries are promoted.
 use Rattle.std.specs.Prelude.{◌≡◌, ◌≤◌, true, None}
 use Rattle.il_ast.specs.declared.function.Func.{Func}
-use Rattle.il_ast.specs.Cost.{weight, need}
+use Rattle.il_ast.specs.Prelude.{weight, need}
 use Rattle.il_types.specs.declared.rule.Rule.{Rule}
-use Rattle.il_types.specs.Rules.{broken_in_function, is_within}
+use Rattle.il_types.specs.Prelude.{broken_in_function, is_within}
 use Rattle.promote.specs.Promoted.{IsPromoted}
 
 -- no rule is broken that wasn't before

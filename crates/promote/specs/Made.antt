@@ -4,7 +4,7 @@ use Rattle.std.specs.List.{list_any}
 use Rattle.il_ast.specs.declared.block.Block.{Block}
 use Rattle.il_ast.specs.declared.instruction.Inst.{Inst}
 use Rattle.il_ast.specs.declared.instruction.Lined.{Lined}
-use Rattle.il_types.specs.Locals.{is_alloc}
+use Rattle.il_types.specs.Prelude.{is_alloc}
 
 abbrev pub makes : List (Lined Inst) → Bool
 makes insts = list_any (λ (i : Lined Inst). is_alloc i.item) insts

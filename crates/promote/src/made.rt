@@ -1,7 +1,7 @@
 //! Whether a function makes blocks of memory.
 ghost use Rattle.std.specs.Prelude.{◌≡◌, false};
 ghost use Rattle.std.specs.List.{list_any};
-ghost use Rattle.il_types.specs.Locals.{is_alloc};
+ghost use Rattle.il_types.specs.Prelude.{is_alloc};
 ghost use Rattle.promote.specs.Made.{makes, makes_any};
 ghost use Rattle.promote.specs.Promoted.{IsPromoted};
 

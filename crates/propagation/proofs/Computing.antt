@@ -6,9 +6,7 @@ use Rattle.il_ast.specs.declared.operation.Class.TheVariants.{W, L}
 use Rattle.il_ast.specs.declared.operation.Condition.{Condition}
 use Rattle.il_ast.specs.declared.value.Value.{Value}
 use Rattle.il_ast.specs.declared.value.Value.TheVariants.{Integer}
-use Rattle.il_ast.specs.Values.{modulus}
-use Rattle.il_ast.specs.Memory.{Memory}
-use Rattle.il_ast.specs.Operations.{holds, truth, operate_two}
+use Rattle.il_ast.specs.Prelude.{modulus, Memory, holds, truth, operate_two}
 use Rattle.rv_isa.proofs.RangeLemmas.{reg_value_fits, regw_value_fits}
 use Rattle.vcode.specs.declared.place.Operand.{Operand}
 use Rattle.vcode.specs.declared.place.Operand.TheVariants.{At, Number, Name}
@@ -16,10 +14,7 @@ use Rattle.vcode.specs.declared.line.Operation.{Operation}
 use Rattle.vcode.specs.declared.line.Operation.TheVariants.{Reg, RegW, Compare}
 use Rattle.vcode.specs.declared.line.Line.{Line}
 use Rattle.vcode.specs.declared.line.Line.TheVariants.{Tick, Set, Operate, Load, Store, Alloc, Blit, Call}
-use Rattle.vcode.specs.Cost.{line_cost}
-use Rattle.vcode.specs.Operations.{operate}
-use Rattle.vcode.specs.Places.{Values}
-use Rattle.vcode.specs.Acts.{Gives, act}
+use Rattle.vcode.specs.Prelude.{line_cost, operate, Values, Gives, act}
 use Rattle.propagation.specs.Shortened.{result_of, is_cheaper, with_result, computed, by_shift, shortened}
 use Rattle.propagation.proofs.Shortening.{Unnumbered, shift_cheaper, shift_unchanged, shift_act}
 

@@ -7,10 +7,7 @@ use Rattle.vcode.specs.declared.line.Line.{Line}
 use Rattle.vcode.specs.declared.line.Line.TheVariants.{Tick, Set, Operate, Load, Store, Alloc, Blit, Call}
 use Rattle.vcode.specs.declared.code.Block.{Block}
 use Rattle.vcode.specs.declared.function.VFunc.{VFunc}
-use Rattle.vcode.specs.Cost.{line_cost, jump_cost}
-use Rattle.vcode.specs.Named.{line_keeps, jump_keeps, block_keeps, is_below}
-use Rattle.vcode.specs.Replaced.{Replacing, with_line, with_jump}
-use Rattle.vcode.specs.Writes.{line_writes}
+use Rattle.vcode.specs.Prelude.{line_cost, jump_cost, line_keeps, jump_keeps, block_keeps, is_below, Replacing, with_line, with_jump, line_writes}
 use Rattle.vcode.proofs.Replacing.{measure_stays, Costs, line_cost_same, jump_cost_same, Low, line_low, jump_low, inside_same}
 use Rattle.vcode.proofs.Measuring.{no_more, Measured, Empty, Put, within, each_mapped}
 use Rattle.vcode.proofs.Results.{Serves, Owed, owed_each}

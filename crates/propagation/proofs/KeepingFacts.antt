@@ -10,7 +10,7 @@ use Rattle.il_ast.specs.declared.operation.Condition.TheVariants.{Equal, NotEqua
 use Rattle.vcode.specs.declared.place.Operand.{Operand}
 use Rattle.vcode.specs.declared.place.Address.{Address}
 use Rattle.vcode.specs.declared.line.Operation.{Operation}
-use Rattle.vcode.specs.Addresses.{distance, beyond}
+use Rattle.vcode.specs.Prelude.{distance, beyond, is_immediate, operand_cost, line_cost, branch_cost, jump_cost, affords, operand_keeps, wanted_keeps, line_keeps, jump_keeps, is_below, is_target, leads_inside, with_base, with_argument, with_returned, with_comparison, with_these}
 use Rattle.vcode.specs.declared.place.Operand.TheVariants.{At, Number, Name}
 use Rattle.vcode.specs.declared.place.Argument.{Argument}
 use Rattle.vcode.specs.declared.line.Comparison.{Comparison}
@@ -20,13 +20,8 @@ use Rattle.vcode.specs.declared.line.Jump.{Jump}
 use Rattle.vcode.specs.declared.line.Jump.TheVariants.{Goto, Branch, Return, Halt}
 use Rattle.vcode.specs.declared.code.Block.{Block}
 use Rattle.vcode.specs.declared.function.VFunc.{VFunc}
-use Rattle.vcode.specs.Cost.{is_immediate, operand_cost, line_cost, branch_cost, jump_cost, affords}
-use Rattle.vcode.specs.Named.{operand_keeps, wanted_keeps, line_keeps, jump_keeps, is_below}
-use Rattle.vcode.specs.Regular.{is_target, leads_inside}
-use Rattle.vcode.specs.Replaced.{with_base, with_argument, with_returned, with_comparison}
 use Rattle.vcode.proofs.Replacing.{args_count, args_low}
 use Rattle.vcode.proofs.Measuring.{measure, Measured, Empty, Put, still_affords, within_tested, Each, NoBlocks, OneMore}
-use Rattle.vcode.specs.Becomes.{with_these}
 use Rattle.vcode.proofs.Results.{Serves, Owed, owed_each}
 use Rattle.propagation.specs.declared.constants.fact.Fact.{Fact}
 use Rattle.propagation.specs.declared.constants.fact.Fact.TheVariants.{Same, Sum, Test}

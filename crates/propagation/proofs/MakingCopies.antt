@@ -1,7 +1,7 @@
 -- One line more of a block that reads copies.
 use Rattle.std.proofs.Common.{◌≡◌, ℕ, ◌+◌, ◌<◌, List, [], ◌∷◌, ◌++◌, drop, length, get_or, sym, ◌∙◌, ap}
 use Rattle.vcode.specs.declared.line.Line.{Line}
-use Rattle.vcode.specs.Replaced.{with_line}
+use Rattle.vcode.specs.Prelude.{with_line}
 use Rattle.vcode.proofs.Lists.{item_next}
 use Rattle.propagation.specs.declared.copies.known.KnownCopy.{KnownCopy}
 use Rattle.propagation.specs.Copied.{read_by, after, reading_lines, known_behind}

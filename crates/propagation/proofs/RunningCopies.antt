@@ -2,24 +2,15 @@
 use Rattle.std.proofs.Common.{◌≡◌, ℕ, Bool, true, false, not, ◌&&◌, nat_eq, nat_lt, if◌then◌else◌, List, [], ◌∷◌, ◌++◌, length, Option, Some, None, refl, sym, ◌∙◌, ap, subst, filter, option_map, eqb-true}
 use Rattle.std.proofs.lemmas.Option.{slice_get-map}
 use Rattle.il_ast.specs.declared.value.Value.{Value}
-use Rattle.il_ast.specs.Memory.{Memory}
-use Rattle.il_ast.specs.Keeps.{KeepsCode}
+use Rattle.il_ast.specs.Prelude.{Memory, KeepsCode}
 use Rattle.vcode.specs.declared.place.Operand.{Operand}
 use Rattle.vcode.specs.declared.place.Operand.TheVariants.{At, Number, Name}
 use Rattle.vcode.specs.declared.line.Line.{Line}
 use Rattle.vcode.specs.declared.line.Line.TheVariants.{Tick, Set, Operate, Load, Store, Alloc, Blit, Call}
 use Rattle.vcode.specs.declared.line.Jump.{Jump}
 use Rattle.vcode.specs.declared.code.Code.{Code}
-use Rattle.vcode.specs.Places.{Values, virtual}
-use Rattle.vcode.specs.Coded.{classes_in}
-use Rattle.vcode.specs.Step.{begin, step}
-use Rattle.vcode.specs.Replaced.{with_line, with_jump}
-use Rattle.vcode.specs.Writes.{line_writes}
-use Rattle.vcode.specs.Acts.{Act, act, written, Way, Lost, Enters, Answers, Halts, way}
+use Rattle.vcode.specs.Prelude.{Values, virtual, classes_in, begin, step, with_line, with_jump, line_writes, Act, act, written, Way, Lost, Enters, Answers, Halts, way, Follows, Jumps, Both, Rewrites, Facts, claimed}
 use Rattle.vcode.proofs.Alike.{MayLeave}
-use Rattle.vcode.specs.Follows.{Follows, Jumps, Both}
-use Rattle.vcode.specs.Rewrites.{Rewrites}
-use Rattle.vcode.specs.Facts.{Facts, claimed}
 use Rattle.vcode.proofs.SameReads.{SameValue}
 use Rattle.vcode.proofs.SameActs.{reads_every, jump_reads_every, act_same, way_same, writes_stay}
 use Rattle.vcode.proofs.Writing.{is_written, unwritten, now_holds}

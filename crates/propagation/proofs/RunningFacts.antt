@@ -11,15 +11,10 @@ use Rattle.il_ast.specs.declared.operation.Condition.TheVariants.{Equal, NotEqua
 use Rattle.il_ast.specs.declared.operation.BinaryOp.TheVariants.{Compare as CompareTwo}
 use Rattle.il_ast.specs.declared.value.Value.{Value}
 use Rattle.il_ast.specs.declared.value.Value.TheVariants.{Integer, Pointer, Function}
-use Rattle.il_ast.specs.Values.{byte_count, in_place}
-use Rattle.il_ast.specs.Memory.{Memory, store}
-use Rattle.il_ast.specs.Operations.{holds, truth, compare_places, operate_two}
-use Rattle.il_ast.specs.Effect.{stored_class}
-use Rattle.il_ast.specs.Run.{nothing}
-use Rattle.il_ast.specs.Keeps.{KeepsCode}
+use Rattle.il_ast.specs.Prelude.{byte_count, in_place, Memory, store, holds, truth, compare_places, operate_two, stored_class, nothing, KeepsCode}
 use Rattle.vcode.specs.declared.place.Operand.{Operand}
 use Rattle.vcode.specs.declared.place.Address.{Address}
-use Rattle.rv_isa.specs.Arithmetic.{widened}
+use Rattle.rv_isa.specs.Prelude.{widened}
 use Rattle.rv_isa.specs.declared.instruction.RegOp.TheVariants.{Add, Sub, Sll, Slt, Sltu, Xor, Srl, Sra, Or, And, Mul, Mulh, Mulhsu, Mulhu, Div, Divu, Rem, Remu}
 use Rattle.vcode.specs.declared.line.Operation.{Operation}
 use Rattle.vcode.specs.declared.place.Operand.TheVariants.{At, Number, Name}
@@ -31,17 +26,7 @@ use Rattle.vcode.specs.declared.line.Jump.TheVariants.{Goto, Branch, Return, Hal
 use Rattle.vcode.specs.declared.line.Operation.TheVariants.{Reg, RegW, Compare}
 use Rattle.vcode.specs.declared.code.Block.{Block}
 use Rattle.vcode.specs.declared.code.Code.{Code}
-use Rattle.vcode.specs.Cost.{is_immediate, affords}
-use Rattle.vcode.specs.Addresses.{low, distance, beyond}
-use Rattle.vcode.specs.Operations.{operate, loaded, passed as passed_value}
-use Rattle.vcode.specs.Places.{Values, assign, virtual, unknown}
-use Rattle.vcode.specs.Coded.{classes_in}
-use Rattle.vcode.specs.Step.{State, begin, bound, value_of, read, read_result, operated, address_of, compared, step}
-use Rattle.vcode.specs.Replaced.{Replacing, with_base, with_comparison}
-use Rattle.vcode.specs.Writes.{line_writes}
-use Rattle.vcode.specs.Acts.{Act, Gives, given, left, act, written, Way, Enters, entering, answering, way}
-use Rattle.vcode.specs.Follows.{Alike, LeadAlike, Follows, Jumps, Both}
-use Rattle.vcode.specs.Facts.{Facts as About, claimed}
+use Rattle.vcode.specs.Prelude.{is_immediate, affords, low, distance, beyond, operate, loaded, passed as passed_value, Values, assign, virtual, unknown, classes_in, State, begin, bound, value_of, read, read_result, operated, address_of, compared, step, Replacing, with_base, with_comparison, line_writes, Act, Gives, given, left, act, written, Way, Enters, entering, answering, way, Alike, LeadAlike, Follows, Jumps, Both, Facts as About, claimed}
 use Rattle.vcode.proofs.SameReads.{SameValue, two_same}
 use Rattle.vcode.proofs.SameActs.{reads_every, act_same}
 use Rattle.vcode.proofs.Alike.{MayLeave}

@@ -10,8 +10,8 @@ use Rattle.std.proofs.Math.Pow.{mod-mod-pow}
 use Rattle.bits.specs.Words.{sign_extended}
 use Rattle.il_ast.specs.declared.value.Value.{Value}
 use Rattle.il_ast.specs.declared.value.Value.TheVariants.{Integer, Pointer, Function}
-use Rattle.il_ast.specs.Memory.{Memory}
-use Rattle.rv_isa.specs.Arithmetic.{unsigned_quotient, unsigned_remainder}
+use Rattle.il_ast.specs.Prelude.{Memory}
+use Rattle.rv_isa.specs.Prelude.{unsigned_quotient, unsigned_remainder}
 use Rattle.rv_isa.specs.declared.instruction.RegOp.TheVariants.{Add, Sub, Sll, Slt, Sltu, Xor, Srl, Sra, Or, And, Mul, Mulh, Mulhsu, Mulhu, Div, Divu, Rem, Remu}
 use Rattle.rv_isa.specs.declared.instruction.RegWOp.TheVariants.{Addw, Subw, Sllw, Srlw, Sraw, Mulw, Divw, Divuw, Remw, Remuw}
 use Rattle.vcode.specs.declared.place.Operand.{Operand}
@@ -20,11 +20,7 @@ use Rattle.vcode.specs.declared.line.Operation.{Operation}
 use Rattle.vcode.specs.declared.line.Operation.TheVariants.{Reg, RegW, Compare}
 use Rattle.vcode.specs.declared.line.Line.{Line}
 use Rattle.vcode.specs.declared.line.Line.TheVariants.{Tick, Set, Operate, Load, Store, Alloc, Blit, Call}
-use Rattle.vcode.specs.Cost.{is_immediate, operand_cost, operation_cost, line_cost}
-use Rattle.vcode.specs.Operations.{operate}
-use Rattle.vcode.specs.Places.{Values}
-use Rattle.vcode.specs.Step.{value_of}
-use Rattle.vcode.specs.Acts.{Gives, act}
+use Rattle.vcode.specs.Prelude.{is_immediate, operand_cost, operation_cost, line_cost, operate, Values, value_of, Gives, act}
 use Rattle.propagation.specs.Shortened.{exponent, if_below, by_power, with_operation, by_shift}
 
 -- ---- powers

@@ -6,7 +6,7 @@ use Rattle.vcode.specs.declared.line.Line.{Line}
 use Rattle.vcode.specs.declared.line.Line.TheVariants.{Set}
 use Rattle.vcode.specs.declared.code.Block.{Block}
 use Rattle.vcode.specs.declared.code.Code.{Code}
-use Rattle.vcode.specs.Replaced.{with_line, with_jump}
+use Rattle.vcode.specs.Prelude.{with_line, with_jump}
 use Rattle.cfg_live.specs.Registers.{line_writes}
 use Rattle.propagation.specs.declared.copies.known.KnownCopy.{KnownCopy}
 

@@ -6,7 +6,7 @@ use Rattle.vcode.specs.declared.place.Operand.{Operand}
 use Rattle.vcode.specs.declared.place.Operand.TheVariants.{At}
 use Rattle.rv_isa.specs.declared.instruction.RegOp.TheVariants.{Add}
 use Rattle.vcode.specs.declared.line.Operation.TheVariants.{Reg}
-use Rattle.vcode.specs.Step.{State, value_of, operated, compared}
+use Rattle.vcode.specs.Prelude.{State, value_of, operated, compared}
 use Rattle.propagation.specs.declared.constants.fact.Fact.{Fact}
 use Rattle.propagation.specs.declared.constants.fact.Fact.TheVariants.{Same, Sum, Test}
 

@@ -4,21 +4,18 @@ use Rattle.std.specs.Option.{option_map, option_map_or}
 use Rattle.il_ast.specs.declared.operation.Class.{Class}
 use Rattle.il_ast.specs.declared.operation.Condition.{Condition}
 use Rattle.il_ast.specs.declared.operation.Condition.TheVariants.{Equal, NotEqual}
-use Rattle.il_ast.specs.Values.{modulus}
-use Rattle.il_ast.specs.Operations.{holds}
+use Rattle.il_ast.specs.Prelude.{modulus, holds}
 use Rattle.vcode.specs.declared.place.Operand.{Operand}
 use Rattle.vcode.specs.declared.place.Address.{Address}
 use Rattle.vcode.specs.declared.place.Operand.TheVariants.{At, Number, Name}
 use Rattle.vcode.specs.declared.line.Line.{Line}
 use Rattle.vcode.specs.declared.line.Line.TheVariants.{Tick, Set, Operate, Load, Store, Alloc, Blit, Call}
-use Rattle.vcode.specs.Addresses.{distance, beyond}
+use Rattle.vcode.specs.Prelude.{distance, beyond, is_immediate, affords, with_base, with_argument, with_returned, with_comparison}
 use Rattle.vcode.specs.declared.line.Operation.{Operation}
 use Rattle.vcode.specs.declared.line.Comparison.{Comparison}
 use Rattle.vcode.specs.declared.line.Jump.{Jump}
 use Rattle.vcode.specs.declared.line.Jump.TheVariants.{Goto, Branch, Return, Halt}
 use Rattle.vcode.specs.declared.code.Block.{Block}
-use Rattle.vcode.specs.Cost.{is_immediate, affords}
-use Rattle.vcode.specs.Replaced.{with_base, with_argument, with_returned, with_comparison}
 use Rattle.propagation.specs.declared.constants.fact.Fact.{Fact}
 use Rattle.propagation.specs.declared.constants.fact.Fact.TheVariants.{Same, Sum, Test}
 use Rattle.propagation.specs.declared.constants.claim.Entry.{Entry}

@@ -1,9 +1,8 @@
 -- Short forms of operations: on two numbers as a number; by a power of two as a shift or a mask.
 use Rattle.std.specs.Prelude.{ℕ, ◌-◌, ◌%◌, ◌^◌, Bool, ◌&&◌, nat_eq, nat_lt, nat_le, if◌then◌else◌, Option, Some, None, option_and_then}
 use Rattle.std.specs.Int.{w64, trailing_zeros}
-use Rattle.il_ast.specs.Values.{modulus}
-use Rattle.il_ast.specs.Operations.{holds, truth}
-use Rattle.rv_isa.specs.Arithmetic.{reg_value, regw_value}
+use Rattle.il_ast.specs.Prelude.{modulus, holds, truth}
+use Rattle.rv_isa.specs.Prelude.{reg_value, regw_value}
 use Rattle.rv_isa.specs.declared.instruction.RegOp.TheVariants.{Sll, Srl, And, Mul, Divu, Remu}
 use Rattle.rv_isa.specs.declared.instruction.RegWOp.TheVariants.{Sllw, Srlw, Mulw, Divuw, Remuw}
 use Rattle.vcode.specs.declared.place.Operand.{Operand}
@@ -12,7 +11,7 @@ use Rattle.vcode.specs.declared.line.Operation.{Operation}
 use Rattle.vcode.specs.declared.line.Operation.TheVariants.{Reg, RegW, Compare}
 use Rattle.vcode.specs.declared.line.Line.{Line}
 use Rattle.vcode.specs.declared.line.Line.TheVariants.{Set, Operate}
-use Rattle.vcode.specs.Cost.{line_cost}
+use Rattle.vcode.specs.Prelude.{line_cost}
 
 -- ---- operations on two numbers
 

@@ -7,21 +7,10 @@ use Rattle.il_ast.specs.declared.program.InText.{InText}
 use Rattle.il_ast.specs.declared.program.Program.{Program}
 use Rattle.il_ast.specs.declared.value.Callee.TheVariants.{Defined}
 use Rattle.il_ast.specs.declared.value.End.TheVariants.{Undefined, Stack, Turns}
-use Rattle.il_ast.specs.Cost.{need}
-use Rattle.il_ast.specs.Effect.{Call}
-use Rattle.il_ast.specs.Memory.{Memory}
-use Rattle.il_ast.specs.Run.{Outcome, Ended, nothing, one_call, after}
-use Rattle.il_ast.specs.Meaning.{call_fits, call_function, call_named, callees}
-use Rattle.il_ast.specs.Logged.{Logged}
-use Rattle.il_ast.specs.Keeps.{Given, AreArgs, Log, AllGo}
-use Rattle.il_ast.specs.Passes.{classes_of}
-use Rattle.il_ast.specs.Start.{globals_of}
+use Rattle.il_ast.specs.Prelude.{need, Call, Memory, Outcome, Ended, nothing, one_call, after, call_fits, call_function, call_named, callees, Logged, Given, AreArgs, Log, AllGo, classes_of, globals_of}
 use Rattle.vcode.specs.declared.function.VFunc.{VFunc}
-use Rattle.vcode.specs.Coded.{classes_in}
-use Rattle.vcode.specs.InPlace.{GoesSo, HasRoom}
-use Rattle.vcode.specs.Places.{virtual}
+use Rattle.vcode.specs.Prelude.{classes_in, GoesSo, HasRoom, virtual, begin, step}
 use Rattle.vcode.proofs.InPlace.{goes_room}
-use Rattle.vcode.specs.Step.{begin, step}
 use Rattle.inlining.specs.Candidates.{AllGoFrom, AllLater, given_by, GoesAs, IsCandidateOf}
 use Rattle.inlining.proofs.CandidateCalls.{asked_later}
 use Rattle.inlining.proofs.MoreRoom.{room_before, callees_stay}

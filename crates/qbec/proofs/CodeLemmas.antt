@@ -3,9 +3,9 @@ use Rattle.std.proofs.Common.{◌≡◌, ℕ, zero, suc, ◌+◌, ◌*◌, ◌�
 use Rattle.il_ast.specs.declared.function.Func.{Func}
 use Rattle.il_ast.specs.declared.program.InText.{InText}
 use Rattle.il_ast.specs.declared.program.Program.{Program}
-use Rattle.il_ast.specs.Cost.{weight}
-use Rattle.rv_isa.specs.Words.{Words, IsCode}
-use Rattle.obj_link.specs.Shown.{shown}
+use Rattle.il_ast.specs.Prelude.{weight}
+use Rattle.rv_isa.specs.Prelude.{Words, IsCode}
+use Rattle.obj_link.specs.Prelude.{shown}
 use Rattle.qbec.specs.Promoted.{StandPromoted}
 use Rattle.qbec.specs.Codes.{AreWordsIn}
 

@@ -4,8 +4,7 @@ use Rattle.il_ast.specs.declared.program.Program.{Program}
 use Rattle.il_types.specs.declared.checked.Checked.{Checked}
 use Rattle.obj_link.specs.declared.linking.error.LinkError.{LinkError}
 use Rattle.obj_link.specs.declared.linking.error.LinkError.TheVariants.{UnknownName as LinkUnknown, ExportedTwice as LinkTwice, NoMain as LinkNoMain, Limit as LinkLimit, Memory as LinkMemory}
-use Rattle.obj_link.specs.Names.{times_exported, meaning_of, names_of, IsUnknown}
-use Rattle.obj_link.specs.Refusals.{Refuses as LinkRefuses}
+use Rattle.obj_link.specs.Prelude.{times_exported, meaning_of, names_of, IsUnknown, Refuses as LinkRefuses}
 use Rattle.qbec.specs.declared.error.CompileError.{CompileError}
 use Rattle.qbec.specs.declared.error.CompileError.TheVariants.{Syntax, Rule, UnknownName, ExportedTwice, NoMain, Limit, Memory}
 use Rattle.qbec.specs.Texts.{AreTexts, AreProgram}

@@ -14,11 +14,9 @@ use Rattle.il_ast.specs.declared.program.Target.TheVariants.{Code, Object}
 use Rattle.il_ast.specs.declared.value.Cell.{Cell}
 use Rattle.il_ast.specs.declared.value.Cell.TheVariants.{Plain, Part, Blank}
 use Rattle.il_ast.specs.declared.value.Value.{Value}
-use Rattle.il_ast.specs.Start.{globals_of, item_cells, field_cells, object_cells}
-use Rattle.rv_isa.specs.State.{State}
-use Rattle.rv_isa.specs.Start.{stack_top, argument_bytes, pointer_bytes, word_bytes}
-use Rattle.rv_isa.specs.Words.{Words}
-use Rattle.obj_link.specs.Laws.{IsThere}
+use Rattle.il_ast.specs.Prelude.{globals_of, item_cells, field_cells, object_cells}
+use Rattle.rv_isa.specs.Prelude.{State, stack_top, argument_bytes, pointer_bytes, word_bytes, Words}
+use Rattle.obj_link.specs.Prelude.{IsThere}
 use Rattle.elf_file.specs.Loaded.{Executable, byte_in}
 use Rattle.rv_machine.specs.Starts.{Starts}
 use Rattle.flat_code.specs.Spots.{Bases, Entries}

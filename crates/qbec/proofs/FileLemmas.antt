@@ -2,15 +2,10 @@
 use Rattle.std.proofs.Common.{◌≡◌, ℕ, ◌≤◌, List, length, sym, ◌∙◌, subst, IsTrue}
 use Rattle.il_ast.specs.declared.program.Program.{Program}
 use Rattle.il_types.specs.declared.checked.Checked.{Checked}
-use Rattle.rv_isa.specs.Words.{Words}
-use Rattle.obj_link.specs.Image.{Contents, IsImage}
-use Rattle.obj_link.specs.ImageOf.{IsImageOf}
-use Rattle.obj_link.specs.Placed.{contents_of, calls_reach, FitsBelow}
-use Rattle.obj_link.specs.Program.{IsProgram}
+use Rattle.rv_isa.specs.Prelude.{Words, State, word_bytes}
+use Rattle.obj_link.specs.Prelude.{Contents, IsImage, IsImageOf, contents_of, calls_reach, FitsBelow, IsProgram}
 use Rattle.obj_link.proofs.FitLemmas.{program_fits}
 use Rattle.obj_link.proofs.ImagesOf.{is_image_of}
-use Rattle.rv_isa.specs.State.{State}
-use Rattle.rv_isa.specs.Start.{word_bytes}
 use Rattle.elf_file.specs.Conditions.{Loads}
 use Rattle.elf_file.specs.File.{executable_of}
 use Rattle.elf_file.specs.Loaded.{Executable}

@@ -4,7 +4,7 @@ use Rattle.std.specs.List.{concat}
 use Rattle.std.proofs.lemmas.Simd.{map-map}
 use Rattle.il_ast.specs.declared.program.Program.{Program}
 use Rattle.il_types.specs.declared.checked.Checked.{Checked}
-use Rattle.rv_isa.specs.Words.{Words}
+use Rattle.rv_isa.specs.Prelude.{Words}
 use Rattle.qbec.specs.declared.symbols.symbol.Symbol.{Symbol}
 use Rattle.qbec.specs.Listing.{listing_of, symbol_line}
 use Rattle.qbec.specs.Symbols.{entry, symbols_of}

@@ -10,13 +10,9 @@ use Rattle.il_ast.specs.declared.program.Program.{Program}
 use Rattle.il_ast.specs.declared.program.Target.{Target}
 use Rattle.il_ast.specs.declared.program.Target.TheVariants.{Code}
 use Rattle.il_ast.specs.declared.value.Callee.TheVariants.{Defined}
-use Rattle.il_ast.specs.Passes.{Coded, Keeps, IsCodeOf, classes_of}
-use Rattle.il_ast.specs.Start.{globals_of, values_of, target_value}
+use Rattle.il_ast.specs.Prelude.{Coded, Keeps, IsCodeOf, classes_of, globals_of, values_of, target_value}
 use Rattle.vcode.specs.declared.function.VFunc.{VFunc}
-use Rattle.vcode.specs.Coded.{virtual_code}
-use Rattle.vcode.specs.InPlace.{KeepsIn}
-use Rattle.vcode.specs.Places.{virtual}
-use Rattle.vcode.specs.Step.{begin, step}
+use Rattle.vcode.specs.Prelude.{virtual_code, KeepsIn, virtual, begin, step}
 use Rattle.vcode.proofs.InPlace.{runs_stay}
 use Rattle.vcode.proofs.Lists.{one_more}
 use Rattle.inlining.specs.Candidates.{is_candidate}
@@ -28,7 +24,7 @@ use Rattle.qbec.specs.Promoted.{StandPromoted}
 use Rattle.qbec.specs.Candidates.{IsCandidateCode, IsCandidateMeant, AreCandidatesMeant, AreCandidatesAt, AreCandidatesIn}
 use Rattle.qbec.specs.Pipeline.{AreCandidatesOf, IsCodeWith, StandWith, StandWithin}
 use Rattle.promote.specs.Promoted.{IsPromoted}
-use Rattle.rv_isa.specs.Words.{Words}
+use Rattle.rv_isa.specs.Prelude.{Words}
 use Rattle.asm_layout.specs.declared.call.CallForm.{CallForm}
 use Rattle.qbec.proofs.PromotedFunctions.{promoted_at, one_promoted}
 use Rattle.qbec.proofs.CandidateCalls.{candidate_goes}

@@ -1,11 +1,11 @@
 -- Texts, as bytes, are at most one program, and no refusal is true of one.
 use Rattle.std.proofs.Common.{◌≡◌, inl, inr, ℕ, zero, suc, List, [], ◌∷◌, refl, sym, ◌∙◌, ap, subst, arith, slice_get, Some}
 use Rattle.il_ast.specs.declared.program.Program.{Program}
-use Rattle.il_reader.specs.Reads.{Reads}
+use Rattle.il_reader.specs.Prelude.{Reads}
 use Rattle.il_reader.proofs.OneTree.{one_tree}
 use Rattle.il_types.specs.declared.checked.Checked.{Checked}
-use Rattle.il_types.specs.Rules.{broken, within_limits as is_within}
-use Rattle.obj_link.specs.Program.{IsProgram}
+use Rattle.il_types.specs.Prelude.{broken, within_limits as is_within}
+use Rattle.obj_link.specs.Prelude.{IsProgram}
 use Rattle.obj_link.proofs.MainLemmas.{main_is}
 use Rattle.obj_link.proofs.ProgramLemmas.{one_program, unknown_none}
 use Rattle.qbec.specs.declared.error.CompileError.{CompileError}

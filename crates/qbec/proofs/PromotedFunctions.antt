@@ -5,19 +5,14 @@ use Rattle.il_ast.specs.declared.program.InText.{InText}
 use Rattle.il_ast.specs.declared.program.Program.{Program}
 use Rattle.il_ast.specs.declared.program.Target.{Target}
 use Rattle.il_ast.specs.declared.value.Callee.TheVariants.{Defined}
-use Rattle.il_ast.specs.Cost.{weight}
+use Rattle.il_ast.specs.Prelude.{weight}
 use Rattle.phi_copies.specs.Good.{IsGoodFunction}
-use Rattle.rv_isa.specs.Words.{Words}
-use Rattle.rv_isa.specs.Laid.{filled, all_reach}
+use Rattle.rv_isa.specs.Prelude.{Words, filled, all_reach}
 use Rattle.obj_link.specs.declared.placing.addresses.Addresses.{Addresses}
-use Rattle.obj_link.specs.Laws.{IsThere}
-use Rattle.obj_link.specs.Image.{functions_start}
-use Rattle.obj_link.specs.Natives.{start_words, write_words, exit_words}
-use Rattle.obj_link.specs.Placed.{name_address, functions_words, functions_reach, addresses_of, contents_of, calls_reach}
-use Rattle.obj_link.specs.ImageOf.{callee_address}
+use Rattle.obj_link.specs.Prelude.{IsThere, functions_start, start_words, write_words, exit_words, name_address, functions_words, functions_reach, addresses_of, contents_of, calls_reach, callee_address}
 use Rattle.promote.specs.Uses.{mentions_of, width_in}
 use Rattle.promote.specs.Promoted.{IsPromoted, promoted_block}
-use Rattle.il_reader.specs.Definitions.{FunctionParts, function_parts}
+use Rattle.il_reader.specs.Prelude.{FunctionParts, function_parts}
 use Rattle.il_reader.proofs.OneTree.{function_same}
 use Rattle.promote.specs.Programs.{ArePromoted, IsProgramPromoted}
 use Rattle.promote.proofs.Respect.{all_respected}

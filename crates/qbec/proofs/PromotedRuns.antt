@@ -3,12 +3,9 @@ use Rattle.std.proofs.Common.{◌≡◌, ◌⊎◌, inl, inr, ℕ, ◌≤◌, Li
 use Rattle.il_ast.specs.declared.program.Program.{Program}
 use Rattle.il_ast.specs.declared.value.End.{End}
 use Rattle.il_ast.specs.declared.value.End.TheVariants.{Exit, Halt, Undefined, Stack, Turns}
-use Rattle.il_ast.specs.Run.{Spent, Outcome, Returned, Ended, price}
-use Rattle.il_ast.specs.Laws.{IsFailure}
-use Rattle.il_ast.specs.Meaning.{Behaviour, outcome, meaning, behaviour_of, spent_of}
+use Rattle.il_ast.specs.Prelude.{Spent, Outcome, Returned, Ended, price, IsFailure, Behaviour, outcome, meaning, behaviour_of, spent_of}
 use Rattle.il_ast.proofs.Pacing.{output_comes_first}
-use Rattle.rv_isa.specs.State.{State}
-use Rattle.rv_isa.specs.Step.{Stop, Exited, Broken}
+use Rattle.rv_isa.specs.Prelude.{State, Stop, Exited, Broken}
 use Rattle.promote.specs.Programs.{SameOutcome}
 use Rattle.headline.specs.Headline.{StopsSo, GoesOnSo, PutsOut, Executes}
 use Rattle.headline.proofs.Executed.{put_out_before}

@@ -6,9 +6,7 @@ use Rattle.il_ast.specs.declared.function.Func.{Func}
 use Rattle.il_ast.specs.declared.program.InText.{InText}
 use Rattle.il_ast.specs.declared.program.Program.{Program}
 use Rattle.il_ast.specs.declared.program.Target.{Target}
-use Rattle.rv_isa.specs.Laid.{all_reach}
-use Rattle.rv_isa.specs.Relocations.{named, reaches}
-use Rattle.rv_isa.specs.Words.{Words}
+use Rattle.rv_isa.specs.Prelude.{all_reach, named, reaches, Words}
 use Rattle.rv_isa.specs.declared.code.Hole.{Hole}
 use Rattle.rv_isa.specs.declared.relocation.Filling.{Filling}
 use Rattle.rv_isa.specs.declared.relocation.Filling.TheVariants.{Part, Call}
@@ -16,8 +14,7 @@ use Rattle.asm_layout.specs.Forms.{is_part, HaveForm}
 use Rattle.asm_layout.specs.declared.call.CallForm.{CallForm}
 use Rattle.asm_layout.specs.declared.call.CallForm.TheVariants.{Far}
 use Rattle.obj_link.specs.declared.placing.addresses.Addresses.{Addresses}
-use Rattle.obj_link.specs.Image.{functions_start}
-use Rattle.obj_link.specs.Placed.{name_address, functions_reach, addresses_of, calls_reach}
+use Rattle.obj_link.specs.Prelude.{functions_start, name_address, functions_reach, addresses_of, calls_reach}
 use Rattle.qbec.specs.Codes.{AllHaveForm}
 
 pub one_more_form : (form : CallForm) (codes : List Words) (c : Words) → AllHaveForm form codes → HaveForm form c.holes → AllHaveForm form (codes ++ c ∷ [])

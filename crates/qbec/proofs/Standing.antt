@@ -3,15 +3,13 @@ use Rattle.std.proofs.Common.{◌+◌, ◌*◌, ◌≤◌, List, [], length, Opt
 use Rattle.il_ast.specs.declared.function.Func.{Func}
 use Rattle.il_ast.specs.declared.program.InText.{InText}
 use Rattle.il_ast.specs.declared.program.Program.{Program}
-use Rattle.il_ast.specs.Cost.{need, weight}
-use Rattle.il_ast.specs.Passes.{IsCodeOf}
+use Rattle.il_ast.specs.Prelude.{need, weight, IsCodeOf}
 use Rattle.vcode.specs.declared.function.LFunc.{LFunc}
 use Rattle.vcode.specs.declared.function.VFunc.{VFunc}
-use Rattle.vcode.specs.Coded.{location_code}
-use Rattle.vcode.specs.Regular.{code_weight}
+use Rattle.vcode.specs.Prelude.{location_code, code_weight}
 use Rattle.flat_code.specs.Laws.{FlatKept}
 use Rattle.abi_frames.specs.Layout.{frame_bound}
-use Rattle.rv_isa.specs.Words.{Words}
+use Rattle.rv_isa.specs.Prelude.{Words}
 use Rattle.asm_layout.specs.declared.call.CallForm.{CallForm}
 use Rattle.headline.specs.Functions.{IsCodeIn}
 use Rattle.headline.specs.Compiled.{StandIn}

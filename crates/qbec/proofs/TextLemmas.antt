@@ -3,15 +3,13 @@ use Rattle.std.proofs.Common.{◌≡◌, inl, ℕ, zero, suc, ◌+◌, ◌<◌, 
 use Rattle.std.proofs.lemmas.Option.{slice_get-get_or}
 use Rattle.std.proofs.Props.{props}
 use Rattle.il_ast.specs.declared.text.Text.{Text}
-use Rattle.il_reader.specs.Reads.{Reads}
+use Rattle.il_reader.specs.Prelude.{Reads, NamesLine}
 use Rattle.il_reader.specs.declared.error.ReadError.TheVariants.{Syntax as NotRead, Memory as ReadMemory}
 use Rattle.il_types.specs.declared.checked.Checked.{Checked}
 use Rattle.il_types.specs.declared.error.CheckError.TheVariants.{Rule as Broken, Limit as Passed, Memory as CheckMemory}
 use Rattle.il_types.specs.declared.error.CheckError.{CheckError}
-use Rattle.il_types.specs.Refusals.{Refuses as RefusesTree}
+use Rattle.il_types.specs.Prelude.{Refuses as RefusesTree, IsGood}
 use Rattle.il_reader.specs.declared.error.ReadError.{ReadError}
-use Rattle.il_reader.specs.Answers.{NamesLine}
-use Rattle.il_types.specs.Rules.{IsGood}
 use Rattle.qbec.specs.declared.error.CompileError.{CompileError}
 use Rattle.qbec.specs.declared.error.CompileError.TheVariants.{Syntax, Rule, UnknownName, ExportedTwice, NoMain, Limit, Memory}
 use Rattle.qbec.specs.Texts.{AreTexts}

@@ -8,7 +8,7 @@ use Rattle.il_ast.specs.declared.program.Target.{Target}
 use Rattle.il_ast.specs.declared.program.Target.TheVariants.{Code}
 use Rattle.il_ast.specs.declared.value.Callee.TheVariants.{Defined}
 use Rattle.vcode.specs.declared.function.VFunc.{VFunc}
-use Rattle.vcode.specs.Coded.{virtual_code}
+use Rattle.vcode.specs.Prelude.{virtual_code}
 use Rattle.inlining.specs.Candidates.{is_candidate}
 use Rattle.promote.specs.Promoted.{IsPromoted}
 use Rattle.promote.specs.Programs.{IsProgramPromoted}

@@ -5,10 +5,10 @@ use Rattle.il_ast.specs.declared.function.Func.{Func}
 use Rattle.il_ast.specs.declared.program.InText.{InText}
 use Rattle.il_ast.specs.declared.program.Program.{Program}
 use Rattle.phi_copies.specs.Good.{IsGoodFunction}
-use Rattle.rv_isa.specs.Words.{Words}
+use Rattle.rv_isa.specs.Prelude.{Words}
 use Rattle.asm_layout.specs.Forms.{HaveForm}
 use Rattle.asm_layout.specs.declared.call.CallForm.{CallForm}
-use Rattle.obj_link.specs.Placed.{AreCodes, EveryCode}
+use Rattle.obj_link.specs.Prelude.{AreCodes, EveryCode}
 use Rattle.qbec.specs.Promoted.{EachPromoted}
 
 -- each can be lowered

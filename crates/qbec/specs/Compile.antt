@@ -2,10 +2,8 @@
 use Rattle.std.specs.Prelude.{◌≤◌, ℕ, List, length}
 use Rattle.il_ast.specs.declared.limits.TheConstants.{WORDS, WORD_BYTES}
 use Rattle.il_ast.specs.declared.program.Program.{Program}
-use Rattle.rv_isa.specs.State.{State}
-use Rattle.rv_isa.specs.Start.{word_bytes}
-use Rattle.obj_link.specs.Image.{Contents}
-use Rattle.obj_link.specs.ImageOf.{IsImageOf}
+use Rattle.rv_isa.specs.Prelude.{State, word_bytes}
+use Rattle.obj_link.specs.Prelude.{Contents, IsImageOf}
 use Rattle.elf_file.specs.Conditions.{Loads}
 use Rattle.elf_file.specs.Loaded.{Executable}
 use Rattle.elf_file.specs.Stands.{Stands}

@@ -1,7 +1,7 @@
 -- The laws of programs as bytes.
 use Rattle.std.specs.Prelude.{◌≡◌, ℕ, ◌<◌, ◌^◌, Bool, true, List, Some}
 use Rattle.il_ast.specs.declared.program.Program.{Program}
-use Rattle.obj_link.specs.Arguments.{are_arguments}
+use Rattle.obj_link.specs.Prelude.{are_arguments}
 use Rattle.elf_file.specs.Conditions.{Loads}
 use Rattle.elf_file.specs.Loaded.{Executable, IsExecutable, byte_in}
 use Rattle.rv_machine.specs.Runs.{RunEnds}

@@ -3,9 +3,8 @@ use Rattle.std.specs.Prelude.{◌≡◌, ℕ, ◌++◌, Bool, true, false, List,
 use Rattle.std.specs.List.{concat}
 use Rattle.il_ast.specs.declared.program.Program.{Program}
 use Rattle.il_types.specs.declared.checked.Checked.{Checked}
-use Rattle.rv_isa.specs.Words.{Words}
-use Rattle.obj_link.specs.Placed.{contents_of}
-use Rattle.obj_link.specs.Program.{IsProgram}
+use Rattle.rv_isa.specs.Prelude.{Words}
+use Rattle.obj_link.specs.Prelude.{contents_of, IsProgram}
 use Rattle.elf_file.specs.Conditions.{Loads}
 use Rattle.elf_file.specs.File.{executable_of}
 use Rattle.shell.specs.Digits.{sixteen_digits}

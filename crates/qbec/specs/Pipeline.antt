@@ -5,18 +5,14 @@ use Rattle.il_ast.specs.declared.program.InText.{InText}
 use Rattle.il_ast.specs.declared.program.Program.{Program}
 use Rattle.il_ast.specs.declared.value.Callee.TheVariants.{Defined}
 use Rattle.il_ast.specs.declared.value.Value.TheVariants.{Function}
-use Rattle.il_ast.specs.Cost.{weight}
-use Rattle.il_ast.specs.Passes.{Coded}
-use Rattle.il_ast.specs.Start.{globals_of}
+use Rattle.il_ast.specs.Prelude.{weight, Coded, globals_of}
 use Rattle.vcode.specs.declared.function.LFunc.{LFunc}
 use Rattle.vcode.specs.declared.function.VFunc.{VFunc}
-use Rattle.vcode.specs.Coded.{virtual_code}
-use Rattle.vcode.specs.Regular.{code_weight}
+use Rattle.vcode.specs.Prelude.{virtual_code, code_weight}
 use Rattle.inlining.specs.Candidates.{is_candidate}
 use Rattle.abi_frames.specs.Frames.{IsFrameOf}
 use Rattle.rv_isa.specs.declared.labelled.Item.{Item}
-use Rattle.rv_isa.specs.Laid.{LaysOut}
-use Rattle.rv_isa.specs.Words.{Words}
+use Rattle.rv_isa.specs.Prelude.{LaysOut, Words}
 use Rattle.asm_layout.specs.Forms.{HaveForm}
 use Rattle.asm_layout.specs.declared.call.CallForm.{CallForm}
 use Rattle.headline.specs.Functions.{IsCodeIn}

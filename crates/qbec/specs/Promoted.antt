@@ -4,7 +4,7 @@ use Rattle.std.specs.Prelude.{List, [], ◌∷◌}
 use Rattle.il_ast.specs.declared.function.Func.{Func}
 use Rattle.il_ast.specs.declared.program.InText.{InText}
 use Rattle.il_ast.specs.declared.program.Program.{Program}
-use Rattle.rv_isa.specs.Words.{Words}
+use Rattle.rv_isa.specs.Prelude.{Words}
 use Rattle.promote.specs.Promoted.{IsPromoted}
 use Rattle.promote.specs.Programs.{IsProgramPromoted}
 use Rattle.headline.specs.Compiled.{StandIn}

@@ -2,13 +2,11 @@
 use Rattle.std.specs.Prelude.{◌≡◌, ◌⊎◌, ◌<◌, ◌≤◌, ℕ, ◌+◌, false, List, Some, slice_get}
 use Rattle.il_ast.specs.declared.text.Text.{Text}
 use Rattle.il_lex.specs.Line.{lines_in}
-use Rattle.il_reader.specs.Reads.{Reads}
+use Rattle.il_reader.specs.Prelude.{Reads}
 use Rattle.il_types.specs.declared.checked.Checked.{Checked}
 use Rattle.il_types.specs.declared.rule.BrokenRule.{BrokenRule}
-use Rattle.il_types.specs.Rules.{broken, within_limits as is_within}
-use Rattle.obj_link.specs.Names.{times_exported, meaning_of, names_of, functions_of, objects_of, IsUnknown}
-use Rattle.obj_link.specs.Main.{ExportsMain}
-use Rattle.obj_link.specs.Limits.{within_limits}
+use Rattle.il_types.specs.Prelude.{broken, within_limits as is_within}
+use Rattle.obj_link.specs.Prelude.{times_exported, meaning_of, names_of, functions_of, objects_of, IsUnknown, ExportsMain, within_limits}
 use Rattle.qbec.specs.declared.error.CompileError.{CompileError}
 use Rattle.qbec.specs.declared.error.CompileError.TheVariants.{Syntax, Rule, UnknownName, ExportedTwice, NoMain, Limit, Memory}
 use Rattle.qbec.specs.Texts.{AreTexts}

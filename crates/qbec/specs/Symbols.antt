@@ -5,10 +5,8 @@ use Rattle.il_ast.specs.declared.function.Func.{Func}
 use Rattle.il_ast.specs.declared.program.InText.{InText}
 use Rattle.il_ast.specs.declared.program.Program.{Program}
 use Rattle.il_types.specs.declared.checked.Checked.{Checked}
-use Rattle.obj_link.specs.Limits.{object_size}
-use Rattle.obj_link.specs.Names.{symbol_name}
-use Rattle.obj_link.specs.Placed.{addresses_of}
-use Rattle.rv_isa.specs.Words.{Words}
+use Rattle.obj_link.specs.Prelude.{object_size, symbol_name, addresses_of}
+use Rattle.rv_isa.specs.Prelude.{Words}
 use Rattle.qbec.specs.declared.symbols.symbol.Kind.{Kind}
 use Rattle.qbec.specs.declared.symbols.symbol.Kind.TheVariants.{Function, Object}
 use Rattle.qbec.specs.declared.symbols.symbol.Symbol.{Symbol}

@@ -1,9 +1,9 @@
 -- Texts, read and checked, and the program that they are.
 use Rattle.std.specs.Prelude.{ℕ, List, [], ◌∷◌}
 use Rattle.il_ast.specs.declared.program.Program.{Program}
-use Rattle.il_reader.specs.Reads.{Reads}
+use Rattle.il_reader.specs.Prelude.{Reads}
 use Rattle.il_types.specs.declared.checked.Checked.{Checked}
-use Rattle.obj_link.specs.Program.{IsProgram}
+use Rattle.obj_link.specs.Prelude.{IsProgram}
 
 -- each text is in the grammar, and its tree keeps the rules and the limits of one text
 abbrev pub AreTexts : List (List ℕ) → List Checked → Type 0

@@ -3,7 +3,7 @@ ghost use Rattle.std.specs.Prelude.{◌≡◌, IfOk, IfSome, Some, map, slice_ge
 ghost use Rattle.il_ast.specs.declared.program.Program.{Program};
 ghost use Rattle.il_ast.specs.declared.program.Target.TheVariants.{Code};
 ghost use Rattle.il_ast.specs.declared.value.Callee.TheVariants.{Defined};
-ghost use Rattle.obj_link.specs.ProgramOf.{program};
+ghost use Rattle.obj_link.specs.Prelude.{program};
 ghost use Rattle.qbec.specs.Codes.{AreGood};
 ghost use Rattle.qbec.specs.Candidates.{AreCandidatesAt, AreCandidatesIn, AreCandidatesMeant, IsCandidateMeant};
 

@@ -1,16 +1,13 @@
 //! The words of all functions of a program.
 ghost use Rattle.std.specs.Prelude.{◌≡◌, ◌++◌, ◌∷◌, ◌+◌, ◌*◌, ◌≤◌, [], IsTrue, IfOk, OnOk, length, map};
 ghost use Rattle.il_ast.specs.declared.program.Program.{Program};
-ghost use Rattle.il_ast.specs.Cost.{weight};
+ghost use Rattle.il_ast.specs.Prelude.{weight};
 ghost use Rattle.phi_copies.specs.Good.{IsGoodFunction};
-ghost use Rattle.obj_link.specs.Shown.{shown};
+ghost use Rattle.obj_link.specs.Prelude.{shown, calls_reach, IsProgram, program};
 ghost use Rattle.qbec.specs.Candidates.{AreCandidatesIn};
 ghost use Rattle.qbec.specs.Promoted.{StandPromoted};
 ghost use Rattle.asm_layout.specs.Forms.{HaveForm};
-ghost use Rattle.obj_link.specs.Placed.{calls_reach};
-ghost use Rattle.obj_link.specs.Program.{IsProgram};
-ghost use Rattle.obj_link.specs.ProgramOf.{program};
-ghost use Rattle.rv_isa.specs.Words.{IsCode};
+ghost use Rattle.rv_isa.specs.Prelude.{IsCode};
 ghost use Rattle.qbec.specs.Codes.{AllHaveForm, AreGood, AreWords, AreWordsIn};
 
 use crate::candidates::{candidates_in, candidates_of};

@@ -1,9 +1,7 @@
 //! From texts to an executable file.
 ghost use Rattle.std.specs.Prelude.{◌≡◌, IsTrue, IfOk, IfErr, map, MatchResult};
 ghost use Rattle.il_ast.specs.declared.program.Program.{Program};
-ghost use Rattle.obj_link.specs.ProgramOf.{program};
-ghost use Rattle.obj_link.specs.Program.{IsProgram};
-ghost use Rattle.obj_link.specs.Placed.{calls_reach, contents_of};
+ghost use Rattle.obj_link.specs.Prelude.{program, IsProgram, calls_reach, contents_of};
 ghost use Rattle.elf_file.specs.Conditions.{Loads};
 ghost use Rattle.elf_file.specs.File.{executable_of};
 ghost use Rattle.qbec.specs.declared.error.CompileError.TheVariants.{Memory};

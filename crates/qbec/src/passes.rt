@@ -1,7 +1,7 @@
 //! The passes on virtual code, in the order in which they go over each function. This table is the only one: whoever shows or tries what the compiler does takes it.
 ghost use Rattle.std.specs.Prelude.{IfOk, IfSome};
-ghost use Rattle.il_ast.specs.Passes.{Keeps};
-ghost use Rattle.vcode.specs.Coded.{virtual_code};
+ghost use Rattle.il_ast.specs.Prelude.{Keeps};
+ghost use Rattle.vcode.specs.Prelude.{virtual_code};
 
 use block_layout::placement::order::place_blocks;
 use block_layout::tails::copy::{duplicate_tails, thread_jumps};

@@ -1,18 +1,14 @@
 //! The words of one function.
 ghost use Rattle.std.specs.Prelude.{◌≡◌, true, false, ◌+◌, ◌*◌, ◌≤◌, [], IsTrue, IfOk, IfSome, length};
-ghost use Rattle.alloc_check.specs.Accepted.{is_accepted};
-ghost use Rattle.alloc_check.specs.Certified.{placed_by};
-ghost use Rattle.alloc_check.specs.Placed.{in_slots};
-ghost use Rattle.il_ast.specs.Cost.{need, weight};
+ghost use Rattle.alloc_check.specs.Prelude.{is_accepted, placed_by, in_slots};
+ghost use Rattle.il_ast.specs.Prelude.{need, weight, Keeps, IsCodeOf};
 ghost use Rattle.il_ast.specs.declared.function.Func.{Func as PromotedFunc};
-ghost use Rattle.il_ast.specs.Passes.{Keeps, IsCodeOf};
 ghost use Rattle.phi_copies.specs.Good.{IsGoodFunction};
 ghost use Rattle.abi_frames.specs.Layout.{frame_bound};
 ghost use Rattle.asm_layout.specs.Forms.{HaveForm};
 ghost use Rattle.flat_code.specs.Laws.{FlatKept};
 ghost use Rattle.inlining.specs.Candidates.{is_candidate};
-ghost use Rattle.vcode.specs.Regular.{code_weight};
-ghost use Rattle.vcode.specs.Coded.{virtual_code, location_code};
+ghost use Rattle.vcode.specs.Prelude.{code_weight, virtual_code, location_code};
 ghost use Rattle.promote.specs.Promoted.{IsPromoted};
 ghost use Rattle.qbec.specs.Candidates.{IsCandidateCode};
 ghost use Rattle.qbec.specs.Pipeline.{IsCodeWith, IsLaidOut, StandWith, StandWithin};

@@ -1,6 +1,6 @@
 //! Texts, read and checked.
 ghost use Rattle.std.specs.Prelude.{◌≡◌, ◌++◌, ◌∷◌, [], IfOk, IfErr, OnOk, List, map, MatchResult};
-ghost use Rattle.il_reader.specs.Reads.{Reads};
+ghost use Rattle.il_reader.specs.Prelude.{Reads};
 ghost use Rattle.il_types.specs.declared.checked.Checked.{Checked as CheckedText};
 ghost use Rattle.qbec.specs.declared.error.CompileError.TheVariants.{Memory};
 ghost use Rattle.qbec.specs.Texts.{AreTexts};

@@ -5,7 +5,7 @@ use Rattle.std.proofs.lemmas.Bool.{and_parts, and_from}
 use Rattle.std.proofs.lemmas.Bool.Decides.{nat_tests}
 use Rattle.std.proofs.lemmas.List.Folds.{list_all-append}
 use Rattle.vcode.specs.declared.place.Location.TheVariants.{Slot}
-use Rattle.vcode.specs.Named.{is_place}
+use Rattle.vcode.specs.Prelude.{is_place}
 use Rattle.certificates.specs.Listed.{slots}
 
 -- one element is changed

@@ -2,7 +2,7 @@
 //! and Sarkar, 1999, and Chow and Hennessy, 1990).
 ghost use Rattle.std.specs.Prelude.{◌≡◌, ◌<◌, true, length, IfOk, IfSome};
 ghost use Rattle.std.specs.List.{list_all};
-ghost use Rattle.vcode.specs.Named.{is_place};
+ghost use Rattle.vcode.specs.Prelude.{is_place};
 ghost use Rattle.regalloc.specs.Scanned.{IsScanned};
 
 use crate::bare_ways::keep_bare;

@@ -2,7 +2,7 @@
 //! begin.
 ghost use Rattle.std.specs.Prelude.{◌≡◌, true, IfOk};
 ghost use Rattle.std.specs.List.{list_all};
-ghost use Rattle.vcode.specs.Named.{is_place};
+ghost use Rattle.vcode.specs.Prelude.{is_place};
 ghost use Rattle.regalloc.specs.Scanned.{IsScanned};
 
 use crate::intervals::facts::Facts;

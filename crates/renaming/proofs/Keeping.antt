@@ -9,11 +9,7 @@ use Rattle.vcode.specs.declared.line.Line.{Line}
 use Rattle.vcode.specs.declared.line.Line.TheVariants.{Tick, Set, Operate, Load, Store, Alloc, Blit, Call}
 use Rattle.vcode.specs.declared.code.Block.{Block}
 use Rattle.vcode.specs.declared.function.VFunc.{VFunc}
-use Rattle.vcode.specs.Cost.{line_cost, jump_cost}
-use Rattle.vcode.specs.Named.{operand_keeps, line_keeps, jump_keeps, is_below}
-use Rattle.vcode.specs.Regular.{leads_inside}
-use Rattle.vcode.specs.Replaced.{with_line}
-use Rattle.vcode.specs.Writes.{line_writes}
+use Rattle.vcode.specs.Prelude.{line_cost, jump_cost, operand_keeps, line_keeps, jump_keeps, is_below, leads_inside, with_line, line_writes}
 use Rattle.vcode.proofs.Replacing.{measure_stays, Costs, line_cost_same, jump_cost_same, Low, line_low, jump_low, inside_same}
 use Rattle.vcode.proofs.Measuring.{no_more, measure, Measured, Empty, Put, within, Each, NoBlocks, OneMore}
 use Rattle.vcode.proofs.Results.{Serves, Owed, owed_each}

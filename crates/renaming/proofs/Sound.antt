@@ -5,7 +5,7 @@ use Rattle.std.proofs.lemmas.Bool.{and_parts, and_from, eqb-true}
 use Rattle.std.proofs.lemmas.Bool.Decides.{nat_tests}
 use Rattle.il_ast.proofs.Truth.{equals_itself}
 use Rattle.vcode.specs.declared.line.Line.{Line}
-use Rattle.vcode.specs.Writes.{line_writes}
+use Rattle.vcode.specs.Prelude.{line_writes}
 use Rattle.renaming.specs.declared.plan.Renamed.{Renamed}
 use Rattle.renaming.specs.Renamed.{Owners, Names, is_plain, total, owner, is_name, plain_names, called, all_called, behind, are_names, IsRenamed, AreRenamed, NoLines, OneMore}
 

@@ -13,8 +13,7 @@ use Rattle.vcode.specs.declared.line.Line.TheVariants.{Tick, Set, Operate, Load,
 use Rattle.vcode.specs.declared.line.Jump.{Jump}
 use Rattle.vcode.specs.declared.line.Jump.TheVariants.{Goto, Branch, Return, Halt}
 use Rattle.vcode.specs.declared.code.Block.{Block}
-use Rattle.vcode.specs.Replaced.{with_line, with_jump}
-use Rattle.vcode.specs.Writes.{line_writes}
+use Rattle.vcode.specs.Prelude.{with_line, with_jump, line_writes}
 use Rattle.renaming.specs.declared.plan.Renamed.{Renamed}
 
 -- ---- which names a register may have

@@ -1,6 +1,6 @@
 //! Blocks whose registers have other names.
 ghost use Rattle.std.specs.Prelude.{◌≡◌, true, Some, IfOk, OnOk, IfSome};
-ghost use Rattle.vcode.specs.Writes.{line_writes};
+ghost use Rattle.vcode.specs.Prelude.{line_writes};
 ghost use Rattle.renaming.specs.Renamed.{reads_named, with_destination, IsRenamed, AreRenamed, IsEnded, IsRenamedBlock, AllRenamed, start_at, jump_meets};
 ghost use Rattle.renaming.specs.Named.{owners_of, names_of};
 

@@ -1,8 +1,8 @@
 //! Functions whose registers have other names.
 ghost use Rattle.std.specs.Prelude.{◌≡◌, ◌<◌, ◌≤◌, ◌+◌, length, IfOk, IfSome};
 ghost use Rattle.vcode.specs.declared.limits.TheConstants.{PLACES};
-ghost use Rattle.il_ast.specs.Passes.{Keeps};
-ghost use Rattle.vcode.specs.Coded.{virtual_code};
+ghost use Rattle.il_ast.specs.Prelude.{Keeps};
+ghost use Rattle.vcode.specs.Prelude.{virtual_code};
 ghost use Rattle.renaming.specs.Renamed.{keep_names};
 ghost use Rattle.renaming.specs.Named.{owners_of};
 

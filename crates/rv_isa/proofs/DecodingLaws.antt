@@ -1,13 +1,9 @@
 -- `instruction_of` is the inverse of the encoding table: it gives i for the word of i, and i only for that word.
 use Rattle.std.proofs.Common.{◌≡◌, ℕ, ◌+◌, ◌*◌, ◌^◌, ◌<◌, Bool, true, false, arith, refl, ap, sym, ◌∙◌, lit<, eq-eqb, eqb-true, ne_eqb, Some, None, ◌==◌, ◌↔◌, if◌then◌else◌}
-use Rattle.rv_isa.specs.Formats.{part, low_bits}
-use Rattle.rv_isa.specs.Encoding.{word, branch_row, load_row, store_row, imm_row, shift_row, shiftw_row, reg_row, regw_row}
-use Rattle.rv_isa.specs.Decoding.{candidate, instruction_of}
+use Rattle.rv_isa.specs.Prelude.{part, low_bits, word, branch_row, load_row, store_row, imm_row, shift_row, shiftw_row, reg_row, regw_row, candidate, instruction_of, Instr, Lui, Auipc, Jal, Jalr, Branch, Load, Store, Imm, Addiw, Shift, ShiftW, Reg, RegW, Fence, Ecall, Ebreak}
 use Rattle.rv_isa.proofs.RowRanges.{branch_row_fits, load_row_fits, store_row_fits, imm_row_fits, shift_row_fits, shiftw_row_fits, reg_row_fits, regw_row_fits}
 use Rattle.rv_isa.proofs.FieldLemmas.{reads_joined}
 use Rattle.rv_isa.proofs.DecodingLemmas.{lui_back, auipc_back, jal_back, jalr_back, branch_back, load_back, store_back, imm_back, addiw_back, shift_back, shiftw_back, reg_back, regw_back, fence_back, ecall_back, ebreak_back, low_bits_13_below, low_bits_21_below}
-use Rattle.rv_isa.specs.declared.instruction.Instr.{Instr}
-use Rattle.rv_isa.specs.declared.instruction.Instr.TheVariants.{Lui, Auipc, Jal, Jalr, Branch, Load, Store, Imm, Addiw, Shift, ShiftW, Reg, RegW, Fence, Ecall, Ebreak}
 
 -- ---- `candidate` gives every instruction back
 

@@ -2,35 +2,9 @@
 use Rattle.std.proofs.Common.{◌≡◌, ℕ, ◌+◌, ◌*◌, ◌/◌, ◌%◌, ◌^◌, ◌<◌, arith, refl, ap, pos, negsuc, ◌∙◌, ℤ, ◌≤ℤ◌, ◌<ℤ◌, unsigned_abs}
 use Rattle.std.proofs.lemmas.Int.{ints}
 use Rattle.bits.specs.Words.{Fits12}
-use Rattle.rv_isa.specs.Formats.{part, low_bits, signed}
-use Rattle.rv_isa.specs.Encoding.{word, branch_row, load_row, store_row, imm_row, shift_row, shiftw_row, reg_row, regw_row}
-use Rattle.rv_isa.specs.Decoding.{rd_of, rs1_of, rs2_of, s_bits, b_half, j_half, op_imm, op_imm_32, i_immediate, s_immediate, b_offset, j_offset, upper_of, amount_of, word_amount_of, branch_op, load_op, store_op, right_shift_op, right_shiftw_op, reg_op, regw_op, candidate, candidate_at}
+use Rattle.rv_isa.specs.Prelude.{part, low_bits, signed, word, branch_row, load_row, store_row, imm_row, shift_row, shiftw_row, reg_row, regw_row, rd_of, rs1_of, rs2_of, s_bits, b_half, j_half, op_imm, op_imm_32, i_immediate, s_immediate, b_offset, j_offset, upper_of, amount_of, word_amount_of, branch_op, load_op, store_op, right_shift_op, right_shiftw_op, reg_op, regw_op, candidate, candidate_at, Register, Immediate, BranchOffset, JumpOffset, UpperField, Amount, WordAmount, Lui, Auipc, Jal, Jalr, Branch, Load, Store, Imm, Addiw, Shift, ShiftW, Reg, RegW, Fence, Ecall, Ebreak, BranchOp, Beq, Bne, Blt, Bge, Bltu, Bgeu, LoadOp, Lb, Lh, Lw, Ld, Lbu, Lhu, Lwu, StoreOp, Sb, Sh, Sw, Sd, ImmOp, Addi, Slti, Sltiu, Xori, Ori, Andi, ShiftOp, Slli, Srli, Srai, ShiftWOp, Slliw, Srliw, Sraiw, RegOp, Add, Sub, Sll, Slt, Sltu, Xor, Srl, Sra, Or, And, Mul, Mulh, Mulhsu, Mulhu, Div, Divu, Rem, Remu, RegWOp, Addw, Subw, Sllw, Srlw, Sraw, Mulw, Divw, Divuw, Remw, Remuw}
 use Rattle.rv_isa.proofs.FieldLemmas.{Reads}
 use Rattle.rv_isa.proofs.Same.{same_register, same_immediate, same_upper, same_amount, same_word_amount, same_branch_offset, same_jump_offset}
-use Rattle.rv_isa.specs.declared.ranges.Register.{Register}
-use Rattle.rv_isa.specs.declared.ranges.Immediate.{Immediate}
-use Rattle.rv_isa.specs.declared.ranges.BranchOffset.{BranchOffset}
-use Rattle.rv_isa.specs.declared.ranges.JumpOffset.{JumpOffset}
-use Rattle.rv_isa.specs.declared.ranges.UpperField.{UpperField}
-use Rattle.rv_isa.specs.declared.ranges.Amount.{Amount}
-use Rattle.rv_isa.specs.declared.ranges.WordAmount.{WordAmount}
-use Rattle.rv_isa.specs.declared.instruction.Instr.TheVariants.{Lui, Auipc, Jal, Jalr, Branch, Load, Store, Imm, Addiw, Shift, ShiftW, Reg, RegW, Fence, Ecall, Ebreak}
-use Rattle.rv_isa.specs.declared.instruction.BranchOp.{BranchOp}
-use Rattle.rv_isa.specs.declared.instruction.BranchOp.TheVariants.{Beq, Bne, Blt, Bge, Bltu, Bgeu}
-use Rattle.rv_isa.specs.declared.instruction.LoadOp.{LoadOp}
-use Rattle.rv_isa.specs.declared.instruction.LoadOp.TheVariants.{Lb, Lh, Lw, Ld, Lbu, Lhu, Lwu}
-use Rattle.rv_isa.specs.declared.instruction.StoreOp.{StoreOp}
-use Rattle.rv_isa.specs.declared.instruction.StoreOp.TheVariants.{Sb, Sh, Sw, Sd}
-use Rattle.rv_isa.specs.declared.instruction.ImmOp.{ImmOp}
-use Rattle.rv_isa.specs.declared.instruction.ImmOp.TheVariants.{Addi, Slti, Sltiu, Xori, Ori, Andi}
-use Rattle.rv_isa.specs.declared.instruction.ShiftOp.{ShiftOp}
-use Rattle.rv_isa.specs.declared.instruction.ShiftOp.TheVariants.{Slli, Srli, Srai}
-use Rattle.rv_isa.specs.declared.instruction.ShiftWOp.{ShiftWOp}
-use Rattle.rv_isa.specs.declared.instruction.ShiftWOp.TheVariants.{Slliw, Srliw, Sraiw}
-use Rattle.rv_isa.specs.declared.instruction.RegOp.{RegOp}
-use Rattle.rv_isa.specs.declared.instruction.RegOp.TheVariants.{Add, Sub, Sll, Slt, Sltu, Xor, Srl, Sra, Or, And, Mul, Mulh, Mulhsu, Mulhu, Div, Divu, Rem, Remu}
-use Rattle.rv_isa.specs.declared.instruction.RegWOp.{RegWOp}
-use Rattle.rv_isa.specs.declared.instruction.RegWOp.TheVariants.{Addw, Subw, Sllw, Srlw, Sraw, Mulw, Divw, Divuw, Remw, Remuw}
 
 pub lui_back : (w : ℕ) (rd : Register) (field : UpperField)
     → Reads w 0x37 rd.number (part field.value 2 0) (part field.value 7 3) (part field.value 12 8) (part field.value 19 13)

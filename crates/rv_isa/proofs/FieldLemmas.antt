@@ -1,6 +1,6 @@
 -- What is read from a word that was joined from six fields.
 use Rattle.std.proofs.Common.{◌≡◌, ℕ, ◌+◌, ◌*◌, ◌/◌, ◌%◌, ◌<◌, arith}
-use Rattle.rv_isa.specs.Formats.{part, joined}
+use Rattle.rv_isa.specs.Prelude.{part, joined}
 
 -- the parts of w that some format reads, from its six fields
 pub record Reads (w opcode rd funct3 rs1 rs2 funct7 : ℕ) : Type 0 where

@@ -1,16 +1,7 @@
 -- A step keeps numbers in range.
 use Rattle.std.proofs.Common.{◌≡◌, ℕ, zero, suc, ◌+◌, ◌/◌, ◌%◌, ◌^◌, ◌<◌, ◌++◌, Bool, true, false, subst, inl, inr, arith, lit<, mod-lt, Ok, Err, Option, Some, None, ◌==◌, if◌then◌else◌}
-use Rattle.rv_isa.specs.State.{State, IsState, register, put, written, updated, a0, a1, a2, a7}
-use Rattle.rv_isa.specs.Memory.{can_read, bytes_at, can_write, can_execute, number_at, stored}
-use Rattle.rv_isa.specs.Arithmetic.{reg_value, regw_value, imm_value, addiw_value, shift_value, shiftw_value, upper_value, taken, moved}
-use Rattle.rv_isa.specs.Decoding.{instruction_of}
-use Rattle.rv_isa.specs.Step.{Stop, Exited, Broken, Faulted, jump, branch, load, load_size, load_value, even_below, act, act_on, step, store_size, write_call, environment_call}
-use Rattle.rv_isa.specs.declared.abi.TheConstants.{STANDARD_OUTPUT, BAD_DESCRIPTOR, WRITE, EXIT, ZERO}
-use Rattle.rv_isa.specs.declared.fault.Fault.TheVariants.{UnknownInstruction, Fetch, SystemCall, Load as LoadFault, Store as StoreFault}
-use Rattle.rv_isa.specs.declared.ranges.Register.{Register}
-use Rattle.rv_isa.specs.declared.instruction.LoadOp.{LoadOp}
-use Rattle.rv_isa.specs.declared.instruction.Instr.{Instr}
-use Rattle.rv_isa.specs.declared.instruction.Instr.TheVariants.{Lui, Auipc, Jal, Jalr, Branch, Load, Store, Imm, Addiw, Shift, ShiftW, Reg, RegW, Fence, Ecall, Ebreak}
+use Rattle.rv_isa.specs.Prelude.{State, IsState, register, put, written, updated, a0, a1, a2, a7, can_read, bytes_at, can_write, can_execute, number_at, stored, reg_value, regw_value, imm_value, addiw_value, shift_value, shiftw_value, upper_value, taken, moved, instruction_of, Stop, Exited, Broken, Faulted, jump, branch, load, load_size, load_value, even_below, act, act_on, step, store_size, write_call, environment_call, STANDARD_OUTPUT, BAD_DESCRIPTOR, WRITE, EXIT, ZERO, UnknownInstruction, Fetch, SystemCall, Register, LoadOp, Instr, Lui, Auipc, Jal, Jalr, Branch, Load, Store, Imm, Addiw, Shift, ShiftW, Reg, RegW, Fence, Ecall, Ebreak}
+use Rattle.rv_isa.specs.declared.fault.Fault.TheVariants.{Load as LoadFault, Store as StoreFault}
 use Rattle.rv_isa.proofs.MemoryLemmas.{number_below}
 use Rattle.rv_isa.proofs.RangeLemmas.{reg_value_fits, regw_value_fits, imm_value_fits, addiw_value_fits, shift_value_fits, shiftw_value_fits, upper_value_fits, load_value_fits}
 use Rattle.rv_isa.proofs.StayLemmas.{going, refusing, same, chosen, either, stopped, next}

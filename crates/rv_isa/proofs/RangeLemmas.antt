@@ -7,20 +7,7 @@ use Rattle.std.proofs.lemmas.Nat.{shr_below, shr_le, or_lt, xor_lt, and_le_l}
 use lib.IntN.{neg_ℤ}
 use lib.Signed.{mag, mag_shr, mag_rem}
 use Rattle.bits.specs.Words.{sign_extended, Fits12}
-use Rattle.rv_isa.specs.Arithmetic.{truth, quotient, unsigned_quotient, remainder, unsigned_remainder, reg_value, word_value, regw_value, imm_value, imm_op_of, addiw_value, shift_value, shiftw_value, upper_value, widened}
-use Rattle.rv_isa.specs.Step.{load_size, load_value}
-use Rattle.rv_isa.specs.declared.ranges.UpperField.{UpperField}
-use Rattle.rv_isa.specs.declared.instruction.LoadOp.{LoadOp}
-use Rattle.rv_isa.specs.declared.instruction.LoadOp.TheVariants.{Lb, Lh, Lw, Ld, Lbu, Lhu, Lwu}
-use Rattle.rv_isa.specs.declared.instruction.ImmOp.{ImmOp}
-use Rattle.rv_isa.specs.declared.instruction.ShiftOp.{ShiftOp}
-use Rattle.rv_isa.specs.declared.instruction.ShiftOp.TheVariants.{Slli, Srli, Srai}
-use Rattle.rv_isa.specs.declared.instruction.ShiftWOp.{ShiftWOp}
-use Rattle.rv_isa.specs.declared.instruction.ShiftWOp.TheVariants.{Slliw, Srliw, Sraiw}
-use Rattle.rv_isa.specs.declared.instruction.RegOp.{RegOp}
-use Rattle.rv_isa.specs.declared.instruction.RegOp.TheVariants.{Add, Sub, Sll, Slt, Sltu, Xor, Srl, Sra, Or, And, Mul, Mulh, Mulhsu, Mulhu, Div, Divu, Rem, Remu}
-use Rattle.rv_isa.specs.declared.instruction.RegWOp.{RegWOp}
-use Rattle.rv_isa.specs.declared.instruction.RegWOp.TheVariants.{Addw, Subw, Sllw, Srlw, Sraw, Mulw, Divw, Divuw, Remw, Remuw}
+use Rattle.rv_isa.specs.Prelude.{truth, quotient, unsigned_quotient, remainder, unsigned_remainder, reg_value, word_value, regw_value, imm_value, imm_op_of, addiw_value, shift_value, shiftw_value, upper_value, widened, load_size, load_value, UpperField, LoadOp, Lb, Lh, Lw, Ld, Lbu, Lhu, Lwu, ImmOp, ShiftOp, Slli, Srli, Srai, ShiftWOp, Slliw, Srliw, Sraiw, RegOp, Add, Sub, Sll, Slt, Sltu, Xor, Srl, Sra, Or, And, Mul, Mulh, Mulhsu, Mulhu, Div, Divu, Rem, Remu, RegWOp, Addw, Subw, Sllw, Srlw, Sraw, Mulw, Divw, Divuw, Remw, Remuw}
 
 -- ---- signed readings and bits
 

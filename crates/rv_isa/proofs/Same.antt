@@ -3,13 +3,7 @@ use Rattle.std.proofs.Common.{◌≡◌, ◌%◌, ◌^◌, ◌<◌, ap, subst, p
 use Rattle.std.proofs.Props.{props}
 use Rattle.std.proofs.Math.Bridge.{le_prop}
 use Rattle.bits.specs.Words.{Fits12}
-use Rattle.rv_isa.specs.declared.ranges.Register.{Register}
-use Rattle.rv_isa.specs.declared.ranges.Immediate.{Immediate}
-use Rattle.rv_isa.specs.declared.ranges.BranchOffset.{BranchOffset}
-use Rattle.rv_isa.specs.declared.ranges.JumpOffset.{JumpOffset}
-use Rattle.rv_isa.specs.declared.ranges.UpperField.{UpperField}
-use Rattle.rv_isa.specs.declared.ranges.Amount.{Amount}
-use Rattle.rv_isa.specs.declared.ranges.WordAmount.{WordAmount}
+use Rattle.rv_isa.specs.Prelude.{Register, Immediate, BranchOffset, JumpOffset, UpperField, Amount, WordAmount}
 
 -- one proof at most: a function from numbers with a fact to values depends on the number alone
 same : {A B : Type 0} (F : A → Type 0) (make : (a : A) → F a → B) → ((a : A) → (p q : F a) → p ≡ q)

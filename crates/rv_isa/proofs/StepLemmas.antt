@@ -1,13 +1,7 @@
 -- Where the word of an instruction stands and can be executed, a step acts as that instruction. Fetching and decoding appear here alone.
 use Rattle.std.proofs.Common.{◌≡◌, ℕ, true, refl, ap, sym, ◌∙◌, subst, Some}
 use Rattle.std.proofs.lemmas.Bool.{and_parts}
-use Rattle.rv_isa.specs.State.{State}
-use Rattle.rv_isa.specs.Memory.{number_at, allowed, each_of, can_execute, is_code}
-use Rattle.rv_isa.specs.Decoding.{instruction_of}
-use Rattle.rv_isa.specs.Step.{step, act}
-use Rattle.rv_isa.specs.Labelled.{Ground, Fixed, InstrAt}
-use Rattle.rv_isa.specs.declared.permission.Permission.{Permission}
-use Rattle.rv_isa.specs.declared.instruction.Instr.{Instr}
+use Rattle.rv_isa.specs.Prelude.{State, number_at, allowed, each_of, can_execute, is_code, instruction_of, step, act, Ground, Fixed, InstrAt, Permission, Instr}
 use Rattle.rv_isa.proofs.MemoryLemmas.{number_same, each_at, code_parts, code_executes}
 
 -- the word of code at an address is the ground's

@@ -2,10 +2,7 @@
 use Rattle.std.specs.Prelude.{◌≡◌, ◌-◌, ◌^◌, pos, negsuc}
 use Rattle.rv_isa.specs.Arithmetic.{reg_value, regw_value, imm_value, addiw_value, moved}
 use Rattle.rv_isa.specs.Step.{load_value, even_below}
-use Rattle.rv_isa.specs.declared.instruction.LoadOp.TheVariants.{Lb, Lbu}
-use Rattle.rv_isa.specs.declared.instruction.ImmOp.TheVariants.{Sltiu}
-use Rattle.rv_isa.specs.declared.instruction.RegOp.TheVariants.{Sll, Sra, Mulh, Mulhsu, Mulhu, Div, Rem}
-use Rattle.rv_isa.specs.declared.instruction.RegWOp.TheVariants.{Addw, Sllw, Divw, Divuw, Remw, Remuw}
+use Rattle.rv_isa.specs.Types.{Lb, Lbu, Sltiu, Sll, Sra, Mulh, Mulhsu, Mulhu, Div, Rem, Addw, Sllw, Divw, Divuw, Remw, Remuw}
 
 pub record Examples : Type 0 where
   -- "Division Operations", the table of division by zero and of signed overflow

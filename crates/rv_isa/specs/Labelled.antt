@@ -8,11 +8,8 @@ use Rattle.rv_isa.specs.Arithmetic.{taken}
 use Rattle.rv_isa.specs.Decoding.{instruction_of}
 use Rattle.rv_isa.specs.Relocations.{relocated}
 use Rattle.rv_isa.specs.Runs.{Comes}
-use Rattle.rv_isa.specs.declared.abi.TheConstants.{JUMP_SCRATCH, RETURN_ADDRESS}
-use Rattle.rv_isa.specs.declared.permission.Permission.{Permission}
-use Rattle.rv_isa.specs.declared.instruction.Instr.{Instr}
-use Rattle.rv_isa.specs.declared.labelled.Item.{Item}
-use Rattle.rv_isa.specs.declared.labelled.Item.TheVariants.{Plain, Label, Branch, Goto, Call, Relocated}
+use Rattle.rv_isa.specs.Types.{JUMP_SCRATCH, RETURN_ADDRESS, Permission, Instr, Item, Plain, Label, Goto, Call, Relocated}
+use Rattle.rv_isa.specs.declared.labelled.Item.TheVariants.{Branch}
 
 -- what stays while a program runs: the permissions, and the bytes that can't be written
 pub record Ground : Type 0 where

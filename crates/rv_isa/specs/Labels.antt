@@ -1,8 +1,8 @@
 -- Labelled code: the labels and sizes of its items, and what the code of a function keeps.
 use Rattle.std.specs.Prelude.{ℕ, ◌+◌, ◌^◌, ◌<◌, ◌≤◌, Bool, true, false, nat_eq, nat_lt, if◌then◌else◌, IsTrue, List, [], ◌∷◌}
 use Rattle.std.specs.List.{list_all}
-use Rattle.rv_isa.specs.declared.labelled.Item.{Item}
-use Rattle.rv_isa.specs.declared.labelled.Item.TheVariants.{Plain, Label, Branch, Goto, Call, Relocated}
+use Rattle.rv_isa.specs.Types.{Item, Plain, Label, Goto, Call, Relocated}
+use Rattle.rv_isa.specs.declared.labelled.Item.TheVariants.{Branch}
 
 -- the items of a function, and how many labels they have
 pub record LabelledItems : Type 0 where

@@ -4,8 +4,7 @@ use Rattle.rv_isa.specs.Encoding.{word}
 use Rattle.rv_isa.specs.Memory.{number_at, allowed, is_code}
 use Rattle.rv_isa.specs.Relocations.{named, filled_in, reaches}
 use Rattle.rv_isa.specs.Labelled.{Ground, Stand}
-use Rattle.rv_isa.specs.declared.code.Hole.{Hole}
-use Rattle.rv_isa.specs.declared.labelled.Item.{Item}
+use Rattle.rv_isa.specs.Types.{Hole, Item}
 
 -- these words stand from an address upward, as code
 pub record WordsStand (g : Ground) (at : ℕ) (words : List ℕ) : Type 0 where

@@ -16,3 +16,5 @@ pub mod Text
 pub mod Laid
 pub mod Labels
 pub mod Words
+pub mod Types
+pub mod Prelude

@@ -2,21 +2,12 @@
 use Rattle.std.proofs.Common.{mod-lt, lit<}
 use Rattle.std.specs.Prelude.{ℕ, ◌+◌, ◌-◌, ◌*◌, ◌/◌, ◌%◌, ◌^◌, Bool, true, nat_le, nat_lt, ◌&&◌}
 use Rattle.bits.specs.Words.{upper_field, lower_field}
-use Rattle.rv_isa.specs.declared.abi.TheConstants.{RETURN_ADDRESS}
+use Rattle.rv_isa.specs.Types.{RETURN_ADDRESS, Immediate, JumpOffset, UpperField, Instr, Lui, Jal, Jalr, Load, Store, Imm, Addi, Partial, Upper, Jump, Relocation, Filling, Part}
 use Rattle.rv_isa.specs.Formats.{signed}
 use Rattle.rv_isa.specs.Arithmetic.{moved}
 use Rattle.rv_isa.specs.Readings.{upper_fits, lower_fits, signed21_at_least, signed21_at_most, signed21_even}
-use Rattle.rv_isa.specs.declared.ranges.Immediate.{Immediate}
-use Rattle.rv_isa.specs.declared.ranges.JumpOffset.{JumpOffset}
-use Rattle.rv_isa.specs.declared.ranges.UpperField.{UpperField}
-use Rattle.rv_isa.specs.declared.instruction.Instr.{Instr}
-use Rattle.rv_isa.specs.declared.instruction.Instr.TheVariants.{Lui, Jal, Jalr, Load, Store, Imm}
-use Rattle.rv_isa.specs.declared.instruction.ImmOp.TheVariants.{Addi}
-use Rattle.rv_isa.specs.declared.relocation.Partial.{Partial}
-use Rattle.rv_isa.specs.declared.relocation.Partial.TheVariants.{Upper, Add, Jump, Load as LoadBy, Store as StoreBy}
-use Rattle.rv_isa.specs.declared.relocation.Relocation.{Relocation}
-use Rattle.rv_isa.specs.declared.relocation.Filling.{Filling}
-use Rattle.rv_isa.specs.declared.relocation.Filling.TheVariants.{Part, Call}
+use Rattle.rv_isa.specs.declared.relocation.Partial.TheVariants.{Add, Load as LoadBy, Store as StoreBy}
+use Rattle.rv_isa.specs.declared.relocation.Filling.TheVariants.{Call}
 
 -- the part of an address that `lui` takes, and the rest of it, read with a sign
 abbrev pub upper_part : ℕ → UpperField

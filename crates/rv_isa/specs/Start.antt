@@ -4,7 +4,7 @@
 use Rattle.std.specs.Prelude.{◌≡◌, ℕ, ◌+◌, ◌*◌, ◌<◌, ◌≤◌, true, List, [], ◌∷◌, ◌++◌, length, replicate, slice_index}
 use Rattle.std.specs.Int.{w64, to_le_bytes}
 use Rattle.rv_isa.specs.State.{State, IsState}
-use Rattle.rv_isa.specs.declared.abi.TheConstants.{STACK_POINTER, STACK_TOP, STACK_BOTTOM}
+use Rattle.rv_isa.specs.Types.{STACK_POINTER, STACK_TOP, STACK_BOTTOM}
 
 -- the stack pointer at the start: the stack is below it, the arguments from it upward
 abbrev pub stack_top : ℕ

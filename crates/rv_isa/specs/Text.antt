@@ -2,25 +2,7 @@
 -- x31, numbers decimal.
 use Rattle.std.specs.Prelude.{ℕ, List, ◌++◌, codes, ℤ}
 use Rattle.std.specs.Fmt.{decimal, signed_decimal}
-use Rattle.rv_isa.specs.declared.ranges.Register.{Register}
-use Rattle.rv_isa.specs.declared.instruction.Instr.{Instr}
-use Rattle.rv_isa.specs.declared.instruction.Instr.TheVariants.{Lui, Auipc, Jal, Jalr, Branch, Load, Store, Imm, Addiw, Shift, ShiftW, Reg, RegW, Fence, Ecall, Ebreak}
-use Rattle.rv_isa.specs.declared.instruction.BranchOp.{BranchOp}
-use Rattle.rv_isa.specs.declared.instruction.BranchOp.TheVariants.{Beq, Bne, Blt, Bge, Bltu, Bgeu}
-use Rattle.rv_isa.specs.declared.instruction.LoadOp.{LoadOp}
-use Rattle.rv_isa.specs.declared.instruction.LoadOp.TheVariants.{Lb, Lh, Lw, Ld, Lbu, Lhu, Lwu}
-use Rattle.rv_isa.specs.declared.instruction.StoreOp.{StoreOp}
-use Rattle.rv_isa.specs.declared.instruction.StoreOp.TheVariants.{Sb, Sh, Sw, Sd}
-use Rattle.rv_isa.specs.declared.instruction.ImmOp.{ImmOp}
-use Rattle.rv_isa.specs.declared.instruction.ImmOp.TheVariants.{Addi, Slti, Sltiu, Xori, Ori, Andi}
-use Rattle.rv_isa.specs.declared.instruction.ShiftOp.{ShiftOp}
-use Rattle.rv_isa.specs.declared.instruction.ShiftOp.TheVariants.{Slli, Srli, Srai}
-use Rattle.rv_isa.specs.declared.instruction.ShiftWOp.{ShiftWOp}
-use Rattle.rv_isa.specs.declared.instruction.ShiftWOp.TheVariants.{Slliw, Srliw, Sraiw}
-use Rattle.rv_isa.specs.declared.instruction.RegOp.{RegOp}
-use Rattle.rv_isa.specs.declared.instruction.RegOp.TheVariants.{Add, Sub, Sll, Slt, Sltu, Xor, Srl, Sra, Or, And, Mul, Mulh, Mulhsu, Mulhu, Div, Divu, Rem, Remu}
-use Rattle.rv_isa.specs.declared.instruction.RegWOp.{RegWOp}
-use Rattle.rv_isa.specs.declared.instruction.RegWOp.TheVariants.{Addw, Subw, Sllw, Srlw, Sraw, Mulw, Divw, Divuw, Remw, Remuw}
+use Rattle.rv_isa.specs.Types.{Register, Instr, Lui, Auipc, Jal, Jalr, Branch, Load, Store, Imm, Addiw, Shift, ShiftW, Reg, RegW, Fence, Ecall, Ebreak, BranchOp, Beq, Bne, Blt, Bge, Bltu, Bgeu, LoadOp, Lb, Lh, Lw, Ld, Lbu, Lhu, Lwu, StoreOp, Sb, Sh, Sw, Sd, ImmOp, Addi, Slti, Sltiu, Xori, Ori, Andi, ShiftOp, Slli, Srli, Srai, ShiftWOp, Slliw, Srliw, Sraiw, RegOp, Add, Sub, Sll, Slt, Sltu, Xor, Srl, Sra, Or, And, Mul, Mulh, Mulhsu, Mulhu, Div, Divu, Rem, Remu, RegWOp, Addw, Subw, Sllw, Srlw, Sraw, Mulw, Divw, Divuw, Remw, Remuw}
 
 -- ---- mnemonics
 

@@ -1,6 +1,6 @@
 -- The words of a function, and the places in them that wait for addresses.
 use Rattle.std.specs.Prelude.{ℕ, ◌+◌, ◌^◌, ◌<◌, Bool, ◌&&◌, nat_le, IsTrue, List, [], ◌∷◌, length, slice_index}
-use Rattle.rv_isa.specs.declared.code.Hole.{Hole}
+use Rattle.rv_isa.specs.Types.{Hole}
 
 pub record Words : Type 0 where
   pub words : List ℕ

@@ -17,7 +17,7 @@ ghost use Rattle.rv_isa.specs.Arithmetic.{
   widened,
   word_value,
 };
-ghost use Rattle.rv_isa.specs.Step.{load_size, load_value};
+ghost use Rattle.rv_isa.specs.Prelude.{load_size, load_value};
 
 use crate::instruction::{BranchOp, ImmOp, LoadOp, RegOp, RegWOp, ShiftOp, ShiftWOp};
 use crate::ranges::UpperField;

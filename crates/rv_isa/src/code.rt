@@ -1,7 +1,7 @@
 //! Laid-out code: words, and where in them the addresses of globals are filled in.
 
 ghost use Rattle.std.specs.Prelude.{◌≡◌};
-ghost use Rattle.rv_isa.specs.Words.{IsCode};
+ghost use Rattle.rv_isa.specs.Prelude.{IsCode};
 
 use crate::relocation::Filling;
 use std::marker::Model;

@@ -1,8 +1,7 @@
 //! From a word to its instruction.
 
 ghost use Rattle.std.specs.Prelude.{◌≡◌, ◌+◌, ◌*◌, ◌/◌, ◌%◌, ◌^◌, ◌<◌, ◌↔◌};
-ghost use Rattle.rv_isa.specs.Encoding.{word};
-ghost use Rattle.rv_isa.specs.Formats.{part, signed};
+ghost use Rattle.rv_isa.specs.Prelude.{word, part, signed, Instr};
 ghost use Rattle.rv_isa.specs.Decoding.{
   amount_of,
   b_offset,
@@ -32,7 +31,6 @@ ghost use Rattle.rv_isa.specs.Decoding.{
   upper_of,
   word_amount_of,
 };
-ghost use Rattle.rv_isa.specs.declared.instruction.Instr.{Instr};
 
 use crate::encode::encode;
 use crate::instruction::{

@@ -1,8 +1,7 @@
 //! From an instruction to its word.
 
 ghost use Rattle.std.specs.Prelude.{◌≡◌, ◌+◌, ◌*◌, ◌/◌, ◌%◌, ◌^◌, ◌<◌};
-ghost use Rattle.rv_isa.specs.Encoding.{branch_row, imm_row, load_row, reg_row, regw_row, shift_row, shiftw_row, store_row, word};
-ghost use Rattle.rv_isa.specs.Formats.{b_type, i_type, j_type, joined, low_bits, s_type, u_type};
+ghost use Rattle.rv_isa.specs.Prelude.{branch_row, imm_row, load_row, reg_row, regw_row, shift_row, shiftw_row, store_row, word, b_type, i_type, j_type, joined, low_bits, s_type, u_type};
 
 use crate::instruction::{
     BranchOp, ImmOp, Instr, LoadOp, RegOp, RegWOp, ShiftOp, ShiftWOp, StoreOp,

@@ -1,7 +1,7 @@
 //! Labelled code: instructions whose jumps name labels and whose addresses name globals, before places are known.
 
 ghost use Rattle.std.specs.Prelude.{◌≡◌};
-ghost use Rattle.rv_isa.specs.Labels.{IsLabelled};
+ghost use Rattle.rv_isa.specs.Prelude.{IsLabelled};
 
 use crate::instruction::{BranchOp, Instr};
 use crate::ranges::Register;

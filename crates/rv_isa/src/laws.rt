@@ -1,7 +1,6 @@
 //! Laws of the machine's definitions, each as the contract of a function that does nothing.
 
-ghost use Rattle.rv_isa.specs.Examples.{Examples};
-ghost use Rattle.rv_isa.specs.Laws.{AboveStays, BelowStays, OthersStay, RunsCompose, StepActs, StepKeeps, StepStays, StepsCome, StoredIsRead, WordsDecode};
+ghost use Rattle.rv_isa.specs.Prelude.{Examples, AboveStays, BelowStays, OthersStay, RunsCompose, StepActs, StepKeeps, StepStays, StepsCome, StoredIsRead, WordsDecode};
 
 /// The word of an instruction is decoded as that instruction.
 pub fn words_decode()

@@ -1,8 +1,7 @@
 //! Instructions that wait for the address of a global.
 
 ghost use Rattle.std.specs.Prelude.{◌≡◌};
-ghost use Rattle.rv_isa.specs.Encoding.{word};
-ghost use Rattle.rv_isa.specs.Relocations.{upper_part, lower_part, jump_part, completed, relocated, of_global, named, filled_in};
+ghost use Rattle.rv_isa.specs.Prelude.{word, upper_part, lower_part, jump_part, completed, relocated, of_global, named, filled_in};
 
 use crate::abi;
 use crate::arithmetic::moved;

@@ -3,15 +3,14 @@ use Rattle.rv_isa.specs.declared.abi.TheConstants.{ARGUMENT_BYTES}
 use Rattle.std.proofs.Common.{◌≡◌, ℕ, ◌+◌, ◌*◌, ◌<◌, ◌≤◌, true, refl, sym, ◌∙◌, ap, subst, arith, List, [], ◌∷◌, ◌++◌, length, length-append, ◌&&◌, nat_le, nat_lt, Option, Some, None, replicate}
 use Rattle.std.specs.Int.{w64, to_le_bytes}
 use Rattle.std.proofs.lemmas.Bool.{and_parts, and_from, leb-true, le-leb, lt-ltb}
-use Rattle.rv_isa.specs.Memory.{each_of}
-use Rattle.rv_isa.specs.Start.{argument_bytes, pointer_bytes, word_bytes, stack_top, stack_bottom}
+use Rattle.rv_isa.specs.Prelude.{each_of, argument_bytes, pointer_bytes, word_bytes, stack_top, stack_bottom}
 use Rattle.rv_isa.specs.declared.permission.Permission.{Permission}
 use Rattle.rv_isa.proofs.MemoryLemmas.{each_from}
 use Rattle.elf_file.specs.declared.flags.Flags.{Flags}
 use Rattle.elf_file.specs.declared.flags.Flags.TheVariants.{Execute, Read, ReadExecute, ReadWrite}
 use Rattle.elf_file.specs.Loaded.{Executable, flags_in}
 use Rattle.rv_machine.specs.Mapped.{is_mapped, read_and_write, permission_in, stack_permission, flags_or}
-use Rattle.obj_link.specs.Arguments.{are_arguments}
+use Rattle.obj_link.specs.Prelude.{are_arguments}
 
 -- ---- lengths
 

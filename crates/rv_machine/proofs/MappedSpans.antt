@@ -1,7 +1,7 @@
 -- What allows something is mapped.
 use Rattle.std.proofs.Common.{◌≡◌, ℕ, Bool, true, false, refl, ◌||◌, not}
 use Rattle.std.proofs.lemmas.Bool.{and_parts}
-use Rattle.rv_isa.specs.Memory.{each_of}
+use Rattle.rv_isa.specs.Prelude.{each_of}
 use Rattle.rv_isa.specs.declared.permission.Permission.{Permission}
 use Rattle.rv_isa.proofs.MemoryLemmas.{each_at, each_from}
 use Rattle.rv_machine.specs.declared.access.Access.{Access}

@@ -2,7 +2,7 @@
 use Rattle.std.proofs.Common.{◌≡◌, ℕ, zero, suc, ◌+◌, ◌-◌, ◌<◌, ◌≤◌, Bool, true, false, nat_lt, List, [], ◌∷◌, ◌++◌, length, take, get_or, replicate, refl, sym, ◌∙◌, ap, arith, inl, inr, cond, Some, None, slice_get, ◌&&◌, nat_le, find, ◌⊎◌, slice_index, unwrap_or, option_map, subst, add-one}
 use Rattle.std.proofs.Math.Seq.{take-suc}
 use Rattle.std.proofs.lemmas.Option.{none-some, same_Some}
-use Rattle.rv_isa.specs.Start.{stack_bottom, stack_top}
+use Rattle.rv_isa.specs.Prelude.{stack_bottom, stack_top}
 use Rattle.elf_file.specs.Loaded.{Mapping, Executable, holds, byte_of}
 use Rattle.rv_machine.specs.declared.regions.Region.{Region}
 use Rattle.rv_machine.specs.Mapped.{nothing_allowed, read_and_write, flags_or, stack_permission, permission_in, start_byte}

@@ -2,14 +2,13 @@
 use Rattle.std.proofs.Common.{◌≡◌, ℕ, zero, suc, ◌+◌, ◌*◌, ◌^◌, ◌<◌, ◌≤◌, Bool, true, false, refl, ◌∙◌, ap, arith, List, [], ◌∷◌, ◌++◌, length, lit<, mod-lt, inl, inr, ◌&&◌, ◌⊎◌, nat_le, nat_lt, Option, Some, None, slice_get, slice_index, find, replicate, unwrap_or, ◌==◌, if◌then◌else◌, option_map, le-ltb, ltb-true, ltb-false}
 use Rattle.std.specs.Int.{w64, to_le_bytes}
 use Rattle.std.proofs.Math.Bool.{and-false}
-use Rattle.rv_isa.specs.State.{updated}
-use Rattle.rv_isa.specs.Start.{argument_bytes, pointer_bytes, word_bytes, stack_top, stack_bottom}
+use Rattle.rv_isa.specs.Prelude.{updated, argument_bytes, pointer_bytes, word_bytes, stack_top, stack_bottom}
 use Rattle.rv_isa.proofs.MemoryLemmas.{updated_here, updated_elsewhere}
 use Rattle.rv_isa.specs.declared.permission.Permission.{Permission}
 use Rattle.elf_file.specs.declared.flags.Flags.{Flags}
 use Rattle.elf_file.specs.Loaded.{Executable, Mapping, IsMapping, IsExecutable, holds, mapping_at, byte_in, byte_of}
 use Rattle.rv_machine.specs.Mapped.{read_and_write, stack_permission, permission_in, start_byte, flags_or}
-use Rattle.obj_link.specs.Arguments.{are_arguments}
+use Rattle.obj_link.specs.Prelude.{are_arguments}
 use Rattle.rv_machine.specs.Start.{filled, start_state, AreBytes, AreTexts}
 use Rattle.rv_machine.specs.Starts.{Starts}
 use Rattle.rv_machine.proofs.Arguments.{in_stack}

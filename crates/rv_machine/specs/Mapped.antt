@@ -2,8 +2,7 @@
 -- above the stack. Nothing else is mapped.
 use Rattle.std.specs.Prelude.{◌≡◌, ℕ, ◌+◌, ◌<◌, ◌^◌, Bool, true, false, ◌&&◌, ◌||◌, nat_le, nat_lt, if◌then◌else◌, Option, Some, None, unwrap_or}
 use Rattle.rv_isa.specs.declared.permission.Permission.{Permission}
-use Rattle.rv_isa.specs.Memory.{number_at, stored, allowed}
-use Rattle.rv_isa.specs.Start.{stack_bottom, stack_top}
+use Rattle.rv_isa.specs.Prelude.{number_at, stored, allowed, stack_bottom, stack_top}
 use Rattle.elf_file.specs.declared.flags.Flags.{Flags}
 use Rattle.elf_file.specs.Loaded.{Executable, byte_in, flags_in}
 use Rattle.rv_machine.specs.Starts.{permission_of}

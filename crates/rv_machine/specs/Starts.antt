@@ -1,8 +1,7 @@
 -- The states in which the program of a file may start.
 use Rattle.std.specs.Prelude.{◌≡◌, ℕ, List, Some}
 use Rattle.rv_isa.specs.declared.permission.Permission.{Permission}
-use Rattle.rv_isa.specs.State.{State}
-use Rattle.rv_isa.specs.Start.{StartsWith}
+use Rattle.rv_isa.specs.Prelude.{State, StartsWith}
 use Rattle.elf_file.specs.declared.flags.Flags.{Flags}
 use Rattle.elf_file.specs.Flags.{is_readable, is_writable, is_executable}
 use Rattle.elf_file.specs.Loaded.{Executable, byte_in, flags_in}

@@ -1,7 +1,7 @@
 //! Fills memory with bytes.
 
 ghost use Rattle.std.specs.Prelude.{◌≡◌, ℕ, ◌+◌, ◌≤◌, ◌^◌, true, length};
-ghost use Rattle.rv_isa.specs.Memory.{each_of};
+ghost use Rattle.rv_isa.specs.Prelude.{each_of};
 ghost use Rattle.rv_machine.specs.Mapped.{is_mapped};
 ghost use Rattle.rv_machine.specs.Start.{filled};
 

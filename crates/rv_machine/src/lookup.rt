@@ -1,9 +1,8 @@
 //! What regions hold at an address, and whole numbers in one of them.
 
 ghost use Rattle.std.specs.Prelude.{◌≡◌, ℕ, ◌+◌, ◌-◌, ◌≤◌, ◌<◌, ◌^◌, true, IfSome, IsSome, slice_index, length, option_copied};
-ghost use Rattle.rv_isa.specs.Memory.{number_at, stored};
+ghost use Rattle.rv_isa.specs.Prelude.{number_at, stored, updated};
 ghost use Rattle.rv_machine.specs.Mapped.{IsRead, IsWritten, is_mapped};
-ghost use Rattle.rv_isa.specs.State.{updated};
 ghost use Rattle.std.specs.Bool.{OnFalse, OnTrue};
 ghost use Rattle.rv_machine.specs.Regions.{AllFull, IsFirst, IsWhole, Overwrites, contains, has_address, region_at, region_byte, region_permission, spans, touches};
 ghost use Rattle.rv_machine.specs.Width.{bytes_of};

@@ -2,7 +2,7 @@
 
 ghost use Rattle.std.specs.Prelude.{◌≡◌, ℕ, ◌+◌, ◌-◌, ◌*◌, ◌%◌, ◌≤◌, ◌<◌, ◌^◌, true, IsSome, IfSome, List, slice_index, IfOk, OnOk, OnSome, Some, length, option_copied};
 ghost use Rattle.std.specs.Bool.{OnFalse, OnTrue};
-ghost use Rattle.rv_isa.specs.State.{updated};
+ghost use Rattle.rv_isa.specs.Prelude.{updated};
 ghost use Rattle.rv_machine.specs.declared.regions.Region.{Region};
 ghost use Rattle.rv_machine.specs.Mapped.{IsRead, IsWritten};
 ghost use Rattle.rv_machine.specs.Pages.{AllPermit, IsCopy, IsCopyOf, IsPartCopy, PageOverwrites, WritesPage, is_made, page_in, paged_byte};

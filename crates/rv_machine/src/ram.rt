@@ -4,8 +4,7 @@ ghost use Rattle.rv_isa.specs.declared.abi.TheConstants.{ARGUMENT_BYTES};
 ghost use Rattle.std.specs.Prelude.{◌≡◌, ℕ, ◌+◌, ◌≤◌, ◌^◌, Bool, true, IfOk, IfSome, OnOk, OnErr};
 ghost use Rattle.std.specs.Bool.{OnTrue, OnFalse};
 ghost use Rattle.rv_isa.specs.declared.permission.Permission.{Permission};
-ghost use Rattle.rv_isa.specs.Memory.{each_of};
-ghost use Rattle.rv_isa.specs.State.{updated};
+ghost use Rattle.rv_isa.specs.Prelude.{each_of, updated};
 ghost use Rattle.rv_machine.specs.Mapped.{is_mapped, permission_in, start_byte, IsRead, IsWritten};
 ghost use Rattle.rv_machine.specs.Width.{bytes_of};
 

@@ -1,7 +1,7 @@
 //! One step, with every stop.
 
 ghost use Rattle.std.specs.Prelude.{◌≡◌, ◌<◌, ◌≤◌};
-ghost use Rattle.rv_isa.specs.Step.{load_size, store_size};
+ghost use Rattle.rv_isa.specs.Prelude.{load_size, store_size};
 
 use crate::access::{Access, allowed, number, put_out, set_bytes};
 use crate::machine::Machine;

@@ -1,8 +1,8 @@
 //! The argument words of a program, as bytes.
 
 ghost use Rattle.std.specs.Prelude.{◌≡◌, ◌+◌, ◌<◌, ◌≤◌, ◌^◌, ◌++◌, length, OnOk, IfOk};
-ghost use Rattle.rv_isa.specs.Start.{argument_bytes, pointer_bytes, word_bytes};
-ghost use Rattle.obj_link.specs.Arguments.{WORDS, WORD_BYTES};
+ghost use Rattle.rv_isa.specs.Prelude.{argument_bytes, pointer_bytes, word_bytes};
+ghost use Rattle.obj_link.specs.Prelude.{WORDS, WORD_BYTES};
 ghost use Rattle.rv_machine.specs.Words.{texts};
 
 use rv_isa::abi;

@@ -6,14 +6,8 @@ use Rattle.std.proofs.lemmas.Bool.Decides.{nat_tests}
 use Rattle.il_ast.specs.declared.value.Value.{Value}
 use Rattle.il_ast.specs.declared.value.Value.TheVariants.{Integer, Pointer, Function}
 use Rattle.il_ast.specs.declared.value.End.TheVariants.{Undefined, Turns}
-use Rattle.il_ast.specs.Values.{in_place, byte_count}
-use Rattle.il_ast.specs.Memory.{Memory, store, copy}
+use Rattle.il_ast.specs.Prelude.{in_place, byte_count, Memory, store, copy, on_places, stored_class, Spent, one_turn, both, Outcome, Ended, On, Over, Event, Does, Asked, Given}
 use Rattle.il_ast.specs.declared.operation.BinaryOp.TheVariants.{Add as AddPlaces, Sub as SubPlaces}
-use Rattle.il_ast.specs.Operations.{on_places}
-use Rattle.il_ast.specs.Effect.{stored_class}
-use Rattle.il_ast.specs.Run.{Spent, one_turn, both, Outcome, Ended}
-use Rattle.il_ast.specs.Logged.{On, Over, Event, Does}
-use Rattle.il_ast.specs.Keeps.{Asked, Given}
 use Rattle.rv_isa.specs.declared.instruction.RegOp.{RegOp}
 use Rattle.rv_isa.specs.declared.instruction.RegOp.TheVariants.{Add, Sub, Sll, Slt, Sltu, Xor, Srl, Sra, Or, And, Mul, Mulh, Mulhsu, Mulhu, Div, Divu, Rem, Remu}
 use Rattle.rv_isa.specs.declared.instruction.RegWOp.{RegWOp}
@@ -26,12 +20,7 @@ use Rattle.vcode.specs.declared.line.Line.{Line}
 use Rattle.vcode.specs.declared.line.Line.TheVariants.{Tick, Set, Operate, Load, Store, Alloc, Blit, Call}
 use Rattle.vcode.specs.declared.line.Operation.{Operation}
 use Rattle.vcode.specs.declared.line.Operation.TheVariants.{Reg, RegW, Compare}
-use Rattle.vcode.specs.Addresses.{distance}
-use Rattle.vcode.specs.Named.{operand_keeps, line_keeps}
-use Rattle.vcode.specs.Operations.{reg_on_places, operate, loaded}
-use Rattle.vcode.specs.Places.{Values, assign, located, same_location}
-use Rattle.vcode.specs.Step.{State, value_of, read, operated, address_of, fails, goes_on, sets, changes, weighs, line_step}
-use Rattle.vcode.specs.Writes.{line_writes}
+use Rattle.vcode.specs.Prelude.{distance, operand_keeps, line_keeps, reg_on_places, operate, loaded, Values, assign, located, same_location, State, value_of, read, operated, address_of, fails, goes_on, sets, changes, weighs, line_step, line_writes}
 use Rattle.scheduling.specs.declared.independent.Kind.{Kind}
 use Rattle.scheduling.specs.declared.independent.Kind.TheVariants.{Ticking, Plain, Reading, Writing, Fixed}
 use Rattle.scheduling.specs.Independent.{kind_of, may_swap, differs, is_unnamed, is_independent}

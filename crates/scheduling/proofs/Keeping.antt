@@ -5,12 +5,7 @@ use Rattle.il_ast.specs.declared.operation.Class.{Class}
 use Rattle.il_ast.specs.declared.value.Value.{Value}
 use Rattle.il_ast.specs.declared.value.Value.TheVariants.{Integer, Pointer, Function}
 use Rattle.il_ast.specs.declared.value.End.TheVariants.{Turns}
-use Rattle.il_ast.specs.Memory.{Memory}
-use Rattle.il_ast.specs.Run.{one_turn, both, Outcome, Returned, Ended}
-use Rattle.il_ast.specs.Logged.{Next, On, Over, Event, Does, Calls}
-use Rattle.il_ast.specs.Keeps.{Asked, Given, Fine, KeepsCode}
-use Rattle.il_ast.specs.Passes.{Keeps}
-use Rattle.il_ast.specs.Simulation.{MatchesEvent, Simulates, TogetherNext, Together}
+use Rattle.il_ast.specs.Prelude.{Memory, one_turn, both, Outcome, Returned, Ended, Next, On, Over, Event, Does, Calls, Asked, Given, Fine, KeepsCode, Keeps, MatchesEvent, Simulates, TogetherNext, Together}
 use Rattle.il_ast.proofs.Simulated.{event_together, simulation_keeps, codes_compose}
 use Rattle.vcode.specs.declared.place.Location.{Location}
 use Rattle.vcode.specs.declared.place.Destination.{Destination}
@@ -22,9 +17,7 @@ use Rattle.vcode.specs.declared.line.Jump.TheVariants.{Goto, Branch, Return, Hal
 use Rattle.vcode.specs.declared.code.Block.{Block}
 use Rattle.vcode.specs.declared.code.Code.{Code}
 use Rattle.vcode.specs.declared.function.LFunc.{LFunc}
-use Rattle.vcode.specs.Coded.{classes_in, coded, location_code}
-use Rattle.vcode.specs.Places.{located}
-use Rattle.vcode.specs.Step.{State, begin, value_of, read_all, read_result, goes_on, sets, changes, calls, resumes, line_step, compared, branches, returns, jump_step, block_step, step_in, step}
+use Rattle.vcode.specs.Prelude.{classes_in, coded, location_code, located, State, begin, value_of, read_all, read_result, goes_on, sets, changes, calls, resumes, line_step, compared, branches, returns, jump_step, block_step, step_in, step}
 use Rattle.vcode.proofs.Stepping.{step_line}
 use Rattle.scheduling.specs.Independent.{is_independent}
 use Rattle.scheduling.specs.Scheduled.{swapped, swaps_at, scheduled_block, scheduled_blocks, scheduled}

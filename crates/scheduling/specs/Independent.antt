@@ -5,9 +5,7 @@ use Rattle.vcode.specs.declared.place.Location.{Location}
 use Rattle.vcode.specs.declared.line.Operation.TheVariants.{Reg, RegW, Compare}
 use Rattle.vcode.specs.declared.line.Line.{Line}
 use Rattle.vcode.specs.declared.line.Line.TheVariants.{Tick, Set, Operate, Load, Store, Alloc, Blit, Call}
-use Rattle.vcode.specs.Places.{same_location}
-use Rattle.vcode.specs.Named.{line_keeps}
-use Rattle.vcode.specs.Writes.{line_writes}
+use Rattle.vcode.specs.Prelude.{same_location, line_keeps, line_writes}
 use Rattle.scheduling.specs.declared.independent.Kind.{Kind}
 use Rattle.scheduling.specs.declared.independent.Kind.TheVariants.{Ticking, Plain, Reading, Writing, Fixed}
 

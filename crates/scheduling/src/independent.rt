@@ -1,9 +1,7 @@
 //! Whether a line and the next one may change places.
 ghost use Rattle.std.specs.Prelude.{◌≡◌};
 ghost use Rattle.std.specs.List.{list_all};
-ghost use Rattle.vcode.specs.Named.{operand_keeps, wanted_keeps, made_keeps, line_keeps};
-ghost use Rattle.vcode.specs.Places.{same_location};
-ghost use Rattle.vcode.specs.Writes.{line_writes, place_of};
+ghost use Rattle.vcode.specs.Prelude.{operand_keeps, wanted_keeps, made_keeps, line_keeps, same_location, line_writes, place_of};
 ghost use Rattle.scheduling.specs.Independent.{kind_of, may_swap, differs, is_unnamed, is_independent};
 
 use vcode::{Argument, Destination, Line, Location, Operand, Operation};

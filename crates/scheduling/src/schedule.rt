@@ -1,8 +1,7 @@
 //! Functions whose lines stand in another order.
 ghost use Rattle.std.specs.Prelude.{◌≡◌, IfOk};
-ghost use Rattle.il_ast.specs.Passes.{Keeps};
-ghost use Rattle.vcode.specs.Coded.{location_code};
-ghost use Rattle.vcode.specs.Regular.{code_weight};
+ghost use Rattle.il_ast.specs.Prelude.{Keeps};
+ghost use Rattle.vcode.specs.Prelude.{location_code, code_weight};
 ghost use Rattle.scheduling.specs.Scheduled.{scheduled};
 
 use crate::choice::choose;

@@ -10,12 +10,10 @@ use Rattle.il_ast.specs.declared.instruction.Lined.{Lined}
 use Rattle.il_ast.specs.declared.block.Phi.{Phi}
 use Rattle.il_ast.specs.declared.block.Block.{Block}
 use Rattle.il_ast.specs.declared.function.Func.{Func}
-use Rattle.il_ast.specs.Effect.{place_of}
+use Rattle.il_ast.specs.Prelude.{place_of}
 use Rattle.il_types.specs.declared.rule.Rule.TheVariants.{KnownLabels, EntryNotTarget}
 use Rattle.il_types.specs.declared.site.Site.{Site}
-use Rattle.il_types.specs.First.{when, first}
-use Rattle.il_types.specs.Sites.{jump_sites, end_sites, block_targets, targets_of, sources_of}
-use Rattle.il_types.specs.Locals.{is_label, is_entry}
+use Rattle.il_types.specs.Prelude.{when, first, jump_sites, end_sites, block_targets, targets_of, sources_of, is_label, is_entry}
 use Rattle.phi_copies.specs.declared.ending.Ending.{Ending}
 use Rattle.phi_copies.specs.Good.{IsGoodFunction}
 use Rattle.phi_copies.specs.Copies.{phis_at}

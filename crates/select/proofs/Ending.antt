@@ -14,27 +14,18 @@ use Rattle.il_ast.specs.declared.function.Func.{Func}
 use Rattle.il_ast.specs.declared.value.Value.{Value}
 use Rattle.il_ast.specs.declared.value.Value.TheVariants.{Integer, Pointer, Function}
 use Rattle.il_ast.specs.declared.value.End.TheVariants.{Halt as Halted, Turns}
-use Rattle.il_ast.specs.Memory.{free_all}
-use Rattle.il_ast.specs.Operations.{truth, operate_two}
-use Rattle.il_ast.specs.Effect.{operand, inst_effect}
-use Rattle.il_ast.specs.Run.{Spent, one_turn, both, Outcome, Returned, Ended, with_args}
-use Rattle.il_ast.specs.Logged.{Next, On, Over, Event, Does, Calls}
-use Rattle.il_ast.specs.Keeps.{Asked, Fine}
-use Rattle.il_ast.specs.Simulation.{Leads, MatchesEvent, Simulates}
+use Rattle.il_ast.specs.Prelude.{free_all, truth, operate_two, operand, inst_effect, Spent, one_turn, both, Outcome, Returned, Ended, with_args, Next, On, Over, Event, Does, Calls, Asked, Fine, Leads, MatchesEvent, Simulates, classes_of}
 use Rattle.il_ast.proofs.Simulated.{simulation_keeps}
 use Rattle.phi_copies.specs.declared.ending.Assignment.{Assignment}
 use Rattle.phi_copies.specs.declared.ending.Leave.{Leave}
 use Rattle.phi_copies.specs.declared.ending.Leave.TheVariants.{Goto, Branch, Return, Halt}
 use Rattle.phi_copies.specs.declared.ending.Ending.{Ending}
 use Rattle.phi_copies.specs.Endings.{Endings, State as Source, begin as begin_source, weighs, in_turn, goes_on, copied, branches as source_branches, returns as source_returns, returns_in, leaves, copies_and_leaves, after_mark, marked, ends, block_step, step_in, step as source_step}
-use Rattle.il_ast.specs.Passes.{classes_of}
 use Rattle.vcode.specs.declared.place.Operand.TheVariants.{Number}
 use Rattle.vcode.specs.declared.line.Operation.TheVariants.{Compare as CompareValues}
 use Rattle.vcode.specs.declared.line.Line.TheVariants.{Tick}
 use Rattle.vcode.specs.declared.code.Block.{Block as VirtualBlock}
-use Rattle.vcode.specs.Operations.{held, operate}
-use Rattle.vcode.specs.Places.{Values, virtual, put, unknown}
-use Rattle.vcode.specs.Step.{State, value_of, ticks, line_step, jump_step, enters, compared, branches, returns, bound, begin as begin_code, step as step_code, read_result}
+use Rattle.vcode.specs.Prelude.{held, operate, Values, virtual, put, unknown, State, value_of, ticks, line_step, jump_step, enters, compared, branches, returns, bound, begin as begin_code, step as step_code, read_result}
 use Rattle.select.specs.Selected.{not_zero, operand_of, parameter_of, copy_lines, assignment_lines, ending_lines, jump_of, block_of, edge_of, all_lines, selected, result_of}
 use Rattle.select.specs.Typed.{Classes, Fits, CopiesFit, LeaveFits, EndingFits, ReturnFits, ParamsFit, IsTyped}
 use Rattle.select.specs.Keeping.{KeepsEndings}

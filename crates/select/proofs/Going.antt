@@ -1,15 +1,11 @@
 -- Lines of a block, done one after another.
 use Rattle.std.proofs.Common.{◌≡◌, ℕ, ◌+◌, List, [], ◌∷◌, ◌++◌, length, refl, sym, ◌∙◌, ap, subst, arith, append_assoc, slice_get, Some, None, length-append, append-nil}
 use Rattle.il_ast.specs.declared.value.Value.{Value}
-use Rattle.il_ast.specs.Run.{Outcome}
-use Rattle.il_ast.specs.Logged.{On, Event, Does}
-use Rattle.il_ast.specs.Keeps.{Asked, Given}
-use Rattle.il_ast.specs.Simulation.{Leads}
+use Rattle.il_ast.specs.Prelude.{Outcome, On, Event, Does, Asked, Given, Leads}
 use Rattle.vcode.specs.declared.line.Line.{Line}
 use Rattle.vcode.specs.declared.code.Block.{Block}
 use Rattle.vcode.specs.declared.code.Code.{Code}
-use Rattle.vcode.specs.Places.{virtual}
-use Rattle.vcode.specs.Step.{State, line_step, jump_step, block_step, step_in, step}
+use Rattle.vcode.specs.Prelude.{virtual, State, line_step, jump_step, block_step, step_in, step}
 
 -- all that stays fixed
 pub record Setting : Type 0 where

@@ -18,16 +18,11 @@ use Rattle.il_ast.specs.declared.instruction.Lined.{Lined}
 use Rattle.il_ast.specs.declared.block.Block.{Block}
 use Rattle.il_ast.specs.declared.function.Param.{Param}
 use Rattle.il_ast.specs.declared.function.Func.{Func}
-use Rattle.il_ast.specs.Cost.{phi_count}
-use Rattle.il_ast.specs.Operations.{operand_class, left_class, right_class}
-use Rattle.il_ast.specs.Effect.{stored_class}
+use Rattle.il_ast.specs.Prelude.{phi_count, operand_class, left_class, right_class, stored_class}
 use Rattle.il_types.specs.declared.rule.Rule.TheVariants.{DefinedTemporaries}
 use Rattle.il_types.specs.declared.site.Definer.{Definer}
 use Rattle.il_types.specs.declared.site.Operand.{Operand as Reading}
-use Rattle.il_types.specs.First.{when, first}
-use Rattle.il_types.specs.Sites.{definer, param_definers, phi_definers, inst_definers, block_definers, definers_of, operand_at, phi_operands, inst_operands, arg_operands, jump_operands, end_operands, block_operands, operands_of}
-use Rattle.il_types.specs.Marks.{is_given}
-use Rattle.il_types.specs.Locals.{is_defined, in_returns, returned_breaks, breaks_in, value_returned}
+use Rattle.il_types.specs.Prelude.{when, first, definer, param_definers, phi_definers, inst_definers, block_definers, definers_of, operand_at, phi_operands, inst_operands, arg_operands, jump_operands, end_operands, block_operands, operands_of, is_given, is_defined, in_returns, returned_breaks, breaks_in, value_returned}
 use Rattle.phi_copies.specs.declared.ending.Assignment.{Assignment}
 use Rattle.phi_copies.specs.declared.ending.Ending.{Ending}
 use Rattle.phi_copies.specs.Good.{IsGoodFunction}
@@ -38,7 +33,7 @@ use Rattle.vcode.specs.declared.place.Operand.{Operand}
 use Rattle.vcode.specs.declared.place.Operand.TheVariants.{At, Number, Name}
 use Rattle.vcode.specs.declared.place.Argument.{Argument}
 use Rattle.vcode.specs.declared.line.Comparison.{Comparison}
-use Rattle.vcode.specs.Named.{operand_keeps, line_keeps, jump_keeps, block_keeps, keeps_places, is_below}
+use Rattle.vcode.specs.Prelude.{operand_keeps, line_keeps, jump_keeps, block_keeps, keeps_places, is_below}
 use Rattle.select.specs.Selected.{are_whole, word, words_compared, comparison_of, operand_of, argument_of, inst_lines, turn_lines, all_lines, copy_lines, assignment_lines, ending_lines, jump_of, block_of, edge_of, blocks_of, parameter_of, selected, binary_lines}
 use Rattle.select.specs.Typed.{Classes}
 use Rattle.select.proofs.Typing.{assigned_own}

@@ -20,15 +20,11 @@ use Rattle.il_ast.specs.declared.block.PhiArg.{PhiArg}
 use Rattle.il_ast.specs.declared.block.Block.{Block}
 use Rattle.il_ast.specs.declared.function.Param.{Param}
 use Rattle.il_ast.specs.declared.function.Func.{Func}
-use Rattle.il_ast.specs.Mentions.{temps_of, temps_in_block, temps_in_phi, temps_in_inst}
-use Rattle.il_ast.specs.Operations.{operand_class, left_class, right_class}
-use Rattle.il_ast.specs.Effect.{stored_class}
+use Rattle.il_ast.specs.Prelude.{temps_of, temps_in_block, temps_in_phi, temps_in_inst, operand_class, left_class, right_class, stored_class}
 use Rattle.il_types.specs.declared.rule.Rule.TheVariants.{OneType, OperandFits, ReturnFits as ReturnFitsRule, DefinedTemporaries}
 use Rattle.il_types.specs.declared.site.Definer.{Definer}
 use Rattle.il_types.specs.declared.site.Operand.{Operand}
-use Rattle.il_types.specs.First.{when, first}
-use Rattle.il_types.specs.Sites.{definer, param_definers, phi_definers, inst_definers, item_definers, block_definers, definers_of, operand_at, phi_operands, inst_operands, arg_operands, block_operands, operands_of, end_operands}
-use Rattle.il_types.specs.Locals.{fits, fits_result, is_defined, is_long_only, is_word, has_wrong_result, in_insts, in_returns, returned_breaks, breaks_in, value_returned}
+use Rattle.il_types.specs.Prelude.{when, first, definer, param_definers, phi_definers, inst_definers, item_definers, block_definers, definers_of, operand_at, phi_operands, inst_operands, arg_operands, block_operands, operands_of, end_operands, fits, fits_result, is_defined, is_long_only, is_word, has_wrong_result, in_insts, in_returns, returned_breaks, breaks_in, value_returned}
 use Rattle.phi_copies.specs.declared.ending.Assignment.{Assignment}
 use Rattle.phi_copies.specs.declared.ending.Ending.{Ending}
 use Rattle.phi_copies.specs.Good.{IsGoodFunction}

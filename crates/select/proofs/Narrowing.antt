@@ -19,11 +19,9 @@ use Rattle.il_ast.specs.declared.instruction.Lined.{Lined}
 use Rattle.il_ast.specs.declared.block.Block.{Block}
 use Rattle.il_ast.specs.declared.function.Param.{Param}
 use Rattle.il_ast.specs.declared.function.Func.{Func}
-use Rattle.il_ast.specs.Operations.{operand_class, left_class, right_class}
-use Rattle.il_ast.specs.Effect.{stored_class}
-use Rattle.il_ast.specs.Cost.{inst_weight, block_weight, weight}
+use Rattle.il_ast.specs.Prelude.{operand_class, left_class, right_class, stored_class, inst_weight, block_weight, weight}
 use Rattle.il_types.specs.declared.site.Operand.{Operand as Reading}
-use Rattle.il_types.specs.Sites.{definer, param_definers, block_definers, arg_operands, operand_at}
+use Rattle.il_types.specs.Prelude.{definer, param_definers, block_definers, arg_operands, operand_at}
 use Rattle.phi_copies.specs.declared.ending.Assignment.{Assignment}
 use Rattle.phi_copies.specs.declared.ending.Leave.{Leave}
 use Rattle.phi_copies.specs.declared.ending.Leave.TheVariants.{Goto as GotoBlock, Branch as BranchTo, Return as ReturnWith, Halt as HaltRun}
@@ -41,7 +39,7 @@ use Rattle.vcode.specs.declared.line.Line.{Line}
 use Rattle.vcode.specs.declared.line.Line.TheVariants.{Tick}
 use Rattle.vcode.specs.declared.code.Block.{Block as VirtualBlock}
 use Rattle.vcode.specs.declared.code.Code.{Code}
-use Rattle.vcode.specs.Named.{operand_keeps, jump_keeps}
+use Rattle.vcode.specs.Prelude.{operand_keeps, jump_keeps}
 use Rattle.select.specs.Selected.{are_whole, words_compared, not_zero, operand_of, inst_lines, turn_lines, all_lines, copy_lines, assignment_lines, ending_lines, jump_of, block_of, edge_of, blocks_of, parameter_of, selected}
 use Rattle.select.specs.Typed.{Classes}
 use Rattle.select.specs.Classes.{classes_in}

@@ -14,26 +14,21 @@ use Rattle.il_ast.specs.declared.operation.BinaryOp.TheVariants.{Add, Sub, Mul, 
 use Rattle.il_ast.specs.declared.operation.Condition.{Condition}
 use Rattle.il_ast.specs.declared.value.Value.{Value}
 use Rattle.il_ast.specs.declared.value.Value.TheVariants.{Integer, Pointer, Function}
-use Rattle.il_ast.specs.Values.{in_place}
-use Rattle.il_ast.specs.Memory.{Memory, load}
-use Rattle.il_ast.specs.Operations.{operand_class, left_class, right_class, truth, holds, on_integers, compare_places, on_places, extended, extension_bytes, widened, operate_one, operate_two}
+use Rattle.il_ast.specs.Prelude.{in_place, Memory, load, operand_class, left_class, right_class, truth, holds, on_integers, compare_places, on_places, extended, extension_bytes, widened, operate_one, operate_two}
 use Rattle.rv_isa.specs.declared.instruction.RegOp.{RegOp}
 use Rattle.rv_isa.specs.declared.instruction.RegOp.TheVariants.{Add as AddReg, Sub as SubReg, Sll as SllReg, Srl as SrlReg, Sra as SraReg, Xor as XorReg, Or as OrReg, And as AndReg, Mul as MulReg, Div as DivReg, Divu as DivuReg, Rem as RemReg, Remu as RemuReg}
 use Rattle.rv_isa.specs.declared.instruction.RegWOp.{RegWOp}
 use Rattle.rv_isa.specs.declared.instruction.RegWOp.TheVariants.{Addw, Subw, Sllw, Srlw, Sraw, Mulw, Divw, Divuw, Remw, Remuw}
 use Rattle.rv_isa.specs.declared.instruction.LoadOp.TheVariants.{Ld}
-use Rattle.rv_isa.specs.Arithmetic.{reg_value, regw_value, word_value}
-use Rattle.rv_isa.specs.Step.{load_size}
+use Rattle.rv_isa.specs.Prelude.{reg_value, regw_value, word_value, load_size}
 use Rattle.rv_isa.proofs.RangeLemmas.{word_value_fits}
 use Rattle.vcode.specs.declared.place.Operand.{Operand}
 use Rattle.vcode.specs.declared.place.Operand.TheVariants.{At, Number}
 use Rattle.vcode.specs.declared.line.Operation.TheVariants.{Reg, RegW, Compare as CompareValues}
 use Rattle.vcode.specs.declared.line.Comparison.{Comparison}
 use Rattle.vcode.specs.declared.line.Line.{Line}
-use Rattle.vcode.specs.Addresses.{at_once}
+use Rattle.vcode.specs.Prelude.{at_once, held, reg_on_places, operate, loaded, extended as extended_load, State, value_of}
 use Rattle.vcode.specs.declared.line.Line.TheVariants.{Set, Operate, Load}
-use Rattle.vcode.specs.Operations.{held, reg_on_places, operate, loaded, extended as extended_load}
-use Rattle.vcode.specs.Step.{State, value_of}
 use Rattle.select.specs.Selected.{is_whole, are_whole, word, words_compared, comparison_of, word_line, word_of, bits_of_words, bit_lines, compare_line, as_word, shifted, extend_lines, load_of, copy_lines, negate_lines, unary_lines, binary_lines}
 use Rattle.select.specs.Typed.{Classes, HasResult}
 use Rattle.vcode.proofs.Comparing.{holds_extended}

@@ -6,18 +6,15 @@ use Rattle.std.proofs.lemmas.List.Recursion.{is_count_by}
 use Rattle.std.proofs.lemmas.Bool.{and_from}
 use Rattle.il_ast.specs.declared.function.Param.{Param}
 use Rattle.il_ast.specs.declared.function.Func.{Func}
-use Rattle.il_ast.specs.Mentions.{come_after, temps_in_block}
-use Rattle.il_ast.specs.Cost.{phi_count}
+use Rattle.il_ast.specs.Prelude.{come_after, temps_in_block, phi_count}
 use Rattle.il_types.specs.declared.rule.Rule.TheVariants.{DistinctLocals}
 use Rattle.il_types.specs.declared.site.Site.{Site}
-use Rattle.il_types.specs.First.{when}
-use Rattle.il_types.specs.Locals.{times, first_repeated, param_sites, label_sites}
+use Rattle.il_types.specs.Prelude.{when, times, first_repeated, param_sites, label_sites}
 use Rattle.phi_copies.specs.Good.{IsGoodFunction}
 use Rattle.phi_copies.specs.Endings.{Endings}
 use Rattle.phi_copies.specs.Lowered.{IsLowered}
 use Rattle.vcode.specs.declared.place.Destination.{Destination}
-use Rattle.vcode.specs.Named.{are_low, are_distinct}
-use Rattle.vcode.specs.Places.{virtual}
+use Rattle.vcode.specs.Prelude.{are_low, are_distinct, virtual}
 use Rattle.select.specs.Selected.{parameter_of, selected}
 use Rattle.select.specs.Classes.{classes_in}
 use Rattle.select.specs.Invariants.{IsVirtual}

@@ -17,7 +17,7 @@ use Rattle.il_ast.specs.declared.instruction.Jump.{Jump as SourceJump}
 use Rattle.il_ast.specs.declared.instruction.Jump.TheVariants.{Goto as GotoLabel, Branch as BranchLabel, Return as ReturnVal, Halt as HaltJump}
 use Rattle.il_ast.specs.declared.instruction.Lined.{Lined}
 use Rattle.il_ast.specs.declared.function.Func.{Func}
-use Rattle.il_ast.specs.Cost.{inst_weight}
+use Rattle.il_ast.specs.Prelude.{inst_weight}
 use Rattle.phi_copies.specs.declared.ending.Assignment.{Assignment}
 use Rattle.phi_copies.specs.declared.ending.Ending.{Ending}
 use Rattle.phi_copies.specs.Copies.{phis_at}
@@ -33,10 +33,9 @@ use Rattle.vcode.specs.declared.line.Operation.TheVariants.{Reg, RegW, Compare}
 use Rattle.vcode.specs.declared.place.Operand.{Operand}
 use Rattle.vcode.specs.declared.place.Operand.TheVariants.{At, Number, Name}
 use Rattle.vcode.specs.declared.line.Line.{Line}
-use Rattle.vcode.specs.Addresses.{at_once}
+use Rattle.vcode.specs.Prelude.{at_once, is_immediate, operand_cost, operation_cost, line_cost, branch_cost, jump_cost, affords}
 use Rattle.vcode.specs.declared.line.Line.TheVariants.{Tick, Set, Operate, Load, Store, Alloc, Blit, Call}
 use Rattle.vcode.specs.declared.line.Jump.{Jump}
-use Rattle.vcode.specs.Cost.{is_immediate, operand_cost, operation_cost, line_cost, branch_cost, jump_cost, affords}
 use Rattle.select.specs.Selected.{is_whole, are_whole, word, comparison_of, not_zero, word_line, word_of, bits_of_words, bit_lines, operand_of, argument_of, extend_lines, copy_lines, load_of, as_word, unary_lines, binary_lines, inst_lines, turn_lines, all_lines, assignment_lines, ending_lines, jump_of}
 use Rattle.select.specs.Typed.{Classes}
 use Rattle.il_ast.proofs.Truth.{and_first, and_second}

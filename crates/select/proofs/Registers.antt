@@ -10,13 +10,10 @@ use Rattle.il_ast.specs.declared.operand.Val.TheVariants.{Int, Temp, Global}
 use Rattle.il_ast.specs.declared.operand.Arg.{Arg}
 use Rattle.il_ast.specs.declared.value.Value.{Value}
 use Rattle.il_ast.specs.declared.value.Value.TheVariants.{Integer, Pointer, Function}
-use Rattle.il_ast.specs.Values.{in_place, same_class}
-use Rattle.il_ast.specs.Effect.{value_at, operand, all_operands}
+use Rattle.il_ast.specs.Prelude.{in_place, same_class, value_at, operand, all_operands}
 use Rattle.vcode.specs.declared.place.Operand.{Operand}
 use Rattle.bits.specs.Words.{sign_extended}
-use Rattle.vcode.specs.Operations.{held}
-use Rattle.vcode.specs.Places.{Values, virtual, put}
-use Rattle.vcode.specs.Step.{value_of, read, read_all}
+use Rattle.vcode.specs.Prelude.{held, Values, virtual, put, value_of, read, read_all}
 use Rattle.select.specs.Selected.{is_whole, word, operand_of, argument_of}
 use Rattle.select.specs.Typed.{Classes, Fits, ArgsFit}
 use Rattle.il_ast.proofs.Truth.{eq_zero_suc, eq_suc_zero, eq_suc_suc}

@@ -13,12 +13,9 @@ use Rattle.il_ast.specs.declared.instruction.Lined.{Lined}
 use Rattle.il_ast.specs.declared.block.Phi.{Phi}
 use Rattle.il_ast.specs.declared.block.Block.{Block}
 use Rattle.il_ast.specs.declared.function.Func.{Func}
-use Rattle.il_ast.specs.Cost.{inst_weight, block_weight, weight, alloc_bytes as inst_bytes, alloc_area}
+use Rattle.il_ast.specs.Prelude.{inst_weight, block_weight, weight, alloc_bytes as inst_bytes, alloc_area}
 use Rattle.il_types.specs.declared.rule.Rule.TheVariants.{AllocInEntry}
-use Rattle.il_types.specs.First.{when, first}
-use Rattle.il_types.specs.Rules.{has_few_args}
-use Rattle.il_types.specs.Sites.{jump_sites}
-use Rattle.il_types.specs.Locals.{is_alloc as is_alloc_inst, in_insts, has_wrong_size, wrong_alloc_in}
+use Rattle.il_types.specs.Prelude.{when, first, has_few_args, jump_sites, is_alloc as is_alloc_inst, in_insts, has_wrong_size, wrong_alloc_in}
 use Rattle.phi_copies.specs.declared.ending.Assignment.{Assignment}
 use Rattle.phi_copies.specs.declared.ending.Ending.{Ending}
 use Rattle.phi_copies.specs.Good.{IsGoodFunction}
@@ -27,11 +24,9 @@ use Rattle.phi_copies.specs.Endings.{Endings}
 use Rattle.phi_copies.specs.Lowered.{or_zero, target, Edge, edge_with, edge, jump_edges, end_edges, block_edges, all_edges, past_edge, branch_target, straight, straight_if, IsGoto, IsJumpEnding, IsEndEnding, AreEndings, IsOnEdge, IsLowered}
 use Rattle.phi_copies.proofs.EntryNumbers.{on_edges_many}
 use Rattle.vcode.specs.declared.line.Line.{Line}
-use Rattle.vcode.specs.Addresses.{at_once}
+use Rattle.vcode.specs.Prelude.{at_once, is_paid, is_target as is_target_in, leads_inside, is_alloc, allocs_first, alloc_bytes, turns_of, passes_few, IsRegular}
 use Rattle.vcode.specs.declared.line.Line.TheVariants.{Tick, Alloc, Store, Blit, Call}
 use Rattle.vcode.specs.declared.code.Block.{Block as VirtualBlock}
-use Rattle.vcode.specs.Cost.{is_paid}
-use Rattle.vcode.specs.Regular.{is_target as is_target_in, leads_inside, is_alloc, allocs_first, alloc_bytes, turns_of, passes_few, IsRegular}
 use Rattle.select.specs.Selected.{operand_of, destination_of, argument_of, inst_lines, turn_lines, all_lines, copy_lines, assignment_lines, ending_lines, jump_of, block_of, edge_of, blocks_of, parameter_of, selected, binary_lines}
 use Rattle.select.specs.Typed.{Classes}
 use Rattle.select.proofs.Paying.{ending_pays, insts_pay, end_ending_pays, edge_pays}

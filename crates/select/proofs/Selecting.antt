@@ -13,25 +13,14 @@ use Rattle.il_ast.specs.declared.function.Func.{Func}
 use Rattle.il_ast.specs.declared.value.Value.{Value}
 use Rattle.il_ast.specs.declared.value.Value.TheVariants.{Integer, Pointer, Function}
 use Rattle.il_ast.specs.declared.value.End.TheVariants.{Turns}
-use Rattle.il_ast.specs.Values.{byte_count}
-use Rattle.il_ast.specs.Memory.{Memory, store, copy, fresh}
-use Rattle.il_ast.specs.Cost.{inst_weight}
-use Rattle.il_ast.specs.Operations.{operand_class, left_class, right_class, operate_one, operate_two}
-use Rattle.il_ast.specs.Effect.{InstEffect, operand, all_operands, assigned, changed, stored_class, blit_weight, call_weight, call_effect, inst_effect}
-use Rattle.il_ast.specs.Run.{Spent, one_turn, both, Outcome, Returned, Ended}
-use Rattle.il_ast.specs.Logged.{On, Over, Event, Does, Calls}
-use Rattle.il_ast.specs.Keeps.{Asked, Given, Fine}
-use Rattle.il_ast.specs.Simulation.{Leads, Matches, MatchesEvent}
+use Rattle.il_ast.specs.Prelude.{byte_count, Memory, store, copy, fresh, inst_weight, operand_class, left_class, right_class, operate_one, operate_two, InstEffect, operand, all_operands, assigned, changed, stored_class, blit_weight, call_weight, call_effect, inst_effect, Spent, one_turn, both, Outcome, Returned, Ended, On, Over, Event, Does, Calls, Asked, Given, Fine, Leads, Matches, MatchesEvent}
 use Rattle.phi_copies.specs.Endings.{Endings, State as Source, goes_on, resumes as source_resumes}
 use Rattle.vcode.specs.declared.place.Destination.{Destination}
 use Rattle.vcode.specs.declared.place.Argument.{Argument}
 use Rattle.vcode.specs.declared.line.Line.{Line}
-use Rattle.vcode.specs.Addresses.{at_once}
+use Rattle.vcode.specs.Prelude.{at_once, held, Values, virtual, put, State, value_of, read_all, line_step, changes, calls, resumes}
 use Rattle.vcode.specs.declared.line.Line.TheVariants.{Tick, Store, Blit, Call}
 use Rattle.vcode.specs.declared.code.Block.{Block as VirtualBlock}
-use Rattle.vcode.specs.Operations.{held}
-use Rattle.vcode.specs.Places.{Values, virtual, put}
-use Rattle.vcode.specs.Step.{State, value_of, read_all, line_step, changes, calls, resumes}
 use Rattle.select.specs.Selected.{operand_of, destination_of, argument_of, inst_lines, turn_lines, ending_lines, block_of, edge_of, all_lines, selected}
 use Rattle.select.specs.Typed.{Classes, TakesWanted, InstFits, IsTyped}
 use Rattle.select.proofs.Going.{Setting, go, Left, Go, goes_line, left_further, gone}

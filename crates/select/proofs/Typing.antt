@@ -8,13 +8,10 @@ use Rattle.il_ast.specs.declared.operation.Class.TheVariants.{W, L}
 use Rattle.il_ast.specs.declared.operand.Val.{Val}
 use Rattle.il_ast.specs.declared.operand.Val.TheVariants.{Int, Temp, Global}
 use Rattle.il_ast.specs.declared.function.Func.{Func}
-use Rattle.il_ast.specs.Values.{same_class}
+use Rattle.il_ast.specs.Prelude.{same_class}
 use Rattle.il_types.specs.declared.site.Definer.{Definer}
 use Rattle.il_types.specs.declared.site.Operand.{Operand}
-use Rattle.il_types.specs.First.{when, first}
-use Rattle.il_types.specs.Marks.{is_given}
-use Rattle.il_types.specs.Sites.{definers_of, operands_of}
-use Rattle.il_types.specs.Locals.{two_types, misplaced, undefined_temp, fits, is_defined, has_wrong_result, in_insts, in_returns}
+use Rattle.il_types.specs.Prelude.{when, first, is_given, definers_of, operands_of, two_types, misplaced, undefined_temp, fits, is_defined, has_wrong_result, in_insts, in_returns}
 use Rattle.select.specs.Typed.{Fits}
 use Rattle.select.specs.Classes.{class_given, or_long, all_phis, classes_in}
 use Rattle.il_ast.proofs.Truth.{and_first}

@@ -18,8 +18,7 @@ use Rattle.vcode.specs.declared.place.Operand.{Operand}
 use Rattle.vcode.specs.declared.place.Operand.TheVariants.{At, Number, Name}
 use Rattle.vcode.specs.declared.line.Line.{Line}
 use Rattle.vcode.specs.declared.line.Line.TheVariants.{Tick, Set, Operate, Load, Store, Alloc, Blit, Call}
-use Rattle.vcode.specs.Named.{operand_keeps, line_keeps}
-use Rattle.vcode.specs.Regular.{is_alloc, alloc_bytes, turns_of, passes_few}
+use Rattle.vcode.specs.Prelude.{operand_keeps, line_keeps, is_alloc, alloc_bytes, turns_of, passes_few}
 use Rattle.select.specs.Selected.{is_whole, are_whole, word, words_compared, comparison_of, word_line, word_of, bits_of_words, bit_lines, compare_line, extend_lines, copy_lines, unary_lines, binary_lines}
 use Rattle.select.specs.Typed.{Classes}
 use Rattle.phi_copies.proofs.Members.{Among}

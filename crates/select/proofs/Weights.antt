@@ -15,12 +15,10 @@ use Rattle.il_ast.specs.declared.block.Phi.{Phi}
 use Rattle.il_ast.specs.declared.block.PhiArg.{PhiArg}
 use Rattle.il_ast.specs.declared.block.Block.{Block}
 use Rattle.il_ast.specs.declared.function.Func.{Func}
-use Rattle.il_ast.specs.Cost.{inst_weight, block_weight, weight}
+use Rattle.il_ast.specs.Prelude.{inst_weight, block_weight, weight}
 use Rattle.il_types.specs.declared.site.Site.{Site}
 use Rattle.il_types.specs.declared.rule.Rule.TheVariants.{DistinctLocals, PhiCoversPredecessors}
-use Rattle.il_types.specs.First.{when, first}
-use Rattle.il_types.specs.Locals.{times, goes_to, first_repeated, param_sites, label_sites, phi_sites, jumps_to, names_from, is_predecessor, covers, uncovered_in}
-use Rattle.il_types.specs.Sites.{jump_sites}
+use Rattle.il_types.specs.Prelude.{when, first, times, goes_to, first_repeated, param_sites, label_sites, phi_sites, jumps_to, names_from, is_predecessor, covers, uncovered_in, jump_sites}
 use Rattle.phi_copies.specs.declared.ending.Assignment.{Assignment}
 use Rattle.phi_copies.specs.declared.ending.Ending.{Ending}
 use Rattle.phi_copies.specs.Good.{IsGoodFunction}
@@ -31,7 +29,7 @@ use Rattle.vcode.specs.declared.place.Operand.{Operand}
 use Rattle.vcode.specs.declared.line.Line.{Line}
 use Rattle.vcode.specs.declared.line.Line.TheVariants.{Tick, Set, Operate, Load, Store, Alloc, Blit, Call}
 use Rattle.vcode.specs.declared.code.Block.{Block as VirtualBlock}
-use Rattle.vcode.specs.Regular.{code_weight, weight_of}
+use Rattle.vcode.specs.Prelude.{code_weight, weight_of}
 use Rattle.select.specs.Selected.{operand_of, inst_lines, turn_lines, all_lines, copy_lines, unary_lines, binary_lines, assignment_lines, ending_lines, edge_of, blocks_of, selected}
 use Rattle.select.specs.Typed.{Classes}
 use Rattle.select.proofs.UsedPlaces.{Sets, copy_sets, unary_sets, binary_sets}

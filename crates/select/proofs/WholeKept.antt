@@ -3,15 +3,13 @@ use Rattle.std.proofs.Common.{◌≡◌, List, [], ◌∷◌, map, refl, ap}
 use Rattle.il_ast.specs.declared.operation.Class.{Class}
 use Rattle.il_ast.specs.declared.function.Param.{Param}
 use Rattle.il_ast.specs.declared.function.Func.{Func}
-use Rattle.il_ast.specs.Passes.{IsCodeOf, classes_of, body_of}
+use Rattle.il_ast.specs.Prelude.{IsCodeOf, classes_of, body_of}
 use Rattle.il_ast.proofs.Simulated.{meaning_composes}
 use Rattle.phi_copies.specs.Endings.{Endings, begin as begin_source, step as step_source}
 use Rattle.phi_copies.specs.Good.{IsGoodFunction}
 use Rattle.phi_copies.specs.Lowered.{IsLowered}
 use Rattle.phi_copies.proofs.Lowering.{lowered_keeps}
-use Rattle.vcode.specs.Coded.{classes_in, coded}
-use Rattle.vcode.specs.Places.{virtual}
-use Rattle.vcode.specs.Step.{begin, step}
+use Rattle.vcode.specs.Prelude.{classes_in, coded, virtual, begin, step}
 use Rattle.select.specs.Selected.{parameter_of, selected}
 use Rattle.select.specs.Typed.{Classes}
 use Rattle.select.specs.Classes.{classes_in as temp_classes}

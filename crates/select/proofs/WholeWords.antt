@@ -6,7 +6,7 @@ use Rattle.std.proofs.lemmas.Nat.{and_shr, or_shr, xor_shr}
 use Rattle.bits.specs.Words.{sign_extended}
 use Rattle.rv_isa.specs.declared.instruction.RegOp.{RegOp}
 use Rattle.rv_isa.specs.declared.instruction.RegOp.TheVariants.{Xor as XorReg, Or as OrReg, And as AndReg}
-use Rattle.rv_isa.specs.Arithmetic.{reg_value}
+use Rattle.rv_isa.specs.Prelude.{reg_value}
 
 pub extended_low : (n : ℕ) → n < 2 ^ 32 → sign_extended n % 2 ^ 32 ≡ n
 extended_low n h = grind (arith, ints)

@@ -4,16 +4,13 @@ use Rattle.std.specs.Option.{option_and_then, option_flatten}
 use Rattle.std.proofs.lemmas.Bool.Decides.{nat_tests}
 use Rattle.il_ast.specs.declared.operation.Class.{Class}
 use Rattle.il_ast.specs.declared.value.Value.{Value}
-use Rattle.il_ast.specs.Logged.{On, Does}
+use Rattle.il_ast.specs.Prelude.{On, Does}
 use Rattle.rv_isa.specs.declared.instruction.LoadOp.{LoadOp}
 use Rattle.vcode.specs.declared.place.Operand.{Operand}
 use Rattle.vcode.specs.declared.line.Operation.{Operation}
 use Rattle.vcode.specs.declared.line.Line.{Line}
-use Rattle.vcode.specs.Addresses.{at_once}
+use Rattle.vcode.specs.Prelude.{at_once, held, operate, loaded, Values, virtual, put, State, value_of, line_step, sets, takes}
 use Rattle.vcode.specs.declared.line.Line.TheVariants.{Set, Operate, Load}
-use Rattle.vcode.specs.Operations.{held, operate, loaded}
-use Rattle.vcode.specs.Places.{Values, virtual, put}
-use Rattle.vcode.specs.Step.{State, value_of, line_step, sets, takes}
 use Rattle.select.specs.Typed.{Classes}
 use Rattle.select.proofs.Going.{Setting, Go}
 use Rattle.select.proofs.Registers.{Holds, Written, written}

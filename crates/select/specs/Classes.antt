@@ -7,8 +7,7 @@ use Rattle.il_ast.specs.declared.operation.Class.TheVariants.{W, L}
 use Rattle.il_ast.specs.declared.block.Phi.{Phi}
 use Rattle.il_ast.specs.declared.block.Block.{Block}
 use Rattle.il_ast.specs.declared.function.Func.{Func}
-use Rattle.il_types.specs.Sites.{definers_of}
-use Rattle.il_types.specs.Marks.{is_given}
+use Rattle.il_types.specs.Prelude.{definers_of, is_given}
 use Rattle.select.specs.Typed.{Classes}
 
 abbrev pub class_given : Func → ℕ → Class

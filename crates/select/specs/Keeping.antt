@@ -2,12 +2,10 @@
 use Rattle.std.specs.Prelude.{ℕ, List}
 use Rattle.il_ast.specs.declared.function.Func.{Func}
 use Rattle.il_ast.specs.declared.value.Value.{Value}
-use Rattle.il_ast.specs.Keeps.{KeepsCode}
+use Rattle.il_ast.specs.Prelude.{KeepsCode, classes_of}
 use Rattle.phi_copies.specs.Endings.{Endings, begin, step}
-use Rattle.il_ast.specs.Passes.{classes_of}
 use Rattle.vcode.specs.declared.code.Code.{Code}
-use Rattle.vcode.specs.Places.{virtual}
-use Rattle.vcode.specs.Step.{begin as begin_code, step as step_code}
+use Rattle.vcode.specs.Prelude.{virtual, begin as begin_code, step as step_code}
 
 -- with these values of the text's global names
 abbrev pub KeepsEndings : Func → Endings → Code ℕ → Type 0

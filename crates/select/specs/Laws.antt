@@ -1,15 +1,11 @@
 -- What is proved of selected code.
 use Rattle.std.specs.Prelude.{◌+◌, ◌≤◌, length}
 use Rattle.il_ast.specs.declared.function.Func.{Func}
-use Rattle.il_ast.specs.Cost.{phi_count, need, weight}
-use Rattle.il_ast.specs.Passes.{IsCodeOf}
+use Rattle.il_ast.specs.Prelude.{phi_count, need, weight, IsCodeOf}
 use Rattle.phi_copies.specs.Endings.{Endings}
 use Rattle.phi_copies.specs.Good.{IsGoodFunction}
 use Rattle.phi_copies.specs.Lowered.{IsLowered}
-use Rattle.vcode.specs.Coded.{coded}
-use Rattle.vcode.specs.Outgoing.{frame_bound}
-use Rattle.vcode.specs.Places.{virtual}
-use Rattle.vcode.specs.Regular.{code_weight}
+use Rattle.vcode.specs.Prelude.{coded, frame_bound, virtual, code_weight}
 use Rattle.select.specs.Selected.{selected}
 use Rattle.select.specs.Typed.{Classes, IsTyped}
 use Rattle.select.specs.Classes.{classes_in}

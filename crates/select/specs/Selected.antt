@@ -24,8 +24,7 @@ use Rattle.il_ast.specs.declared.instruction.Lined.{Lined}
 use Rattle.il_ast.specs.declared.block.Block.{Block}
 use Rattle.il_ast.specs.declared.function.Param.{Param}
 use Rattle.il_ast.specs.declared.function.Func.{Func}
-use Rattle.il_ast.specs.Values.{same_class}
-use Rattle.il_ast.specs.Cost.{inst_weight}
+use Rattle.il_ast.specs.Prelude.{same_class, inst_weight}
 use Rattle.phi_copies.specs.declared.ending.Assignment.{Assignment}
 use Rattle.phi_copies.specs.declared.ending.Leave.{Leave}
 use Rattle.phi_copies.specs.declared.ending.Leave.TheVariants.{Goto, Branch, Return, Halt}
@@ -45,7 +44,7 @@ use Rattle.vcode.specs.declared.place.Extension.TheVariants.{Made}
 use Rattle.vcode.specs.declared.line.Operation.{Operation}
 use Rattle.vcode.specs.declared.line.Operation.TheVariants.{Reg, RegW, Compare as CompareValues}
 use Rattle.vcode.specs.declared.line.Line.{Line}
-use Rattle.vcode.specs.Addresses.{at_once}
+use Rattle.vcode.specs.Prelude.{at_once}
 use Rattle.vcode.specs.declared.line.Line.TheVariants.{Tick, Set, Operate, Load, Store, Alloc, Blit, Call}
 use Rattle.vcode.specs.declared.line.Comparison.{Comparison}
 use Rattle.vcode.specs.declared.line.Jump.{Jump}

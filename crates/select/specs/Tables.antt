@@ -12,7 +12,7 @@ use Rattle.il_ast.specs.declared.block.Phi.{Phi}
 use Rattle.il_ast.specs.declared.block.Block.{Block}
 use Rattle.il_ast.specs.declared.function.Param.{Param}
 use Rattle.il_ast.specs.declared.function.Func.{Func}
-use Rattle.il_ast.specs.Values.{same_class}
+use Rattle.il_ast.specs.Prelude.{same_class}
 use Rattle.select.specs.Typed.{Classes}
 
 -- what a table says of a temporary; one past its end is long

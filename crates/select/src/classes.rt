@@ -2,8 +2,7 @@
 ghost use Rattle.std.specs.Prelude.{◌≡◌, ◌<◌, ◌+◌, ◌++◌, ◌&&◌, ℕ, nat_eq, if◌then◌else◌, length, map, IfOk, OnOk, flat_map};
 ghost use Rattle.il_ast.specs.declared.block.Phi.{Phi as PhiOf};
 ghost use Rattle.il_ast.specs.declared.operation.Class.TheVariants.{W};
-ghost use Rattle.il_ast.specs.Cost.{phi_count};
-ghost use Rattle.il_ast.specs.Values.{same_class};
+ghost use Rattle.il_ast.specs.Prelude.{phi_count, same_class};
 ghost use Rattle.select.specs.Classes.{classes_in};
 ghost use Rattle.select.specs.Tables.{listed, destinations_in, param_destination, phi_destination, item_destinations, inst_destinations, block_destinations, has_word, word_or_long, phi_classes};
 

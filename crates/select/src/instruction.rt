@@ -1,6 +1,6 @@
 //! Lines of instructions.
 ghost use Rattle.std.specs.Prelude.{◌≡◌, ◌++◌, [], ◌∷◌, map, OnOk, option_map};
-ghost use Rattle.il_ast.specs.Cost.{inst_weight};
+ghost use Rattle.il_ast.specs.Prelude.{inst_weight};
 ghost use Rattle.select.specs.Tables.{listed};
 ghost use Rattle.vcode.specs.declared.line.Line.TheVariants.{Call};
 ghost use Rattle.select.specs.Selected.{inst_lines, operand_of, destination_of, argument_of};

@@ -4,8 +4,7 @@ use Rattle.std.specs.Fmt.{digit_glyph}
 use Rattle.elf_file.specs.Loaded.{Mapping}
 use Rattle.elf_file.specs.Flags.{is_executable}
 use Rattle.rv_isa.specs.declared.instruction.Instr.{Instr}
-use Rattle.rv_isa.specs.Decoding.{instruction_of}
-use Rattle.rv_isa.specs.Text.{text_of}
+use Rattle.rv_isa.specs.Prelude.{instruction_of, text_of}
 
 -- a byte as two hexadecimal digits, in lower case
 abbrev pub two_digits : ℕ → List ℕ

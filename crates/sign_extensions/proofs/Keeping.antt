@@ -12,9 +12,7 @@ use Rattle.vcode.specs.declared.line.Jump.TheVariants.{Goto, Branch, Return, Hal
 use Rattle.vcode.specs.declared.code.Block.{Block}
 use Rattle.vcode.specs.declared.code.Code.{Code}
 use Rattle.vcode.specs.declared.function.VFunc.{VFunc}
-use Rattle.vcode.specs.Cost.{line_cost, jump_cost}
-use Rattle.vcode.specs.Named.{operand_keeps, wanted_keeps, line_keeps, jump_keeps, block_keeps, is_below}
-use Rattle.vcode.specs.Regular.{leads_inside}
+use Rattle.vcode.specs.Prelude.{line_cost, jump_cost, operand_keeps, wanted_keeps, line_keeps, jump_keeps, block_keeps, is_below, leads_inside}
 use Rattle.vcode.proofs.Measuring.{measure, nothing_taken, Measured, Empty, Put, within, each_mapped}
 use Rattle.vcode.proofs.Results.{Serves, Owed, owed_each}
 use Rattle.sign_extensions.specs.Whole.{takes_whole, wants_whole, keeps_marks, are_closed, is_extension, with_claim, jump_claim, with_copy, with_copies}

@@ -9,9 +9,7 @@ use Rattle.il_ast.specs.declared.operation.Class.{Class}
 use Rattle.il_ast.specs.declared.operation.Class.TheVariants.{W, L}
 use Rattle.il_ast.specs.declared.value.Value.{Value}
 use Rattle.il_ast.specs.declared.value.Value.TheVariants.{Integer, Pointer, Function}
-use Rattle.il_ast.specs.Values.{in_place}
-use Rattle.il_ast.specs.Memory.{Memory}
-use Rattle.il_ast.specs.Keeps.{KeepsCode}
+use Rattle.il_ast.specs.Prelude.{in_place, Memory, KeepsCode}
 use Rattle.rv_isa.specs.declared.instruction.RegWOp.TheVariants.{Addw, Subw, Sllw, Srlw, Sraw, Mulw, Divw, Divuw, Remw, Remuw}
 use Rattle.vcode.specs.declared.place.Operand.{Operand}
 use Rattle.vcode.specs.declared.place.Operand.TheVariants.{At, Number, Name}
@@ -27,15 +25,7 @@ use Rattle.vcode.specs.declared.line.Operation.{Operation}
 use Rattle.vcode.specs.declared.line.Operation.TheVariants.{Reg, RegW, Compare}
 use Rattle.vcode.specs.declared.code.Block.{Block}
 use Rattle.vcode.specs.declared.code.Code.{Code}
-use Rattle.vcode.specs.Operations.{held, passed, operate, loaded}
-use Rattle.vcode.specs.Places.{Values, unknown, put, virtual}
-use Rattle.vcode.specs.Coded.{classes_in}
-use Rattle.vcode.specs.Step.{bound, begin, value_of, read_argument, read_all, operated, address_of, step}
-use Rattle.vcode.specs.Writes.{line_writes}
-use Rattle.vcode.specs.Acts.{Act, Asks, given, asked, act, written, Way, Lost, Enters, Answers, Halts, answering, way}
-use Rattle.vcode.specs.Claims.{Claims}
-use Rattle.vcode.specs.Follows.{Alike, Arrives, LeadAlike, Follows as CodeFollows, Jumps, Both}
-use Rattle.vcode.specs.Rewrites.{Rewrites}
+use Rattle.vcode.specs.Prelude.{held, passed, operate, loaded, Values, unknown, put, virtual, classes_in, bound, begin, value_of, read_argument, read_all, operated, address_of, step, line_writes, Act, Asks, given, asked, act, written, Way, Lost, Enters, Answers, Halts, answering, way, Claims, Alike, Arrives, LeadAlike, Follows as CodeFollows, Jumps, Both, Rewrites}
 use Rattle.vcode.proofs.Alike.{MayLeave}
 use Rattle.vcode.proofs.Following.{Follows, AllFollow, ActFollows, act_follows, lines_follow, WayFollows, way_follows}
 use Rattle.vcode.proofs.Rewriting.{rewrites_keep}

@@ -10,24 +10,19 @@ use Rattle.il_ast.specs.declared.operation.Condition.{Condition}
 use Rattle.il_ast.specs.declared.operation.BinaryOp.TheVariants.{Compare as CompareTwo}
 use Rattle.il_ast.specs.declared.value.Value.{Value}
 use Rattle.il_ast.specs.declared.value.Value.TheVariants.{Integer, Pointer, Function}
-use Rattle.il_ast.specs.Memory.{Memory, load}
-use Rattle.il_ast.specs.Values.{in_place}
-use Rattle.il_ast.specs.Operations.{holds, truth, compare_places, operate_two}
+use Rattle.il_ast.specs.Prelude.{Memory, load, in_place, holds, truth, compare_places, operate_two}
 use Rattle.rv_isa.specs.declared.instruction.RegOp.{RegOp}
 use Rattle.rv_isa.specs.declared.instruction.RegOp.TheVariants.{Add, Sub, Sll, Slt, Sltu, Xor, Srl, Sra, Or, And, Mul, Mulh, Mulhsu, Mulhu, Div, Divu, Rem, Remu}
 use Rattle.rv_isa.specs.declared.instruction.RegWOp.{RegWOp}
 use Rattle.rv_isa.specs.declared.instruction.RegWOp.TheVariants.{Addw}
 use Rattle.rv_isa.specs.declared.instruction.LoadOp.{LoadOp}
 use Rattle.rv_isa.specs.declared.instruction.LoadOp.TheVariants.{Lb, Lh, Lw, Ld, Lbu, Lhu, Lwu}
-use Rattle.rv_isa.specs.Arithmetic.{reg_value, regw_value, word_value}
-use Rattle.rv_isa.specs.Step.{load_size, load_value}
+use Rattle.rv_isa.specs.Prelude.{reg_value, regw_value, word_value, load_size, load_value}
 use Rattle.vcode.specs.declared.place.Operand.{Operand}
 use Rattle.vcode.specs.declared.place.Operand.TheVariants.{At, Number, Name}
 use Rattle.vcode.specs.declared.line.Operation.{Operation}
 use Rattle.vcode.specs.declared.line.Operation.TheVariants.{Reg, RegW, Compare}
-use Rattle.vcode.specs.Operations.{held, operate, extended, loaded}
-use Rattle.vcode.specs.Places.{Values, assign, virtual}
-use Rattle.vcode.specs.Step.{value_of}
+use Rattle.vcode.specs.Prelude.{held, operate, extended, loaded, Values, assign, virtual, value_of}
 use Rattle.select.proofs.WholeWords.{BitsStay, and_stays, or_stays, xor_stays}
 use Rattle.sign_extensions.specs.Whole.{is_whole_number, is_marked, is_whole, keeps_whole, gives_whole, loads_whole}
 use Rattle.rv_isa.proofs.RangeLemmas.{word_value_fits}

@@ -1,7 +1,7 @@
 //! Functions in which extensions of whole words are copies.
 ghost use Rattle.std.specs.Prelude.{◌≡◌, IfOk, IfSome, IsTrue};
-ghost use Rattle.il_ast.specs.Passes.{Keeps};
-ghost use Rattle.vcode.specs.Coded.{virtual_code};
+ghost use Rattle.il_ast.specs.Prelude.{Keeps};
+ghost use Rattle.vcode.specs.Prelude.{virtual_code};
 ghost use Rattle.sign_extensions.specs.Whole.{are_closed, IsCopied};
 
 use crate::lines::blocks;

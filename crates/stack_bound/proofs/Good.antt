@@ -13,9 +13,7 @@ use Rattle.il_ast.specs.declared.value.Value.{Value}
 use Rattle.il_ast.specs.declared.value.Value.TheVariants.{Integer, Pointer, Function}
 use Rattle.il_ast.specs.declared.value.Cell.{Cell}
 use Rattle.il_ast.specs.declared.value.Cell.TheVariants.{Plain, Part, Blank}
-use Rattle.il_ast.specs.Values.{bytes_of, number_of, in_place}
-use Rattle.il_ast.specs.Memory.{Memory, block_at, parts, cells_for, plain_bytes, are_parts_from, value_of, span, put, cells_at, write_at, load, store, apart_or_same, copy, free, free_all}
-use Rattle.il_ast.specs.Operations.{widened, extension_bytes, operate_one, on_integers, on_places, compare_places, operate_two, truth}
+use Rattle.il_ast.specs.Prelude.{bytes_of, number_of, in_place, Memory, block_at, parts, cells_for, plain_bytes, are_parts_from, value_of, span, put, cells_at, write_at, load, store, apart_or_same, copy, free, free_all, widened, extension_bytes, operate_one, on_integers, on_places, compare_places, operate_two, truth}
 use Rattle.stack_bound.specs.declared.bounds.Bounds.{Bounds}
 use Rattle.stack_bound.specs.Bounds.{callee_fits}
 use Rattle.stack_bound.proofs.Every.{Every, IfThere, every_append, every_take, every_drop, every_set, every_replicate, every_map, there_at}

@@ -31,11 +31,8 @@ use Rattle.il_ast.specs.declared.value.Value.{Value}
 use Rattle.il_ast.specs.declared.value.Value.TheVariants.{Integer, Pointer, Function}
 use Rattle.il_ast.specs.declared.value.End.{End}
 use Rattle.il_ast.specs.declared.value.End.TheVariants.{Exit, Halt, Undefined, Stack, Turns}
-use Rattle.il_ast.specs.Values.{in_place, byte_count}
-use Rattle.il_ast.specs.Memory.{Memory, store, copy}
-use Rattle.il_ast.specs.Operations.{operand_class, left_class, right_class, operate_one, operate_two}
-use Rattle.il_ast.specs.Effect.{Locals, Activation, Call, value_at, operand, all_operands, InstEffect, Done, Asks, Fails, assigned, changed, stored_class, blit_weight, call_effect, inst_effect, Effect, Goes, Calls, Returns, Ends, phi_value, phi_values, with_phis, place_of, entered, enter_at, enter_place, branch_to, branched, returned, return_value, jump_effect, end_effect, after_inst, turn_in, turn_of, effect}
-use Rattle.il_ast.specs.Start.{target_value}
+use Rattle.il_ast.specs.Prelude.{in_place, byte_count, Memory, store, copy, operand_class, left_class, right_class, operate_one, operate_two, Locals, Activation, Call, value_at, operand, all_operands, InstEffect, Done, Asks, Fails, assigned, changed, stored_class, blit_weight, call_effect, inst_effect, Effect, Goes, Returns, Ends, phi_value, phi_values, with_phis, place_of, entered, enter_at, enter_place, branch_to, branched, returned, return_value, jump_effect, end_effect, after_inst, turn_in, turn_of, effect, target_value}
+use Rattle.il_ast.specs.Effect.{Calls}
 use Rattle.stack_bound.specs.declared.bounds.Bounds.{Bounds}
 use Rattle.stack_bound.specs.Bounds.{bound_of, pointed_bound, at_most, arity, name_fits, operand_fits, named_bound, call_bound, args_fit, inst_fits, phi_fits, jump_fits, end_fits, block_fits}
 use Rattle.stack_bound.proofs.Every.{Every, IfThere, every_set, there_at, all_there}

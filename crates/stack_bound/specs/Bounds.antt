@@ -28,8 +28,7 @@ use Rattle.il_ast.specs.declared.program.Target.TheVariants.{Code, Object}
 use Rattle.il_ast.specs.declared.program.Program.{Program}
 use Rattle.il_ast.specs.declared.value.Callee.{Callee}
 use Rattle.il_ast.specs.declared.value.Callee.TheVariants.{Defined, SystemWrite, SystemExit}
-use Rattle.il_ast.specs.Cost.{need}
-use Rattle.il_ast.specs.Meaning.{params_of}
+use Rattle.il_ast.specs.Prelude.{need, params_of}
 use Rattle.stack_bound.specs.declared.bounds.Bounds.{Bounds}
 
 -- ---- bounds of calls

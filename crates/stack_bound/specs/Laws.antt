@@ -4,8 +4,7 @@ use Rattle.il_ast.specs.declared.limits.TheConstants.{STACK_ROOM}
 use Rattle.il_ast.specs.declared.program.Program.{Program}
 use Rattle.il_ast.specs.declared.value.Callee.TheVariants.{Defined}
 use Rattle.il_ast.specs.declared.value.End.TheVariants.{Stack}
-use Rattle.il_ast.specs.Start.{start_memory}
-use Rattle.il_ast.specs.Meaning.{Behaviour, behaviour_of, callees, main_call, meaning}
+use Rattle.il_ast.specs.Prelude.{start_memory, Behaviour, behaviour_of, callees, main_call, meaning}
 use Rattle.stack_bound.specs.declared.bounds.Bounds.{Bounds}
 use Rattle.stack_bound.specs.Bounds.{AreBounds, bound_of}
 

@@ -1,7 +1,7 @@
 //! Whether blocks make no call but within the stack that is left to them, and no function a value but one that may be called by pointer.
 ghost use Rattle.std.specs.Prelude.{◌≡◌};
 ghost use Rattle.std.specs.List.{list_all};
-ghost use Rattle.obj_link.specs.ProgramOf.{program};
+ghost use Rattle.obj_link.specs.Prelude.{program};
 ghost use Rattle.stack_bound.specs.Bounds.{args_fit, block_fits, call_bound, end_fits, inst_fits, jump_fits, named_bound, operand_fits, phi_fits};
 
 use crate::bounds::{Bounds, at_most, bound_of, pointed_bound};

@@ -1,8 +1,7 @@
 //! Whether bounds are right.
 ghost use Rattle.std.specs.Prelude.{◌≡◌, map};
-ghost use Rattle.il_ast.specs.Cost.{need};
-ghost use Rattle.obj_link.specs.ProgramOf.{program};
-ghost use Rattle.obj_link.specs.Shown.{shown};
+ghost use Rattle.il_ast.specs.Prelude.{need};
+ghost use Rattle.obj_link.specs.Prelude.{program, shown};
 ghost use Rattle.stack_bound.specs.Bounds.{are_bounds, function_fits, functions_fit, left_of};
 
 use crate::blocks::blocks_fit;

@@ -1,8 +1,7 @@
 //! Whether data hold no function but one that may be called by pointer.
 ghost use Rattle.std.specs.Prelude.{◌≡◌, map};
 ghost use Rattle.std.specs.List.{list_all};
-ghost use Rattle.obj_link.specs.ProgramOf.{program};
-ghost use Rattle.obj_link.specs.Shown.{shown};
+ghost use Rattle.obj_link.specs.Prelude.{program, shown};
 ghost use Rattle.stack_bound.specs.Bounds.{field_fits, item_fits, object_fits};
 
 use crate::bounds::Bounds;

@@ -3,7 +3,7 @@ ghost use Rattle.std.specs.Prelude.{◌≡◌, ◌≤◌, IfOk, IfSome};
 ghost use Rattle.il_ast.specs.declared.limits.TheConstants.{STACK_ROOM};
 ghost use Rattle.il_ast.specs.declared.program.Program.{Program};
 ghost use Rattle.il_ast.specs.declared.value.Callee.TheVariants.{Defined};
-ghost use Rattle.obj_link.specs.ProgramOf.{program};
+ghost use Rattle.obj_link.specs.Prelude.{program};
 ghost use Rattle.stack_bound.specs.Bounds.{AreBounds, bound_of};
 ghost use Rattle.stack_bound.specs.Laws.{IsEnough, StaysInStack};
 

@@ -1,6 +1,6 @@
 //! What the global names of a text mean.
 ghost use Rattle.std.specs.Prelude.{◌≡◌};
-ghost use Rattle.obj_link.specs.ProgramOf.{program};
+ghost use Rattle.obj_link.specs.Prelude.{program};
 ghost use Rattle.stack_bound.specs.Bounds.{names_in};
 
 use il_ast::Target;

@@ -1,6 +1,6 @@
 //! Functions that may become values, and so be called by pointer.
 ghost use Rattle.std.specs.Prelude.{◌≡◌};
-ghost use Rattle.obj_link.specs.ProgramOf.{program};
+ghost use Rattle.obj_link.specs.Prelude.{program};
 ghost use Rattle.stack_bound.specs.Bounds.{arity, callee_fits, name_fits, operand_fits};
 
 use crate::bounds::{Bounds, at_most, bound_of, pointed_bound};

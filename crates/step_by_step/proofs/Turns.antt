@@ -8,7 +8,7 @@ use Rattle.il_ast.specs.declared.limits.TheConstants.{FUNCTION_WEIGHT}
 use Rattle.vcode.specs.declared.line.Line.{Line}
 use Rattle.vcode.specs.declared.line.Line.TheVariants.{Tick, Set, Operate, Load, Store, Alloc, Blit, Call}
 use Rattle.vcode.specs.declared.code.Block.{Block}
-use Rattle.vcode.specs.Regular.{turns_of}
+use Rattle.vcode.specs.Prelude.{turns_of}
 
 one_at_most : {P : Type 0} (l : Line P) → turns_of l ≤ 1
 one_at_most (Tick true w) = omega arith

@@ -5,10 +5,8 @@ use Rattle.il_ast.specs.declared.limits.TheConstants.{FUNCTION_WEIGHT}
 use Rattle.vcode.specs.declared.limits.TheConstants.{PLACES}
 use Rattle.vcode.specs.declared.place.Destination.{Destination}
 use Rattle.vcode.specs.declared.code.Code.{Code}
-use Rattle.vcode.specs.Named.{keeps_places, are_distinct}
-use Rattle.vcode.specs.Places.{Places}
+use Rattle.vcode.specs.Prelude.{keeps_places, are_distinct, Places, IsRegular, alloc_bytes, code_weight, weight_of}
 use Rattle.vcode.specs.declared.line.Line.{Line}
-use Rattle.vcode.specs.Regular.{IsRegular, alloc_bytes, code_weight, weight_of}
 use Rattle.step_by_step.specs.declared.code_text.rules.check.Measure.{Measure}
 use Rattle.step_by_step.specs.declared.code_text.rules.check.Measure.TheVariants.{Stack, Weight}
 

@@ -8,14 +8,13 @@ use Rattle.il_ast.specs.declared.operation.Class.{Class}
 use Rattle.il_ast.specs.declared.operation.Class.TheVariants.{W, L}
 use Rattle.il_ast.specs.declared.value.Value.{Value}
 use Rattle.il_ast.specs.declared.value.Value.TheVariants.{Integer, Pointer, Function}
-use Rattle.il_ast.specs.Memory.{Memory}
+use Rattle.il_ast.specs.Prelude.{Memory}
 use Rattle.rv_isa.specs.declared.instruction.RegOp.TheVariants.{Add, Sll, Mul}
 use Rattle.rv_isa.specs.declared.instruction.RegWOp.{RegWOp}
 use Rattle.rv_isa.specs.declared.instruction.RegWOp.TheVariants.{Addw}
-use Rattle.rv_isa.specs.Arithmetic.{reg_value, regw_value, word_value}
+use Rattle.rv_isa.specs.Prelude.{reg_value, regw_value, word_value}
 use Rattle.vcode.specs.declared.line.Operation.TheVariants.{Reg, RegW}
-use Rattle.vcode.specs.Operations.{operate}
-use Rattle.vcode.specs.Step.{operated}
+use Rattle.vcode.specs.Prelude.{operate, operated}
 use Rattle.value_numbering.specs.Known.{linear, grows}
 use Rattle.value_numbering.specs.Steps.{stands, further, behind}
 use Rattle.value_numbering.specs.Reused.{before, next, is_least, is_most}

@@ -13,12 +13,8 @@ use Rattle.vcode.specs.declared.line.Jump.{Jump}
 use Rattle.vcode.specs.declared.code.Block.{Block}
 use Rattle.vcode.specs.declared.function.VFunc.{VFunc}
 use Rattle.rv_isa.specs.declared.instruction.RegOp.TheVariants.{Add, Sll, Srl}
-use Rattle.vcode.specs.Cost.{operand_cost, operation_cost, line_cost, jump_cost, is_immediate}
-use Rattle.vcode.specs.Named.{operand_keeps, line_keeps, jump_keeps, is_below}
-use Rattle.vcode.specs.Addresses.{distance}
-use Rattle.vcode.specs.Regular.{leads_inside}
+use Rattle.vcode.specs.Prelude.{operand_cost, operation_cost, line_cost, jump_cost, is_immediate, operand_keeps, line_keeps, jump_keeps, is_below, distance, leads_inside, with_these}
 use Rattle.vcode.proofs.Measuring.{Measured, Empty, Put, measure, within_tested, Each, NoBlocks, OneMore}
-use Rattle.vcode.specs.Becomes.{with_these}
 use Rattle.vcode.proofs.Results.{Serves, Owed, owed_each}
 use Rattle.value_numbering.specs.declared.fact.Expression.TheVariants.{Same, Loaded}
 use Rattle.value_numbering.specs.declared.fact.Fact.{Fact}

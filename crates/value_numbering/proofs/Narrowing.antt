@@ -11,19 +11,14 @@ use Rattle.il_ast.specs.declared.operation.Class.{Class}
 use Rattle.il_ast.specs.declared.operation.Class.TheVariants.{W}
 use Rattle.il_ast.specs.declared.operation.Size.{Size}
 use Rattle.il_ast.specs.declared.operation.Size.TheVariants.{Byte, Half, Word, Long}
-use Rattle.il_ast.specs.Values.{in_place, byte_count}
-use Rattle.il_ast.specs.Memory.{Memory, store, cells_for, write_at}
-use Rattle.il_ast.specs.Effect.{stored_class}
+use Rattle.il_ast.specs.Prelude.{in_place, byte_count, Memory, store, cells_for, write_at, stored_class}
 use Rattle.rv_isa.specs.declared.instruction.RegOp.{RegOp}
 use Rattle.rv_isa.specs.declared.instruction.RegOp.TheVariants.{Add, Sub, Sll, Slt, Sltu, Xor, Srl, Sra, Or, And, Mul, Mulh, Mulhsu, Mulhu, Div, Divu, Rem, Remu}
 use Rattle.vcode.specs.declared.place.Operand.TheVariants.{At, Number, Name}
 use Rattle.vcode.specs.declared.place.Address.{Address}
 use Rattle.vcode.specs.declared.line.Operation.TheVariants.{Reg, RegW, Compare}
 use Rattle.vcode.specs.declared.line.Line.TheVariants.{Store}
-use Rattle.vcode.specs.Operations.{operate}
-use Rattle.vcode.specs.Places.{Values}
-use Rattle.vcode.specs.Step.{operated, address_of}
-use Rattle.vcode.specs.Acts.{Gives, left, act}
+use Rattle.vcode.specs.Prelude.{operate, Values, operated, address_of, Gives, left, act}
 use Rattle.value_numbering.specs.declared.fact.Expression.{Expression}
 use Rattle.value_numbering.specs.declared.fact.Expression.TheVariants.{Same, Operated, Extended, Loaded, Linear, Growing}
 use Rattle.value_numbering.specs.Known.{gives, is_back, first_of}

@@ -5,13 +5,12 @@ use Rattle.std.specs.Int.{w32, w64, cast_signed, cast_unsigned}
 use Rattle.std.proofs.lemmas.Int.{ints}
 use Rattle.il_ast.specs.declared.value.Value.{Value}
 use Rattle.il_ast.specs.declared.value.Value.TheVariants.{Integer, Pointer, Function}
-use Rattle.il_ast.specs.Memory.{Memory}
+use Rattle.il_ast.specs.Prelude.{Memory}
 use Rattle.rv_isa.specs.declared.instruction.RegOp.TheVariants.{Add}
 use Rattle.rv_isa.specs.declared.instruction.RegWOp.TheVariants.{Addw}
 use Rattle.vcode.specs.declared.line.Operation.{Operation}
 use Rattle.vcode.specs.declared.line.Operation.TheVariants.{Reg, RegW}
-use Rattle.vcode.specs.Operations.{operate}
-use Rattle.vcode.specs.Step.{operated}
+use Rattle.vcode.specs.Prelude.{operate, operated}
 use Rattle.value_numbering.specs.Regrouped.{is_sum}
 
 abbrev modulus : ℕ

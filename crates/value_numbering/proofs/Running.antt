@@ -7,8 +7,7 @@ use Rattle.std.proofs.lemmas.Bool.Decides.{nat_tests}
 use Rattle.std.proofs.lemmas.Int.{ints}
 use Rattle.il_ast.specs.declared.value.Value.{Value}
 use Rattle.il_ast.specs.declared.value.Value.TheVariants.{Integer, Pointer, Function}
-use Rattle.il_ast.specs.Memory.{Memory}
-use Rattle.il_ast.specs.Keeps.{KeepsCode}
+use Rattle.il_ast.specs.Prelude.{Memory, KeepsCode, where_different, on_offsets, on_functions, reaches, lies_in, compare_pointers, compare_with_zero, on_places, holds, truth, operate_two, same_callee}
 use Rattle.il_ast.specs.declared.operation.Class.{Class}
 use Rattle.rv_isa.specs.declared.instruction.RegOp.{RegOp}
 use Rattle.rv_isa.specs.declared.instruction.RegWOp.{RegWOp}
@@ -18,8 +17,6 @@ use Rattle.il_ast.specs.declared.operation.BinaryOp.TheVariants.{Add as SumOf, S
 use Rattle.il_ast.specs.declared.operation.Condition.{Condition}
 use Rattle.il_ast.specs.declared.operation.Condition.TheVariants.{Equal, NotEqual, SignedLessEqual, SignedLess, SignedGreaterEqual, SignedGreater, UnsignedLessEqual, UnsignedLess, UnsignedGreaterEqual, UnsignedGreater}
 use Rattle.il_ast.specs.declared.operation.Class.TheVariants.{W, L}
-use Rattle.il_ast.specs.Operations.{where_different, on_offsets, on_functions, reaches, lies_in, compare_pointers, compare_with_zero, on_places, holds, truth, operate_two}
-use Rattle.il_ast.specs.Values.{same_callee}
 use Rattle.vcode.specs.declared.place.Operand.{Operand}
 use Rattle.vcode.specs.declared.place.Operand.TheVariants.{At, Number, Name}
 use Rattle.vcode.specs.declared.line.Operation.{Operation}
@@ -30,15 +27,7 @@ use Rattle.vcode.specs.declared.line.Jump.{Jump}
 use Rattle.vcode.specs.declared.line.Jump.TheVariants.{Goto, Branch, Return, Halt}
 use Rattle.vcode.specs.declared.code.Block.{Block}
 use Rattle.vcode.specs.declared.code.Code.{Code}
-use Rattle.vcode.specs.Addresses.{distance}
-use Rattle.vcode.specs.Operations.{operate, reg_on_places, loaded}
-use Rattle.vcode.specs.Places.{Values, virtual, unknown}
-use Rattle.vcode.specs.Coded.{classes_in}
-use Rattle.vcode.specs.Step.{begin, step, bound, value_of, operated, address_of, read_result}
-use Rattle.vcode.specs.Writes.{line_writes}
-use Rattle.vcode.specs.Acts.{Act, Gives, given, act, written, way, entering, answering}
-use Rattle.vcode.specs.Follows.{Alike, Follows, Jumps, Both}
-use Rattle.vcode.specs.Facts.{Facts as About, claimed}
+use Rattle.vcode.specs.Prelude.{distance, operate, reg_on_places, loaded, Values, virtual, unknown, classes_in, begin, step, bound, value_of, operated, address_of, read_result, line_writes, Act, Gives, given, act, written, way, entering, answering, Alike, Follows, Jumps, Both, Facts as About, claimed}
 use Rattle.vcode.proofs.Alike.{MayLeave}
 use Rattle.vcode.proofs.Factual.{fact_line, fact_jump, facts_rewrite, Claimed}
 use Rattle.vcode.proofs.Rewriting.{rewrites_keep}

@@ -4,12 +4,11 @@ use Rattle.std.proofs.Math.Nat.{mul_assoc, add-mul, mul-div_cancel, mod-eq_of_lt
 use Rattle.std.proofs.lemmas.Nat.{div-add-mod', mod-mul-add, mod_below, pow_pos, pow-add}
 use Rattle.il_ast.specs.declared.value.Value.{Value}
 use Rattle.il_ast.specs.declared.value.Value.TheVariants.{Integer, Pointer, Function}
-use Rattle.il_ast.specs.Memory.{Memory}
+use Rattle.il_ast.specs.Prelude.{Memory}
 use Rattle.rv_isa.specs.declared.instruction.RegOp.TheVariants.{Sll, Srl}
-use Rattle.rv_isa.specs.Arithmetic.{reg_value}
+use Rattle.rv_isa.specs.Prelude.{reg_value}
 use Rattle.vcode.specs.declared.line.Operation.TheVariants.{Reg}
-use Rattle.vcode.specs.Operations.{operate}
-use Rattle.vcode.specs.Step.{operated}
+use Rattle.vcode.specs.Prelude.{operate, operated}
 use Rattle.value_numbering.proofs.Counting.{number}
 
 -- ---- numbers

@@ -5,9 +5,7 @@ use Rattle.vcode.specs.declared.place.Address.{Address}
 use Rattle.vcode.specs.declared.place.Operand.{Operand}
 use Rattle.vcode.specs.declared.place.Operand.TheVariants.{At, Number, Name}
 use Rattle.vcode.specs.declared.line.Operation.TheVariants.{Reg, RegW}
-use Rattle.vcode.specs.Addresses.{distance}
-use Rattle.vcode.specs.Named.{is_below}
-use Rattle.vcode.specs.Operations.{extended}
+use Rattle.vcode.specs.Prelude.{distance, is_below, extended}
 use Rattle.rv_isa.specs.declared.instruction.RegOp.{RegOp}
 use Rattle.rv_isa.specs.declared.instruction.RegOp.TheVariants.{And, Srl, Sra}
 use Rattle.rv_isa.specs.declared.instruction.RegWOp.{RegWOp}

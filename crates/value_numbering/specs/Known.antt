@@ -2,7 +2,7 @@
 use Rattle.std.specs.Prelude.{◌≡◌, ℕ, ◌%◌, ◌^◌, Bool, true, false, not, ◌&&◌, ◌||◌, nat_eq, if◌then◌else◌, List, [], ◌∷◌, slice_get, Option, Some, None, option_and_then}
 use Rattle.il_ast.specs.declared.value.Value.{Value}
 use Rattle.il_ast.specs.declared.value.Value.TheVariants.{Integer}
-use Rattle.il_ast.specs.Memory.{Memory}
+use Rattle.il_ast.specs.Prelude.{Memory}
 use Rattle.vcode.specs.declared.place.Operand.{Operand}
 use Rattle.vcode.specs.declared.place.Operand.TheVariants.{At, Number}
 use Rattle.vcode.specs.declared.line.Line.{Line}
@@ -13,13 +13,8 @@ use Rattle.rv_isa.specs.declared.instruction.RegOp.{RegOp}
 use Rattle.rv_isa.specs.declared.instruction.RegOp.TheVariants.{Add, Sll, Srl, Sra, Mul}
 use Rattle.rv_isa.specs.declared.instruction.RegWOp.{RegWOp}
 use Rattle.rv_isa.specs.declared.instruction.RegWOp.TheVariants.{Addw}
-use Rattle.rv_isa.specs.Arithmetic.{reg_value, regw_value}
-use Rattle.vcode.specs.Addresses.{distance}
-use Rattle.vcode.specs.Operations.{loaded}
-use Rattle.vcode.specs.Step.{value_of, operated}
-use Rattle.vcode.specs.Places.{Values}
-use Rattle.vcode.specs.Writes.{line_writes}
-use Rattle.vcode.specs.Acts.{Act, Fails, Gives, given}
+use Rattle.rv_isa.specs.Prelude.{reg_value, regw_value}
+use Rattle.vcode.specs.Prelude.{distance, loaded, value_of, operated, Values, line_writes, Act, Fails, Gives, given}
 use Rattle.value_numbering.specs.declared.fact.Expression.{Expression}
 use Rattle.value_numbering.specs.declared.fact.Expression.TheVariants.{Same, Operated, Extended, Loaded, Linear, Growing}
 use Rattle.value_numbering.specs.declared.fact.Fact.{Fact}

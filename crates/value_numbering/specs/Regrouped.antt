@@ -3,7 +3,7 @@ use Rattle.std.specs.Prelude.{◌≡◌, ℕ, ◌<◌, Bool, true, false, List}
 use Rattle.vcode.specs.declared.place.Operand.{Operand}
 use Rattle.vcode.specs.declared.line.Operation.{Operation}
 use Rattle.vcode.specs.declared.line.Operation.TheVariants.{Reg, RegW}
-use Rattle.vcode.specs.Named.{operand_keeps, is_below}
+use Rattle.vcode.specs.Prelude.{operand_keeps, is_below}
 use Rattle.rv_isa.specs.declared.instruction.RegOp.TheVariants.{Add}
 use Rattle.rv_isa.specs.declared.instruction.RegWOp.TheVariants.{Addw}
 use Rattle.value_numbering.specs.declared.fact.Expression.TheVariants.{Operated}

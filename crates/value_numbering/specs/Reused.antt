@@ -12,7 +12,7 @@ use Rattle.rv_isa.specs.declared.instruction.RegOp.TheVariants.{Sll, Srl}
 use Rattle.vcode.specs.declared.line.Jump.{Jump}
 use Rattle.vcode.specs.declared.line.Jump.TheVariants.{Goto, Branch, Return, Halt}
 use Rattle.vcode.specs.declared.code.Block.{Block}
-use Rattle.vcode.specs.Cost.{is_paid}
+use Rattle.vcode.specs.Prelude.{is_paid}
 use Rattle.value_numbering.specs.declared.fact.Expression.{Expression}
 use Rattle.value_numbering.specs.declared.fact.Expression.TheVariants.{Operated, Growing}
 use Rattle.value_numbering.specs.declared.fact.Fact.{Fact}

@@ -1,6 +1,6 @@
 //! Extensions of low bits, of what is extended so already, and of what was loaded.
 ghost use Rattle.std.specs.Prelude.{◌≡◌, ◌<◌, ◌^◌, true, IfSome};
-ghost use Rattle.vcode.specs.Addresses.{distance};
+ghost use Rattle.vcode.specs.Prelude.{distance};
 ghost use Rattle.vcode.specs.declared.line.Line.TheVariants.{Operate};
 ghost use Rattle.vcode.specs.declared.place.Operand.TheVariants.{At, Number};
 ghost use Rattle.value_numbering.specs.declared.fact.Expression.TheVariants.{Loaded};

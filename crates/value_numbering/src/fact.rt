@@ -1,6 +1,6 @@
 //! What a register is known to hold.
 ghost use Rattle.std.specs.Prelude.{◌≡◌};
-ghost use Rattle.vcode.specs.Addresses.{distance};
+ghost use Rattle.vcode.specs.Prelude.{distance};
 ghost use Rattle.value_numbering.specs.Known.{computed, names, reads, asks_memory, changes_memory, spares, stays};
 
 use cfg_live::uses::line_writes;

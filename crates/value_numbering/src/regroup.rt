@@ -1,6 +1,6 @@
 //! Sums whose summands are added in another order, one of two of them being known already.
 ghost use Rattle.std.specs.Prelude.{◌≡◌, ◌<◌, true, IfSome};
-ghost use Rattle.vcode.specs.Named.{operand_keeps, is_below};
+ghost use Rattle.vcode.specs.Prelude.{operand_keeps, is_below};
 ghost use Rattle.vcode.specs.declared.line.Line.TheVariants.{Operate};
 ghost use Rattle.vcode.specs.declared.place.Operand.TheVariants.{At};
 ghost use Rattle.value_numbering.specs.declared.fact.Expression.TheVariants.{Operated};

@@ -1,9 +1,8 @@
 //! Blocks and functions in which values are used again.
 ghost use Rattle.std.specs.Prelude.{◌≡◌, ◌+◌, ℕ, List, [], true, map, IsTrue, IfOk, IfSome};
-ghost use Rattle.il_ast.specs.Passes.{Keeps};
+ghost use Rattle.il_ast.specs.Prelude.{Keeps};
 ghost use Rattle.vcode.specs.declared.code.Block.{Block as ABlock};
-ghost use Rattle.vcode.specs.Coded.{virtual_code};
-ghost use Rattle.vcode.specs.Cost.{is_paid};
+ghost use Rattle.vcode.specs.Prelude.{virtual_code, is_paid};
 ghost use Rattle.sign_extensions.specs.Whole.{are_closed};
 ghost use Rattle.value_numbering.specs.Reused.{claims_at, LeadsWell, IsReused, AllReused};
 

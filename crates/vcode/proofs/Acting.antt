@@ -5,25 +5,8 @@ use Rattle.il_ast.specs.declared.operation.Class.{Class}
 use Rattle.il_ast.specs.declared.value.Value.{Value}
 use Rattle.il_ast.specs.declared.value.Value.TheVariants.{Integer, Pointer, Function}
 use Rattle.il_ast.specs.declared.value.End.TheVariants.{Halt as Halted, Undefined, Turns}
-use Rattle.il_ast.specs.Values.{byte_count}
-use Rattle.il_ast.specs.Memory.{Memory, store, copy, fresh, free_all}
-use Rattle.il_ast.specs.Effect.{Call as Calling, stored_class}
-use Rattle.il_ast.specs.Run.{one_turn, both, Outcome, Returned, Ended}
-use Rattle.il_ast.specs.Logged.{Next, On, Over, Event, Does, Calls}
-use Rattle.il_ast.specs.Keeps.{Asked, Given, Fine}
-use Rattle.il_ast.specs.Simulation.{TogetherNext, Together}
-use Rattle.vcode.specs.declared.place.Destination.{Destination}
-use Rattle.vcode.specs.declared.place.Argument.{Argument}
-use Rattle.vcode.specs.declared.line.Line.{Line}
-use Rattle.vcode.specs.declared.line.Line.TheVariants.{Tick, Set, Operate, Load, Store, Alloc, Blit, Call}
-use Rattle.vcode.specs.declared.line.Jump.{Jump}
-use Rattle.vcode.specs.declared.line.Jump.TheVariants.{Goto, Branch, Return, Halt}
-use Rattle.vcode.specs.Operations.{held, loaded}
-use Rattle.vcode.specs.Places.{Values, virtual}
-use Rattle.vcode.specs.Step.{State, value_of, read, read_result, read_all, address_of, fails, goes_on, sets, changes, weighs, ticks, resumes, calls, line_step, enters, compared, branches, returns, jump_step}
-use Rattle.vcode.specs.Writes.{place_of, line_writes}
-use Rattle.vcode.specs.Acts.{Act, Fails, Spends, Gives, Leaves, Makes, Asks, given, left, asked, act, written, Way, Lost, Enters, Answers, Halts, entering, answering, way}
-use Rattle.vcode.specs.Follows.{BehindCall, DoAlike}
+use Rattle.il_ast.specs.Prelude.{byte_count, Memory, store, copy, fresh, free_all, Call as Calling, stored_class, one_turn, both, Outcome, Returned, Ended, Next, On, Over, Event, Does, Calls, Asked, Given, Fine, TogetherNext, Together}
+use Rattle.vcode.specs.Prelude.{Destination, Argument, Line, Tick, Set, Operate, Load, Store, Alloc, Blit, Call, Jump, Goto, Branch, Return, Halt, held, loaded, Values, virtual, State, value_of, read, read_result, read_all, address_of, fails, goes_on, sets, changes, weighs, ticks, resumes, calls, line_step, enters, compared, branches, returns, jump_step, place_of, line_writes, Act, Fails, Spends, Gives, Leaves, Makes, Asks, given, left, asked, act, written, Way, Lost, Enters, Answers, Halts, entering, answering, way, BehindCall, DoAlike}
 
 -- ---- what a line's act performs
 

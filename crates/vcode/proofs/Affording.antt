@@ -1,10 +1,6 @@
 -- What lines pay for, one line further.
 use Rattle.std.proofs.Common.{◌≡◌, ℕ, ◌+◌, ◌-◌, ◌*◌, Bool, true, false, ◌&&◌, nat_le, if◌then◌else◌, List, ◌∷◌, Some, None, refl, sym, ap}
-use Rattle.vcode.specs.declared.line.Line.{Line}
-use Rattle.vcode.specs.declared.line.Line.TheVariants.{Tick, Set, Operate, Load, Store, Alloc, Blit, Call}
-use Rattle.vcode.specs.declared.line.Jump.{Jump}
-use Rattle.vcode.specs.Cost.{line_cost, affords}
-use Rattle.vcode.specs.Spent.{spent}
+use Rattle.vcode.specs.Prelude.{Line, Tick, Set, Operate, Load, Store, Alloc, Blit, Call, Jump, line_cost, affords, spent}
 
 after_cost : {P : Type 0} (cost credit left : ℕ) (j : Jump P) (rest : List (Line P)) (b : Bool) → (if b then Some (credit - cost) else None) ≡ Some left → affords left j rest ≡ (b && affords (credit - cost) j rest)
 after_cost cost credit left j rest true h = ap (λ k. affords k j rest) (let same : credit - cost ≡ left = cc in sym same)

@@ -3,19 +3,8 @@ use Rattle.std.proofs.Common.{◌≡◌, ℕ, List, length, Option, Some, None, 
 use Rattle.il_ast.specs.declared.operation.Class.{Class}
 use Rattle.il_ast.specs.declared.value.Value.{Value}
 use Rattle.il_ast.specs.declared.value.Value.TheVariants.{Integer, Pointer, Function}
-use Rattle.il_ast.specs.Values.{byte_count}
-use Rattle.il_ast.specs.Memory.{Memory, store, copy, fresh}
-use Rattle.il_ast.specs.Effect.{stored_class}
-use Rattle.vcode.specs.declared.place.Destination.{Destination}
-use Rattle.vcode.specs.declared.place.Argument.{Argument}
-use Rattle.vcode.specs.declared.line.Line.{Line}
-use Rattle.vcode.specs.declared.line.Line.TheVariants.{Tick, Set, Operate, Load, Store, Alloc, Blit, Call}
-use Rattle.vcode.specs.Operations.{held, loaded}
-use Rattle.vcode.specs.Places.{Values}
-use Rattle.vcode.specs.Step.{value_of, read, read_all, address_of}
-use Rattle.vcode.specs.Writes.{place_of, line_writes}
-use Rattle.vcode.specs.Acts.{Act, Fails, Spends, Gives, Leaves, Makes, Asks, given, left, asked, act, written}
-use Rattle.vcode.specs.Follows.{BehindCall, DoAlike}
+use Rattle.il_ast.specs.Prelude.{byte_count, Memory, store, copy, fresh, stored_class}
+use Rattle.vcode.specs.Prelude.{Destination, Argument, Line, Tick, Set, Operate, Load, Store, Alloc, Blit, Call, held, loaded, Values, value_of, read, read_all, address_of, place_of, line_writes, Act, Fails, Spends, Gives, Leaves, Makes, Asks, given, left, asked, act, written, BehindCall, DoAlike}
 
 -- it isn't undefined
 abbrev pub Works : Act → Type 0

@@ -7,7 +7,7 @@ use Rattle.bits.specs.Words.{sign_extended}
 use Rattle.il_ast.specs.declared.operation.Class.TheVariants.{W, L}
 use Rattle.il_ast.specs.declared.operation.Condition.{Condition}
 use Rattle.il_ast.specs.declared.operation.Condition.TheVariants.{Equal, NotEqual, SignedLessEqual, SignedLess, SignedGreaterEqual, SignedGreater, UnsignedLessEqual, UnsignedLess, UnsignedGreaterEqual, UnsignedGreater}
-use Rattle.il_ast.specs.Operations.{holds}
+use Rattle.il_ast.specs.Prelude.{holds}
 
 signed_word : (m : ℕ) → m < 2 ^ 32 → cast_signed w64 (sign_extended m) ≡ cast_signed w32 m
 signed_word m h = grind (arith, ints)

@@ -1,11 +1,7 @@
 -- The examples, by computing them.
 use Rattle.std.proofs.Common.{refl}
-use Rattle.il_ast.specs.Memory.{load, store, copy}
-use Rattle.il_ast.specs.Operations.{operate_one, operate_two}
-use Rattle.il_ast.specs.Logged.{Logged}
-use Rattle.vcode.specs.Operations.{operate, loaded}
-use Rattle.vcode.specs.Step.{line_step, jump_step, step}
-use Rattle.vcode.specs.Examples.{Examples}
+use Rattle.il_ast.specs.Prelude.{load, store, copy, operate_one, operate_two, Logged}
+use Rattle.vcode.specs.Prelude.{operate, loaded, line_step, jump_step, step, Examples}
 
 pub examples : Examples
 unfolding load store copy operate_one operate_two Logged operate loaded line_step jump_step step

@@ -2,19 +2,8 @@
 use Rattle.std.proofs.Common.{◌≡◌, ℕ, List, Option, Some, slice_get, refl, sym, ◌∙◌, ap, subst}
 use Rattle.il_ast.specs.declared.operation.Class.{Class}
 use Rattle.il_ast.specs.declared.value.Value.{Value}
-use Rattle.il_ast.specs.Memory.{Memory}
-use Rattle.il_ast.specs.Keeps.{Given}
-use Rattle.vcode.specs.declared.line.Line.{Line}
-use Rattle.vcode.specs.declared.line.Jump.{Jump}
-use Rattle.vcode.specs.declared.code.Block.{Block}
-use Rattle.vcode.specs.declared.code.Code.{Code}
-use Rattle.vcode.specs.Places.{Values, virtual, unknown}
-use Rattle.vcode.specs.Step.{bound}
-use Rattle.vcode.specs.Writes.{line_writes}
-use Rattle.vcode.specs.Acts.{act, written, Way, Lost, Enters, Answers, Halts, way}
-use Rattle.vcode.specs.Follows.{Alike, Arrives, LeadAlike, Follows}
-use Rattle.vcode.specs.Rewrites.{Rewrites}
-use Rattle.vcode.specs.Facts.{Facts, claimed}
+use Rattle.il_ast.specs.Prelude.{Memory, Given}
+use Rattle.vcode.specs.Prelude.{Line, Jump, Block, Code, Values, virtual, unknown, bound, line_writes, act, written, Way, Lost, Enters, Answers, Halts, way, Alike, Arrives, LeadAlike, Follows, Rewrites, Facts, claimed}
 use Rattle.vcode.proofs.Alike.{Works, MayLeave, lines_alike}
 
 -- a line that does the same where the facts hold, and writes the same register; then other facts hold

@@ -3,27 +3,9 @@ use Rattle.std.proofs.Common.{◌≡◌, ℕ, Bool, true, false, nat_eq, if◌th
 use Rattle.il_ast.specs.declared.operation.Class.{Class}
 use Rattle.il_ast.specs.declared.value.Value.{Value}
 use Rattle.il_ast.specs.declared.value.Value.TheVariants.{Integer, Pointer, Function}
-use Rattle.il_ast.specs.Values.{byte_count, in_place}
-use Rattle.il_ast.specs.Memory.{Memory, store, copy, fresh}
-use Rattle.il_ast.specs.Effect.{stored_class}
+use Rattle.il_ast.specs.Prelude.{byte_count, in_place, Memory, store, copy, fresh, stored_class}
 use Rattle.rv_isa.specs.declared.instruction.RegOp.TheVariants.{Add}
-use Rattle.vcode.specs.declared.place.Operand.{Operand}
-use Rattle.vcode.specs.declared.place.Operand.TheVariants.{At, Number, Name}
-use Rattle.vcode.specs.declared.place.Address.{Address}
-use Rattle.vcode.specs.declared.place.Argument.{Argument}
-use Rattle.vcode.specs.declared.place.Destination.{Destination}
-use Rattle.vcode.specs.declared.line.Line.{Line}
-use Rattle.vcode.specs.declared.line.Line.TheVariants.{Tick, Set, Operate, Load, Store, Alloc, Blit, Call}
-use Rattle.vcode.specs.declared.line.Operation.TheVariants.{Reg, Compare}
-use Rattle.vcode.specs.declared.line.Jump.{Jump}
-use Rattle.vcode.specs.declared.line.Jump.TheVariants.{Goto, Branch, Return, Halt}
-use Rattle.vcode.specs.Addresses.{distance}
-use Rattle.vcode.specs.Operations.{passed, operate, loaded}
-use Rattle.vcode.specs.Places.{Values}
-use Rattle.vcode.specs.Step.{value_of, read, read_argument, read_result, read_all, operated, address_of}
-use Rattle.vcode.specs.Writes.{line_writes}
-use Rattle.vcode.specs.Acts.{Act, Fails, Spends, Gives, Leaves, Makes, Asks, given, left, asked, act, written, Way, Lost, entering, answering, way}
-use Rattle.vcode.specs.Follows.{DoAlike}
+use Rattle.vcode.specs.Prelude.{Operand, At, Number, Name, Address, Argument, Destination, Line, Tick, Set, Operate, Load, Store, Alloc, Blit, Call, Reg, Compare, Jump, Goto, Branch, Return, Halt, distance, passed, operate, loaded, Values, value_of, read, read_argument, read_result, read_all, operated, address_of, line_writes, Act, Fails, Spends, Gives, Leaves, Makes, Asks, given, left, asked, act, written, Way, Lost, entering, answering, way, DoAlike}
 use Rattle.vcode.proofs.Alike.{MayLeave, WritesNone, writes_none, none_written, answers_alike}
 
 -- ---- what holds at least as much

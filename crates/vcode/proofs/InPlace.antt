@@ -3,10 +3,8 @@ use Rattle.std.proofs.Common.{ℕ, List, refl, sym, ◌∙◌, subst, arith}
 use Rattle.il_ast.specs.declared.operation.Class.{Class}
 use Rattle.il_ast.specs.declared.value.End.{End}
 use Rattle.il_ast.specs.declared.value.End.TheVariants.{Exit, Halt, Undefined, Stack, Turns}
-use Rattle.il_ast.specs.Run.{Spent, Outcome, Returned, Ended, Callees}
-use Rattle.il_ast.specs.Logged.{Event}
-use Rattle.il_ast.specs.Keeps.{Asked, Given, Body, Fine, KeepsMeaning, KeepsCode}
-use Rattle.vcode.specs.InPlace.{IsCheaper, GoesSo, HasRoom, KeepsRuns, KeepsIn}
+use Rattle.il_ast.specs.Prelude.{Spent, Outcome, Returned, Ended, Callees, Event, Asked, Given, Body, Fine, KeepsMeaning, KeepsCode}
+use Rattle.vcode.specs.Prelude.{IsCheaper, GoesSo, HasRoom, KeepsRuns, KeepsIn}
 
 -- ---- what goes so
 

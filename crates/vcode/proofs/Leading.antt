@@ -3,17 +3,8 @@ use Rattle.std.proofs.Common.{◌≡◌, ℕ, Bool, true, false, nat_eq, if◌th
 use Rattle.il_ast.specs.declared.operation.Class.{Class}
 use Rattle.il_ast.specs.declared.value.Value.{Value}
 use Rattle.il_ast.specs.declared.value.Value.TheVariants.{Integer, Pointer, Function}
-use Rattle.il_ast.specs.Memory.{Memory}
-use Rattle.vcode.specs.declared.place.Operand.{Operand}
-use Rattle.vcode.specs.declared.line.Operation.TheVariants.{Compare}
-use Rattle.vcode.specs.declared.line.Jump.{Jump}
-use Rattle.vcode.specs.declared.line.Jump.TheVariants.{Goto, Branch, Return, Halt}
-use Rattle.vcode.specs.Places.{Values}
-use Rattle.vcode.specs.Replaced.{Replacing, with_jump}
-use Rattle.vcode.specs.Step.{value_of, operated, read_result}
-use Rattle.vcode.specs.Acts.{Way, Enters, entering, answering, way}
-use Rattle.vcode.specs.Claims.{Claims}
-use Rattle.vcode.specs.Follows.{Arrives}
+use Rattle.il_ast.specs.Prelude.{Memory}
+use Rattle.vcode.specs.Prelude.{Operand, Compare, Jump, Goto, Branch, Return, Halt, Values, Replacing, with_jump, value_of, operated, read_result, Way, Enters, entering, answering, way, Claims, Arrives}
 use Rattle.vcode.proofs.SameReads.{SameValue}
 use Rattle.vcode.proofs.SameActs.{JumpReads, way_same, jump_itself}
 

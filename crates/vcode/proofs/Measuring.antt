@@ -5,12 +5,7 @@ use Rattle.std.proofs.lemmas.Bool.{and_parts, and_from}
 use Rattle.std.proofs.lemmas.Bool.Decides.{nat_tests}
 use Rattle.std.proofs.lemmas.List.Sums.{sum_by-cons}
 use Rattle.il_ast.specs.declared.limits.TheConstants.{FUNCTION_WEIGHT}
-use Rattle.vcode.specs.declared.line.Line.{Line}
-use Rattle.vcode.specs.declared.line.Line.TheVariants.{Tick, Set, Operate, Load, Store, Alloc, Blit, Call}
-use Rattle.vcode.specs.declared.line.Jump.{Jump}
-use Rattle.vcode.specs.declared.code.Block.{Block}
-use Rattle.vcode.specs.Cost.{line_cost, jump_cost, affords, is_paid}
-use Rattle.vcode.specs.Regular.{is_alloc, allocs_first, alloc_bytes, turns_of, passes_few, weight_of}
+use Rattle.vcode.specs.Prelude.{Line, Tick, Set, Operate, Load, Store, Alloc, Blit, Call, Jump, Block, line_cost, jump_cost, affords, is_paid, is_alloc, allocs_first, alloc_bytes, turns_of, passes_few, weight_of}
 
 -- ---- what a line takes
 

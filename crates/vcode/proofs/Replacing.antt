@@ -2,16 +2,7 @@
 use Rattle.std.proofs.Common.{◌≡◌, ℕ, suc, ◌+◌, ◌*◌, ◌/◌, true, false, ◌&&◌, nat_le, List, [], ◌∷◌, map, length, None, Some, refl, ◌∙◌, ap}
 use Rattle.std.specs.List.{list_all}
 use Rattle.std.proofs.lemmas.Bool.{and_parts, and_from}
-use Rattle.vcode.specs.declared.place.Operand.{Operand}
-use Rattle.vcode.specs.declared.place.Argument.{Argument}
-use Rattle.vcode.specs.declared.line.Line.{Line}
-use Rattle.vcode.specs.declared.line.Line.TheVariants.{Tick, Set, Operate, Load, Store, Alloc, Blit, Call}
-use Rattle.vcode.specs.declared.line.Jump.{Jump}
-use Rattle.vcode.specs.declared.line.Jump.TheVariants.{Goto, Branch, Return, Halt}
-use Rattle.vcode.specs.Cost.{operand_cost, place_cost, operation_cost, line_cost, branch_cost, jump_cost}
-use Rattle.vcode.specs.Named.{operand_keeps, wanted_keeps, line_keeps, jump_keeps, is_below}
-use Rattle.vcode.specs.Regular.{leads_inside}
-use Rattle.vcode.specs.Replaced.{Replacing, with_argument, with_line, with_jump}
+use Rattle.vcode.specs.Prelude.{Operand, Argument, Line, Tick, Set, Operate, Load, Store, Alloc, Blit, Call, Jump, Goto, Branch, Return, Halt, operand_cost, place_cost, operation_cost, line_cost, branch_cost, jump_cost, operand_keeps, wanted_keeps, line_keeps, jump_keeps, is_below, leads_inside, Replacing, with_argument, with_line, with_jump}
 use Rattle.vcode.proofs.Measuring.{measure}
 
 -- ---- what a line takes, which other operands leave

@@ -5,17 +5,8 @@ use Rattle.std.proofs.lemmas.Bool.{and_parts, and_from}
 use Rattle.std.proofs.lemmas.Bool.Decides.{nat_tests}
 use Rattle.il_ast.specs.declared.limits.TheConstants.{FUNCTION_WEIGHT, ALLOC_BYTES}
 use Rattle.il_ast.specs.declared.value.Value.{Value}
-use Rattle.il_ast.specs.Keeps.{KeepsCode}
-use Rattle.il_ast.specs.Passes.{Coded, Keeps}
-use Rattle.vcode.specs.declared.place.Destination.{Destination}
-use Rattle.vcode.specs.declared.code.Block.{Block}
-use Rattle.vcode.specs.declared.function.VFunc.{VFunc}
-use Rattle.vcode.specs.Becomes.{with_these, Becomes}
-use Rattle.vcode.specs.Coded.{classes_in, virtual_code}
-use Rattle.vcode.specs.Named.{block_keeps, is_below}
-use Rattle.vcode.specs.Places.{virtual}
-use Rattle.vcode.specs.Regular.{leads_inside, area, code_weight, IsRegular}
-use Rattle.vcode.specs.Step.{begin, step}
+use Rattle.il_ast.specs.Prelude.{KeepsCode, Coded, Keeps}
+use Rattle.vcode.specs.Prelude.{Destination, Block, VFunc, with_these, Becomes, classes_in, virtual_code, block_keeps, is_below, virtual, leads_inside, area, code_weight, IsRegular, begin, step}
 use Rattle.vcode.proofs.Measuring.{Within, Fit, Each, each_count, each_all, each_fits, still_within}
 
 abbrev pub all_inside : List (Block ℕ) → Bool

@@ -2,24 +2,9 @@
 use Rattle.std.proofs.Common.{◌≡◌, ℕ, ◌+◌, List, [], ◌∷◌, drop, Option, Some, None, slice_get, refl, sym, ◌∙◌, ap, subst}
 use Rattle.il_ast.specs.declared.operation.Class.{Class}
 use Rattle.il_ast.specs.declared.value.Value.{Value}
-use Rattle.il_ast.specs.Run.{Outcome}
-use Rattle.il_ast.specs.Logged.{Event}
-use Rattle.il_ast.specs.Keeps.{Asked, Given, Fine, KeepsCode}
-use Rattle.il_ast.specs.Simulation.{Together, MatchesEvent, Simulates}
+use Rattle.il_ast.specs.Prelude.{Outcome, Event, Asked, Given, Fine, KeepsCode, Together, MatchesEvent, Simulates}
 use Rattle.il_ast.proofs.Simulated.{event_together, step_before, simulation_keeps}
-use Rattle.vcode.specs.declared.line.Line.{Line}
-use Rattle.vcode.specs.declared.line.Jump.{Jump}
-use Rattle.vcode.specs.declared.line.Jump.TheVariants.{Goto}
-use Rattle.vcode.specs.declared.code.Block.{Block}
-use Rattle.vcode.specs.declared.code.Code.{Code}
-use Rattle.vcode.specs.Coded.{classes_in}
-use Rattle.vcode.specs.Places.{Values, virtual}
-use Rattle.vcode.specs.Step.{State, begin, jump_step, step}
-use Rattle.vcode.specs.Writes.{line_writes}
-use Rattle.vcode.specs.Acts.{Act, Fails, Spends, Gives, Leaves, Makes, Asks, act, written, Way, Lost, Enters, Answers, Halts, way}
-use Rattle.vcode.specs.Claims.{Claims}
-use Rattle.vcode.specs.Follows.{OnlyGives, Arrives, Follows, Jumps, Both, Gone, Come, FirstOn, SecondOn, Less}
-use Rattle.vcode.specs.Rewrites.{Rewrites}
+use Rattle.vcode.specs.Prelude.{Line, Jump, Goto, Block, Code, classes_in, Values, virtual, State, begin, jump_step, step, line_writes, Act, Fails, Spends, Gives, Leaves, Makes, Asks, act, written, Way, Lost, Enters, Answers, Halts, way, Claims, OnlyGives, Arrives, Follows, Jumps, Both, Gone, Come, FirstOn, SecondOn, Less, Rewrites}
 use Rattle.vcode.proofs.Lists.{head_at, tail_at, nothing_at}
 use Rattle.vcode.proofs.Stepping.{step_line, step_jump, step_nowhere}
 use Rattle.vcode.proofs.Acting.{perform, line_acts, lead, jump_leads, beside, acts_together}

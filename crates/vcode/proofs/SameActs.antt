@@ -5,24 +5,8 @@ use Rattle.std.proofs.lemmas.Bool.{and_parts}
 use Rattle.il_ast.specs.declared.operation.Class.{Class}
 use Rattle.il_ast.specs.declared.value.Value.{Value}
 use Rattle.il_ast.specs.declared.value.Value.TheVariants.{Integer, Pointer, Function}
-use Rattle.il_ast.specs.Values.{byte_count, in_place}
-use Rattle.il_ast.specs.Memory.{Memory, store, copy}
-use Rattle.il_ast.specs.Effect.{stored_class}
-use Rattle.vcode.specs.declared.place.Operand.{Operand}
-use Rattle.vcode.specs.declared.place.Destination.{Destination}
-use Rattle.vcode.specs.declared.place.Argument.{Argument}
-use Rattle.vcode.specs.declared.line.Line.{Line}
-use Rattle.vcode.specs.declared.line.Line.TheVariants.{Tick, Set, Operate, Load, Store, Alloc, Blit, Call}
-use Rattle.vcode.specs.declared.line.Operation.TheVariants.{Compare}
-use Rattle.vcode.specs.declared.line.Jump.{Jump}
-use Rattle.vcode.specs.declared.line.Jump.TheVariants.{Goto, Branch, Return, Halt}
-use Rattle.vcode.specs.Named.{operand_keeps, wanted_keeps, line_keeps, jump_keeps}
-use Rattle.vcode.specs.Operations.{operate, loaded, passed}
-use Rattle.vcode.specs.Places.{Values}
-use Rattle.vcode.specs.Replaced.{Replacing, with_argument, with_line, with_jump}
-use Rattle.vcode.specs.Step.{value_of, read, read_all, address_of}
-use Rattle.vcode.specs.Writes.{line_writes}
-use Rattle.vcode.specs.Acts.{Asks, Gives, given, left, asked, act, entering, answering, way}
+use Rattle.il_ast.specs.Prelude.{byte_count, in_place, Memory, store, copy, stored_class}
+use Rattle.vcode.specs.Prelude.{Operand, Destination, Argument, Line, Tick, Set, Operate, Load, Store, Alloc, Blit, Call, Compare, Jump, Goto, Branch, Return, Halt, operand_keeps, wanted_keeps, line_keeps, jump_keeps, operate, loaded, passed, Values, Replacing, with_argument, with_line, with_jump, value_of, read, read_all, address_of, line_writes, Asks, Gives, given, left, asked, act, entering, answering, way}
 use Rattle.vcode.proofs.SameReads.{SameValue, SameArguments, address_same, two_same, args_same}
 
 -- ---- what holds of each operand that is read

@@ -1,18 +1,9 @@
 -- What a line or a jump does with other operands that have the same values, in other values of the places.
 use Rattle.std.proofs.Common.{◌≡◌, ℕ, nat_eq, if◌then◌else◌, List, [], ◌∷◌, map, Option, refl, ◌∙◌, ap, option_map, option_and_then}
 use Rattle.il_ast.specs.declared.value.Value.{Value}
-use Rattle.il_ast.specs.Memory.{Memory}
+use Rattle.il_ast.specs.Prelude.{Memory}
 use Rattle.rv_isa.specs.declared.instruction.RegOp.TheVariants.{Add}
-use Rattle.vcode.specs.declared.place.Operand.{Operand}
-use Rattle.vcode.specs.declared.place.Operand.TheVariants.{Number}
-use Rattle.vcode.specs.declared.place.Address.{Address}
-use Rattle.vcode.specs.declared.place.Argument.{Argument}
-use Rattle.vcode.specs.declared.line.Operation.TheVariants.{Reg}
-use Rattle.vcode.specs.Addresses.{distance}
-use Rattle.vcode.specs.Operations.{passed}
-use Rattle.vcode.specs.Places.{Values}
-use Rattle.vcode.specs.Replaced.{Replacing, with_base, with_argument}
-use Rattle.vcode.specs.Step.{value_of, read_argument, read_all, operated, address_of}
+use Rattle.vcode.specs.Prelude.{Operand, Number, Address, Argument, Reg, distance, passed, Values, Replacing, with_base, with_argument, value_of, read_argument, read_all, operated, address_of}
 
 -- what stands in the place of an operand has that one's value
 abbrev pub SameValue : List Value → (ev el : Values ℕ) → Replacing → Operand ℕ → Type 0

@@ -1,12 +1,8 @@
 -- A step of code, by what stands next.
 use Rattle.std.proofs.Common.{◌≡◌, List, slice_get, Some, None, ◌∙◌, ap}
 use Rattle.il_ast.specs.declared.value.Value.{Value}
-use Rattle.il_ast.specs.Keeps.{Given}
-use Rattle.vcode.specs.declared.line.Line.{Line}
-use Rattle.vcode.specs.declared.code.Block.{Block}
-use Rattle.vcode.specs.declared.code.Code.{Code}
-use Rattle.vcode.specs.Places.{Places}
-use Rattle.vcode.specs.Step.{State, fails, line_step, jump_step, block_step, step_in, step}
+use Rattle.il_ast.specs.Prelude.{Given}
+use Rattle.vcode.specs.Prelude.{Line, Block, Code, Places, State, fails, line_step, jump_step, block_step, step_in, step}
 
 pub step_line : {P : Type 0} (places : Places P) (globals : List Value) (code : Code P) (i : Given) (s : State P) (b : Block P) (l : Line P)
     → slice_get code.blocks s.block ≡ Some b → slice_get b.lines s.next ≡ Some l → step places globals code i s ≡ line_step places globals i s l

@@ -4,7 +4,7 @@ use Rattle.std.proofs.lemmas.Int.{ints}
 use Rattle.bits.specs.Words.{sign_extended}
 use Rattle.il_ast.specs.declared.operation.Class.TheVariants.{W, L}
 use Rattle.il_ast.specs.declared.value.Value.TheVariants.{Integer, Pointer, Function}
-use Rattle.vcode.specs.Laws.{WordsAreRead}
+use Rattle.vcode.specs.Prelude.{WordsAreRead}
 
 low_bits : (n : ℕ) → n < 2 ^ 32 → sign_extended n % 2 ^ 32 ≡ n
 low_bits n h = grind (arith, ints)

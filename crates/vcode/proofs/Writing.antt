@@ -4,13 +4,7 @@ use Rattle.std.specs.Option.{option_map_or}
 use Rattle.std.specs.List.{list_all}
 use Rattle.std.proofs.lemmas.Bool.{and_parts, eqb-true}
 use Rattle.il_ast.specs.declared.value.Value.{Value}
-use Rattle.vcode.specs.declared.place.Argument.{Argument}
-use Rattle.vcode.specs.declared.line.Line.{Line}
-use Rattle.vcode.specs.declared.line.Line.TheVariants.{Tick, Set, Operate, Load, Store, Alloc, Blit, Call}
-use Rattle.vcode.specs.Named.{operand_keeps, line_keeps}
-use Rattle.vcode.specs.Writes.{line_writes}
-use Rattle.vcode.specs.Places.{Values}
-use Rattle.vcode.specs.Acts.{written}
+use Rattle.vcode.specs.Prelude.{Argument, Line, Tick, Set, Operate, Load, Store, Alloc, Blit, Call, operand_keeps, line_keeps, line_writes, Values, written}
 use Rattle.il_ast.proofs.Truth.{equals_itself, equal_turned}
 
 abbrev pub is_written : Option ℕ → ℕ → Bool

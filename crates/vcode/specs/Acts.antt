@@ -4,16 +4,8 @@ use Rattle.std.specs.Prelude.{ℕ, Bool, nat_eq, if◌then◌else◌, List, map,
 use Rattle.il_ast.specs.declared.operation.Class.{Class}
 use Rattle.il_ast.specs.declared.value.Value.{Value}
 use Rattle.il_ast.specs.declared.value.Value.TheVariants.{Integer, Function}
-use Rattle.il_ast.specs.Values.{byte_count}
-use Rattle.il_ast.specs.Memory.{Memory, store, copy}
-use Rattle.il_ast.specs.Effect.{Call as Calling, stored_class}
-use Rattle.vcode.specs.declared.place.Destination.{Destination}
-use Rattle.vcode.specs.declared.place.Argument.{Argument}
-use Rattle.vcode.specs.declared.line.Line.{Line}
-use Rattle.vcode.specs.declared.line.Line.TheVariants.{Tick, Set, Operate, Load, Store, Alloc, Blit, Call}
-use Rattle.vcode.specs.declared.line.Operation.TheVariants.{Compare}
-use Rattle.vcode.specs.declared.line.Jump.{Jump}
-use Rattle.vcode.specs.declared.line.Jump.TheVariants.{Goto, Branch, Return, Halt}
+use Rattle.il_ast.specs.Prelude.{byte_count, Memory, store, copy, Call as Calling, stored_class}
+use Rattle.vcode.specs.Types.{Destination, Argument, Line, Tick, Set, Operate, Load, Store, Alloc, Blit, Call, Compare, Jump, Goto, Branch, Return, Halt}
 use Rattle.vcode.specs.Operations.{loaded}
 use Rattle.vcode.specs.Places.{Values, virtual, assign}
 use Rattle.vcode.specs.Step.{value_of, read, read_result, read_all, operated, address_of}

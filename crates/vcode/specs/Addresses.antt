@@ -1,12 +1,9 @@
 -- Addresses of memory: a base, and a distance from it in bytes.
 use Rattle.std.specs.Prelude.{ℕ, ◌%◌}
 use Rattle.std.proofs.Common.{lit<, mod-lt}
-use Rattle.rv_isa.specs.Arithmetic.{widened}
-use Rattle.rv_isa.specs.Formats.{signed}
-use Rattle.rv_isa.specs.Readings.{signed12_fits}
+use Rattle.rv_isa.specs.Prelude.{widened, signed, signed12_fits}
 use Rattle.rv_isa.specs.declared.ranges.Immediate.{Immediate}
-use Rattle.vcode.specs.declared.place.Operand.{Operand}
-use Rattle.vcode.specs.declared.place.Address.{Address}
+use Rattle.vcode.specs.Types.{Operand, Address}
 
 -- the low 12 bits, read with a sign
 abbrev pub low : ℕ → Immediate

@@ -1,10 +1,8 @@
 -- What a pass owes of the blocks that it makes of a function's.
 use Rattle.std.specs.Prelude.{ℕ, nat_le, IsTrue, List}
 use Rattle.il_ast.specs.declared.limits.TheConstants.{FUNCTION_WEIGHT}
-use Rattle.il_ast.specs.Passes.{Keeps}
-use Rattle.vcode.specs.declared.code.Block.{Block}
-use Rattle.vcode.specs.declared.code.Code.{Code}
-use Rattle.vcode.specs.declared.function.VFunc.{VFunc}
+use Rattle.il_ast.specs.Prelude.{Keeps}
+use Rattle.vcode.specs.Types.{Block, Code, VFunc}
 use Rattle.vcode.specs.Coded.{coded, virtual_code}
 use Rattle.vcode.specs.Named.{keeps_places, is_below}
 use Rattle.vcode.specs.Places.{virtual}

@@ -2,7 +2,7 @@
 -- same memory and have spent the same, and their registers hold what the claim says.
 use Rattle.std.specs.Prelude.{ℕ, List}
 use Rattle.il_ast.specs.declared.value.Value.{Value}
-use Rattle.il_ast.specs.Memory.{Memory}
+use Rattle.il_ast.specs.Prelude.{Memory}
 use Rattle.vcode.specs.Places.{Values}
 
 -- the claims that a pass makes; what each says of global names, of memory and of the registers of

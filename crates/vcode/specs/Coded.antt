@@ -1,11 +1,8 @@
 -- Virtual code and location code as passes see them.
 use Rattle.std.specs.Prelude.{List, map}
 use Rattle.il_ast.specs.declared.operation.Class.{Class}
-use Rattle.il_ast.specs.Passes.{Coded}
-use Rattle.vcode.specs.declared.place.Destination.{Destination}
-use Rattle.vcode.specs.declared.code.Code.{Code}
-use Rattle.vcode.specs.declared.function.VFunc.{VFunc}
-use Rattle.vcode.specs.declared.function.LFunc.{LFunc}
+use Rattle.il_ast.specs.Prelude.{Coded}
+use Rattle.vcode.specs.Types.{Destination, Code, VFunc, LFunc}
 use Rattle.vcode.specs.Places.{Places, virtual, located}
 use Rattle.vcode.specs.Step.{State, begin, step}
 

@@ -7,21 +7,7 @@ use Rattle.il_ast.specs.declared.operation.Condition.TheVariants.{NotEqual, Sign
 use Rattle.rv_isa.specs.declared.instruction.RegOp.TheVariants.{Add, Sub, Mul}
 use Rattle.rv_isa.specs.declared.instruction.RegWOp.TheVariants.{Addw}
 use Rattle.rv_isa.specs.declared.instruction.LoadOp.TheVariants.{Lw, Ld, Lbu}
-use Rattle.vcode.specs.declared.place.Operand.{Operand}
-use Rattle.vcode.specs.declared.place.ReturnValue.{ReturnValue}
-use Rattle.vcode.specs.declared.place.Operand.TheVariants.{At, Number, Name}
-use Rattle.vcode.specs.declared.place.Destination.{Destination}
-use Rattle.vcode.specs.declared.place.Extension.TheVariants.{Made}
-use Rattle.vcode.specs.declared.place.Location.{Location}
-use Rattle.vcode.specs.declared.place.Location.TheVariants.{Register, Slot}
-use Rattle.vcode.specs.declared.line.Operation.TheVariants.{Reg, RegW, Compare}
-use Rattle.vcode.specs.declared.line.Line.{Line}
-use Rattle.vcode.specs.declared.line.Line.TheVariants.{Tick, Set, Operate, Load, Store, Alloc, Blit, Call}
-use Rattle.vcode.specs.declared.line.Comparison.{Comparison}
-use Rattle.vcode.specs.declared.line.Jump.{Jump}
-use Rattle.vcode.specs.declared.line.Jump.TheVariants.{Goto, Branch, Return, Halt}
-use Rattle.vcode.specs.declared.code.Block.{Block}
-use Rattle.vcode.specs.declared.code.Code.{Code}
+use Rattle.vcode.specs.Types.{Operand, ReturnValue, At, Number, Name, Destination, Made, Location, Register, Slot, Reg, RegW, Compare, Line, Tick, Set, Operate, Load, Store, Alloc, Blit, Call, Comparison, Jump, Goto, Branch, Return, Halt, Block, Code}
 use Rattle.vcode.specs.Addresses.{beyond, at_once}
 
 abbrev pub block : {P : Type 0} → List (Line P) → Jump P → Block P

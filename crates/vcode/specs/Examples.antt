@@ -5,18 +5,9 @@ use Rattle.il_ast.specs.declared.value.Callee.TheVariants.{Defined}
 use Rattle.il_ast.specs.declared.value.Value.{Value}
 use Rattle.il_ast.specs.declared.value.Value.TheVariants.{Integer, Function}
 use Rattle.il_ast.specs.declared.value.End.TheVariants.{Exit, Halt, Undefined, Turns}
-use Rattle.il_ast.specs.Memory.{Memory}
-use Rattle.il_ast.specs.Run.{Spent, Outcome, Returned, Ended}
-use Rattle.il_ast.specs.Logged.{Entry, Logged}
-use Rattle.il_ast.specs.Keeps.{Asked, Given, Log}
+use Rattle.il_ast.specs.Prelude.{Memory, Spent, Outcome, Returned, Ended, Entry, Logged, Asked, Given, Log}
 use Rattle.std.specs.List.{list_all, list_any}
-use Rattle.vcode.specs.declared.place.Operand.TheVariants.{At, Number, Name}
-use Rattle.vcode.specs.declared.line.Line.TheVariants.{Tick, Set, Alloc}
-use Rattle.vcode.specs.declared.line.Jump.{Jump}
-use Rattle.vcode.specs.declared.line.Jump.TheVariants.{Goto, Branch, Halt as HaltJump}
-use Rattle.vcode.specs.declared.place.Location.TheVariants.{Register, Slot}
-use Rattle.vcode.specs.declared.place.Extension.TheVariants.{Claimed}
-use Rattle.vcode.specs.declared.code.Code.{Code}
+use Rattle.vcode.specs.Types.{At, Number, Name, Tick, Set, Alloc, Jump, Goto, Branch, Halt as HaltJump, Register, Slot, Claimed, Code}
 use Rattle.vcode.specs.Operations.{passed}
 use Rattle.vcode.specs.Places.{Places, virtual, is_callers, located}
 use Rattle.vcode.specs.Regular.{leads_inside, allocs_first, IsRegular, area}

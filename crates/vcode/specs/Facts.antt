@@ -2,7 +2,7 @@
 -- memory, known at the start of each block.
 use Rattle.std.specs.Prelude.{◌≡◌, ℕ, List}
 use Rattle.il_ast.specs.declared.value.Value.{Value}
-use Rattle.il_ast.specs.Memory.{Memory}
+use Rattle.il_ast.specs.Prelude.{Memory}
 use Rattle.vcode.specs.Places.{Values}
 use Rattle.vcode.specs.Claims.{Claims}
 

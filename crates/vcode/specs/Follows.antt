@@ -4,12 +4,8 @@ use Rattle.std.specs.Prelude.{◌≡◌, ℕ, List, [], ◌∷◌, length, slice
 use Rattle.il_ast.specs.declared.operation.Class.{Class}
 use Rattle.il_ast.specs.declared.value.Value.{Value}
 use Rattle.il_ast.specs.declared.value.Value.TheVariants.{Pointer}
-use Rattle.il_ast.specs.Memory.{Memory, fresh}
-use Rattle.vcode.specs.declared.line.Line.{Line}
-use Rattle.vcode.specs.declared.line.Jump.{Jump}
-use Rattle.vcode.specs.declared.line.Jump.TheVariants.{Goto}
-use Rattle.vcode.specs.declared.code.Block.{Block}
-use Rattle.vcode.specs.declared.code.Code.{Code}
+use Rattle.il_ast.specs.Prelude.{Memory, fresh}
+use Rattle.vcode.specs.Types.{Line, Jump, Goto, Block, Code}
 use Rattle.vcode.specs.Operations.{held}
 use Rattle.vcode.specs.Places.{Values}
 use Rattle.vcode.specs.Writes.{line_writes}

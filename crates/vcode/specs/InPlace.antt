@@ -3,9 +3,7 @@
 use Rattle.std.specs.Prelude.{◌≡◌, ℕ, ◌≤◌, List}
 use Rattle.il_ast.specs.declared.operation.Class.{Class}
 use Rattle.il_ast.specs.declared.value.End.TheVariants.{Exit, Halt, Undefined, Stack, Turns}
-use Rattle.il_ast.specs.Run.{Spent, Outcome, Returned, Ended, Callees}
-use Rattle.il_ast.specs.Logged.{Event, Logged}
-use Rattle.il_ast.specs.Keeps.{Asked, Given, Body, Log, AreArgs, AllGo}
+use Rattle.il_ast.specs.Prelude.{Spent, Outcome, Returned, Ended, Callees, Event, Logged, Asked, Given, Body, Log, AreArgs, AllGo}
 
 -- the same turns and output, and no more weight and calls
 pub record IsCheaper (t s : Spent) : Type 0 where

@@ -3,11 +3,9 @@ use Rattle.std.specs.Prelude.{◌≡◌}
 use Rattle.il_ast.specs.declared.operation.Class.{Class}
 use Rattle.il_ast.specs.declared.operation.Class.TheVariants.{W}
 use Rattle.il_ast.specs.declared.value.Value.{Value}
-use Rattle.il_ast.specs.Values.{in_place}
+use Rattle.il_ast.specs.Prelude.{in_place, Keeps, IsCodeOf}
 use Rattle.il_ast.specs.declared.function.Func.{Func}
-use Rattle.il_ast.specs.Passes.{Keeps, IsCodeOf}
-use Rattle.vcode.specs.declared.function.VFunc.{VFunc}
-use Rattle.vcode.specs.declared.function.LFunc.{LFunc}
+use Rattle.vcode.specs.Types.{VFunc, LFunc}
 use Rattle.vcode.specs.Coded.{virtual_code, location_code}
 use Rattle.vcode.specs.Operations.{held}
 

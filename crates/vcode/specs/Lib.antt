@@ -20,3 +20,5 @@ pub mod Follows
 pub mod Rewrites
 pub mod Facts
 pub mod InPlace
+pub mod Types
+pub mod Prelude

@@ -8,19 +8,13 @@ use Rattle.il_ast.specs.declared.operation.BinaryOp.TheVariants.{Add, Sub, Compa
 use Rattle.il_ast.specs.declared.operation.Condition.{Condition}
 use Rattle.il_ast.specs.declared.value.Value.{Value}
 use Rattle.il_ast.specs.declared.value.Value.TheVariants.{Integer, Pointer, Function}
-use Rattle.il_ast.specs.Values.{in_place}
-use Rattle.il_ast.specs.Memory.{Memory, load}
-use Rattle.il_ast.specs.Operations.{on_places, operate_two}
+use Rattle.il_ast.specs.Prelude.{in_place, Memory, load, on_places, operate_two}
 use Rattle.rv_isa.specs.declared.instruction.RegOp.{RegOp}
 use Rattle.rv_isa.specs.declared.instruction.RegOp.TheVariants.{Add as AddLong, Sub as SubLong}
 use Rattle.rv_isa.specs.declared.instruction.LoadOp.{LoadOp}
 use Rattle.rv_isa.specs.declared.instruction.LoadOp.TheVariants.{Lb, Lh, Lw, Ld, Lbu, Lhu, Lwu}
-use Rattle.rv_isa.specs.Arithmetic.{reg_value, regw_value}
-use Rattle.rv_isa.specs.Step.{load_size, load_value}
-use Rattle.vcode.specs.declared.place.Extension.{Extension}
-use Rattle.vcode.specs.declared.place.Extension.TheVariants.{Claimed}
-use Rattle.vcode.specs.declared.line.Operation.{Operation}
-use Rattle.vcode.specs.declared.line.Operation.TheVariants.{Reg, RegW, Compare as CompareValues}
+use Rattle.rv_isa.specs.Prelude.{reg_value, regw_value, load_size, load_value}
+use Rattle.vcode.specs.Types.{Extension, Claimed, Operation, Reg, RegW, Compare as CompareValues}
 
 -- how a value of this class stands in a place: a word sign-extended to 64 bits, any other value as
 -- it is

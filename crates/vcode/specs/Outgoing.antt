@@ -1,11 +1,8 @@
 -- How many arguments a code passes on the stack, and how much of it a call of the code takes.
 use Rattle.std.specs.Prelude.{ℕ, ◌+◌, ◌-◌, ◌*◌, max, List, [], ◌∷◌, length}
-use Rattle.il_ast.specs.Cost.{round_16}
+use Rattle.il_ast.specs.Prelude.{round_16}
 use Rattle.rv_isa.specs.declared.abi.TheConstants.{ARGUMENT_REGISTERS}
-use Rattle.vcode.specs.declared.line.Line.{Line}
-use Rattle.vcode.specs.declared.line.Line.TheVariants.{Call}
-use Rattle.vcode.specs.declared.code.Block.{Block}
-use Rattle.vcode.specs.declared.code.Code.{Code}
+use Rattle.vcode.specs.Types.{Line, Call, Block, Code}
 use Rattle.vcode.specs.Regular.{area}
 
 -- the arguments of a call that are passed on the stack: those that registers don't pass

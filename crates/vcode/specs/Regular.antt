@@ -2,7 +2,7 @@
 use Rattle.std.specs.Prelude.{ℕ, Bool, true, false, not, ◌&&◌, nat_lt, nat_le, IsTrue, List, [], ◌∷◌, length}
 use Rattle.std.specs.List.{list_all, list_any, sum_by}
 use Rattle.il_ast.specs.declared.limits.TheConstants.{FUNCTION_WEIGHT, ARGUMENTS, ALLOC_BYTES}
-use Rattle.il_ast.specs.Cost.{round_16}
+use Rattle.il_ast.specs.Prelude.{round_16}
 use Rattle.vcode.specs.declared.line.Line.{Line}
 use Rattle.vcode.specs.declared.line.Line.TheVariants.{Tick, Alloc, Call}
 use Rattle.vcode.specs.declared.line.Jump.{Jump}

@@ -1,9 +1,8 @@
 -- The second code is the first, rewritten under claims.
 use Rattle.std.specs.Prelude.{◌≡◌, ℕ, List, slice_get, Some}
 use Rattle.il_ast.specs.declared.value.Value.{Value}
-use Rattle.il_ast.specs.Keeps.{Given, AreArgs}
-use Rattle.vcode.specs.declared.code.Block.{Block}
-use Rattle.vcode.specs.declared.code.Code.{Code}
+use Rattle.il_ast.specs.Prelude.{Given, AreArgs}
+use Rattle.vcode.specs.Types.{Block, Code}
 use Rattle.vcode.specs.Coded.{classes_in}
 use Rattle.vcode.specs.Step.{bound}
 use Rattle.vcode.specs.Places.{virtual, unknown}

@@ -1,7 +1,6 @@
 -- How the price of a block is reckoned, line by line.
 use Rattle.std.specs.Prelude.{ℕ, ◌+◌, ◌-◌, ◌*◌, nat_le, if◌then◌else◌, Option, Some, None}
-use Rattle.vcode.specs.declared.line.Line.{Line}
-use Rattle.vcode.specs.declared.line.Line.TheVariants.{Tick}
+use Rattle.vcode.specs.Types.{Line, Tick}
 use Rattle.vcode.specs.Cost.{line_cost}
 
 -- what a line leaves of a credit, if that affords it

@@ -1,8 +1,6 @@
 -- The place that a line writes.
 use Rattle.std.specs.Prelude.{Option, Some, None}
-use Rattle.vcode.specs.declared.place.Destination.{Destination}
-use Rattle.vcode.specs.declared.line.Line.{Line}
-use Rattle.vcode.specs.declared.line.Line.TheVariants.{Tick, Set, Operate, Load, Store, Alloc, Blit, Call}
+use Rattle.vcode.specs.Types.{Destination, Line, Tick, Set, Operate, Load, Store, Alloc, Blit, Call}
 
 abbrev pub place_of : {P : Type 0} → Option (Destination P) → Option P
 place_of None = None

@@ -1,9 +1,7 @@
 //! Functions with other blocks.
 ghost use Rattle.std.specs.Prelude.{◌≡◌, ◌<◌, IfOk};
-ghost use Rattle.il_ast.specs.Passes.{Keeps};
-ghost use Rattle.vcode.specs.declared.limits.TheConstants.{PLACES};
-ghost use Rattle.vcode.specs.Becomes.{Becomes, with_these};
-ghost use Rattle.vcode.specs.Coded.{virtual_code};
+ghost use Rattle.il_ast.specs.Prelude.{Keeps};
+ghost use Rattle.vcode.specs.Prelude.{PLACES, Becomes, with_these, virtual_code};
 
 use crate::code::{Block, Code};
 use crate::function::VFunc;

@@ -1,7 +1,6 @@
 //! What lines and jumps cost, and whether the ticks of a block pay for it.
 ghost use Rattle.std.specs.Prelude.{◌≡◌, ◌≤◌, ◌+◌, ◌<◌, ◌^◌, IfSome};
-ghost use Rattle.vcode.specs.Cost.{is_immediate, operand_cost, operation_cost, branch_cost, line_cost, jump_cost, affords, is_paid};
-ghost use Rattle.vcode.specs.Spent.{spent};
+ghost use Rattle.vcode.specs.Prelude.{is_immediate, operand_cost, operation_cost, branch_cost, line_cost, jump_cost, affords, is_paid, spent};
 
 use crate::code::Block;
 use crate::line::{Jump, Line, Operation};

@@ -1,6 +1,5 @@
 //! What is proved of the meaning, each as the contract of a function that does nothing.
-ghost use Rattle.vcode.specs.Examples.{Examples};
-ghost use Rattle.vcode.specs.Laws.{PassesCompose, PlacingStays, VirtualPassesStay, WordsAreRead};
+ghost use Rattle.vcode.specs.Prelude.{Examples, PassesCompose, PlacingStays, VirtualPassesStay, WordsAreRead};
 
 /// What the definitions give for some small codes.
 pub fn examples_are_computed()

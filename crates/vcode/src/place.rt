@@ -1,7 +1,7 @@
 //! Places of values, and operands.
 ghost use Rattle.std.specs.Prelude.{◌≡◌, ◌<◌};
-ghost use Rattle.rv_isa.specs.Formats.{signed};
-ghost use Rattle.vcode.specs.Addresses.{low, beyond, at_once};
+ghost use Rattle.rv_isa.specs.Prelude.{signed};
+ghost use Rattle.vcode.specs.Prelude.{low, beyond, at_once};
 
 use il_ast::{Class, Symbol};
 use rv_isa::Immediate;

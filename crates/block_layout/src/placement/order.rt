@@ -1,7 +1,7 @@
 //! Functions with their blocks in another order.
 ghost use Rattle.std.specs.Prelude.{◌≡◌, true, false, IfOk, IfSome, MatchOption, IsTrue};
-ghost use Rattle.il_ast.specs.Passes.{Keeps};
-ghost use Rattle.vcode.specs.Coded.{virtual_code};
+ghost use Rattle.il_ast.specs.Prelude.{Keeps};
+ghost use Rattle.vcode.specs.Prelude.{virtual_code};
 ghost use Rattle.block_layout.specs.Ordered.{in_order, is_order, IsOrdered};
 ghost use Rattle.block_layout.specs.Placed.{ArePlaces};
 

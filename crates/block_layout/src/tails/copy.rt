@@ -1,8 +1,8 @@
 //! Functions with copies of blocks in the place of jumps to them.
 ghost use Rattle.std.specs.Prelude.{◌≡◌, ◌≤◌, true, IfOk, IfSome, sum_by};
 ghost use Rattle.il_ast.specs.declared.limits.TheConstants.{FUNCTION_WEIGHT};
-ghost use Rattle.il_ast.specs.Passes.{Keeps};
-ghost use Rattle.vcode.specs.Coded.{virtual_code};
+ghost use Rattle.il_ast.specs.Prelude.{Keeps};
+ghost use Rattle.vcode.specs.Prelude.{virtual_code};
 ghost use Rattle.block_layout.specs.Joined.{joined, longer, AllLonger, block_burden};
 
 use crate::placement::order::in_order;

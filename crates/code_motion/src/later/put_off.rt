@@ -1,8 +1,8 @@
 //! Functions in which sums stand behind the last lines that read what they are sums of.
 ghost use Rattle.std.specs.Prelude.{◌≡◌, ℕ, List, [], ◌∷◌, None, true, IfOk, IfSome, OnOk};
-ghost use Rattle.il_ast.specs.Passes.{Keeps};
+ghost use Rattle.il_ast.specs.Prelude.{Keeps};
 ghost use Rattle.vcode.specs.declared.line.Line.{Line as ALine};
-ghost use Rattle.vcode.specs.Coded.{virtual_code};
+ghost use Rattle.vcode.specs.Prelude.{virtual_code};
 ghost use Rattle.code_motion.specs.Later.{line_of, may_wait, lets_wait, AreLater, Makes, IsLater, AllLater};
 
 use crate::choice::reads::count_reads;

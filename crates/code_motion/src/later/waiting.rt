@@ -1,8 +1,7 @@
 //! Operations that are put off, and the lines over which they may be.
 ghost use Rattle.std.specs.Prelude.{◌≡◌, true, IfSome};
 ghost use Rattle.std.specs.List.{list_all};
-ghost use Rattle.vcode.specs.Named.{operand_keeps, wanted_keeps, made_keeps, line_keeps};
-ghost use Rattle.vcode.specs.Writes.{line_writes};
+ghost use Rattle.vcode.specs.Prelude.{operand_keeps, wanted_keeps, made_keeps, line_keeps, line_writes};
 ghost use Rattle.code_motion.specs.Later.{line_of, asks_nothing, differs, may_wait, is_spared, lets_wait};
 
 use cfg_live::uses::line_writes;

@@ -1,7 +1,7 @@
 //! Constants of loops.
 ghost use Rattle.std.specs.Prelude.{IfOk, IfSome};
-ghost use Rattle.il_ast.specs.Passes.{Keeps};
-ghost use Rattle.vcode.specs.Coded.{virtual_code};
+ghost use Rattle.il_ast.specs.Prelude.{Keeps};
+ghost use Rattle.vcode.specs.Prelude.{virtual_code};
 
 use crate::hoisting::choice::choose::choose_plans;
 use crate::hoisting::hold::with_constant;

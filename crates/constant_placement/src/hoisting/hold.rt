@@ -1,9 +1,8 @@
 //! A function by a plan.
 ghost use Rattle.std.specs.Prelude.{◌≡◌, ◌&&◌, true, false, nat_lt, IsTrue, IfOk, IfSome, IfNone};
 ghost use Rattle.std.specs.List.{list_all};
-ghost use Rattle.il_ast.specs.Passes.{Keeps};
-ghost use Rattle.vcode.specs.Coded.{virtual_code};
-ghost use Rattle.vcode.specs.Cost.{is_paid};
+ghost use Rattle.il_ast.specs.Prelude.{Keeps};
+ghost use Rattle.vcode.specs.Prelude.{virtual_code, is_paid};
 ghost use Rattle.constant_placement.specs.Held.{with_blocks, with_constant, is_safe, is_right};
 
 use crate::hoisting::plan::Plan;

@@ -1,6 +1,6 @@
 //! Blocks that hold a constant.
 ghost use Rattle.std.specs.Prelude.{◌≡◌, ◌++◌, map, OnOk, IfOk};
-ghost use Rattle.vcode.specs.Replaced.{with_line};
+ghost use Rattle.vcode.specs.Prelude.{with_line};
 ghost use Rattle.constant_placement.specs.Held.{replaced, setting, held_block, with_blocks};
 
 use crate::hoisting::plan::Plan;

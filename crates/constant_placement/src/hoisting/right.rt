@@ -3,8 +3,7 @@ ghost use Rattle.std.specs.Prelude.{◌≡◌, ℕ, ◌&&◌, ◌||◌, nat_lt};
 ghost use Rattle.std.specs.List.{list_all};
 ghost use Rattle.vcode.specs.declared.place.Argument.{Argument as AnArgument};
 ghost use Rattle.vcode.specs.declared.place.Destination.{Destination as ADestination};
-ghost use Rattle.vcode.specs.Cost.{is_paid};
-ghost use Rattle.vcode.specs.Named.{operand_keeps, wanted_keeps, made_keeps, line_keeps, jump_keeps, block_keeps, keeps_places};
+ghost use Rattle.vcode.specs.Prelude.{is_paid, operand_keeps, wanted_keeps, made_keeps, line_keeps, jump_keeps, block_keeps, keeps_places};
 ghost use Rattle.flow.specs.Successors.{successors};
 ghost use Rattle.constant_placement.specs.Held.{is_held, is_set, is_other, may_lead, leads_well, is_safe};
 

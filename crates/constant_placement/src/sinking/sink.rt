@@ -1,7 +1,7 @@
 //! Functions whose blocks set the numbers that they want.
 ghost use Rattle.std.specs.Prelude.{◌≡◌, IfOk, IfSome};
-ghost use Rattle.il_ast.specs.Passes.{Keeps};
-ghost use Rattle.vcode.specs.Coded.{virtual_code};
+ghost use Rattle.il_ast.specs.Prelude.{Keeps};
+ghost use Rattle.vcode.specs.Prelude.{virtual_code};
 
 use crate::sinking::choice::choose;
 use crate::sinking::known::{Plan, plan_at};

@@ -1,8 +1,6 @@
 //! What texts can see of one another.
 ghost use Rattle.std.specs.Prelude.{◌≡◌, ◌<◌, ◌≤◌, ℕ, List, [], cond, slice_index_or, Some, OnOk, IfOk, MatchResult, IsTrue, bytes_eq};
-ghost use Rattle.obj_link.specs.Names.{symbol_name, predefined, visible, times_exported};
-ghost use Rattle.obj_link.specs.Tables.{seen, is_free};
-ghost use Rattle.obj_link.specs.Refusals.{RefusesExports};
+ghost use Rattle.obj_link.specs.Prelude.{symbol_name, predefined, visible, times_exported, seen, is_free, RefusesExports};
 
 use crate::linking::error::LinkError;
 use crate::linking::names::GlobalName;

@@ -1,9 +1,8 @@
 //! The limits over all texts of a program.
 ghost use Rattle.std.specs.Prelude.{◌≡◌, map, sum_by};
-ghost use Rattle.il_ast.specs.Values.{byte_count};
-ghost use Rattle.il_types.specs.Capped.{capped};
-ghost use Rattle.obj_link.specs.Shown.{shown};
-ghost use Rattle.obj_link.specs.Limits.{item_size, field_size, object_size, total_weight, total_size, within_limits};
+ghost use Rattle.il_ast.specs.Prelude.{byte_count};
+ghost use Rattle.il_types.specs.Prelude.{capped};
+ghost use Rattle.obj_link.specs.Prelude.{shown, item_size, field_size, object_size, total_weight, total_size, within_limits};
 
 use il_ast::limits::{DATA_BYTES, FUNCTIONS, PROGRAM_WEIGHT, TEXTS};
 use il_ast::{DataDef, Field, Func, InText, Item, Size};

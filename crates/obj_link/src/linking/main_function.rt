@@ -1,7 +1,6 @@
 //! The function that a program begins with.
 ghost use Rattle.std.specs.Prelude.{◌≡◌, map};
-ghost use Rattle.obj_link.specs.Shown.{shown};
-ghost use Rattle.obj_link.specs.Main.{takes_words, gives_word, is_main, main_in};
+ghost use Rattle.obj_link.specs.Prelude.{shown, takes_words, gives_word, is_main, main_in};
 
 use il_ast::{Callee, Class, Func, InText, Param, Target};
 

@@ -1,7 +1,6 @@
 //! The global names that texts define, and what each definition gives its name.
 ghost use Rattle.std.specs.Prelude.{◌≡◌, ◌++◌, map, OnOk, IfOk, flat_map};
-ghost use Rattle.obj_link.specs.Shown.{shown};
-ghost use Rattle.obj_link.specs.Names.{function_in, object_in, functions_of, objects_of, names_of_functions, names_of_objects};
+ghost use Rattle.obj_link.specs.Prelude.{shown, function_in, object_in, functions_of, objects_of, names_of_functions, names_of_objects};
 
 use il_ast::{Callee, DataDef, Definition, Func, InText, Symbol, Target};
 use il_types::Checked;

@@ -2,12 +2,7 @@
 ghost use Rattle.std.specs.Prelude.{◌≡◌, ◌≤◌, ℕ, List, map, codes, Some, MatchResult, OnOk};
 ghost use Rattle.il_ast.specs.declared.program.Program.{Program as ProgramOf};
 ghost use Rattle.obj_link.specs.declared.linking.error.LinkError.TheVariants.{Memory};
-ghost use Rattle.obj_link.specs.Shown.{shown};
-ghost use Rattle.obj_link.specs.Names.{functions_of, objects_of, names_of};
-ghost use Rattle.obj_link.specs.Joined.{IsJoined, RefusesJoined};
-ghost use Rattle.obj_link.specs.Program.{IsProgram};
-ghost use Rattle.obj_link.specs.ProgramOf.{program, IsLinked};
-ghost use Rattle.obj_link.specs.Refusals.{Refuses};
+ghost use Rattle.obj_link.specs.Prelude.{shown, functions_of, objects_of, names_of, IsJoined, RefusesJoined, IsProgram, program, IsLinked, Refuses};
 
 use crate::linking::error::LinkError;
 use crate::linking::exports::exports;

@@ -1,8 +1,7 @@
 //! What each text itself defines its symbols as.
 ghost use Rattle.std.specs.Prelude.{◌≡◌, ℕ, ◌&&◌, nat_eq, cond, Some, None, OnOk, IfOk};
 ghost use Rattle.std.specs.Option.{option_or};
-ghost use Rattle.obj_link.specs.Names.{own};
-ghost use Rattle.obj_link.specs.Tables.{held};
+ghost use Rattle.obj_link.specs.Prelude.{own, held};
 
 use crate::linking::names::GlobalName;
 use il_ast::Target;

@@ -1,8 +1,6 @@
 //! What each symbol of each text means.
 ghost use Rattle.std.specs.Prelude.{◌≡◌, Some, MatchResult};
-ghost use Rattle.obj_link.specs.Names.{symbols_by, targets_by};
-ghost use Rattle.obj_link.specs.Tables.{meaning_in};
-ghost use Rattle.obj_link.specs.Refusals.{RefusesSymbols, RefusesNames};
+ghost use Rattle.obj_link.specs.Prelude.{symbols_by, targets_by, meaning_in, RefusesSymbols, RefusesNames};
 
 use crate::linking::error::LinkError;
 use il_ast::{Name, Seq, Target};

@@ -1,12 +1,8 @@
 //! Where functions and data stand.
 
 ghost use Rattle.std.specs.Prelude.{◌≡◌, ◌+◌, ◌*◌, ◌^◌, ◌<◌, ◌≤◌, ◌++◌, drop, length, map, slice_index, IfOk};
-ghost use Rattle.obj_link.specs.Shown.{shown};
-ghost use Rattle.obj_link.specs.Limits.{object_size};
-ghost use Rattle.il_ast.specs.Cost.{round_16};
-ghost use Rattle.obj_link.specs.Image.{write_address, exit_address};
-ghost use Rattle.obj_link.specs.Placed.{function_addresses, functions_end, objects_end, target_address, meaning, EveryCode};
-ghost use Rattle.obj_link.specs.ImageOf.{object_addresses, callee_address};
+ghost use Rattle.obj_link.specs.Prelude.{shown, object_size, write_address, exit_address, function_addresses, functions_end, objects_end, target_address, meaning, EveryCode, object_addresses, callee_address};
+ghost use Rattle.il_ast.specs.Prelude.{round_16};
 
 use crate::linking::limits::object_size;
 use crate::placing::image::CODE_START;

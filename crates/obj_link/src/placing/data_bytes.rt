@@ -2,11 +2,8 @@
 
 ghost use Rattle.std.specs.Prelude.{◌≡◌, ◌++◌, ◌+◌, ◌-◌, ◌*◌, ◌%◌, ◌<◌, drop, length, map, replicate, OnOk, flat_map};
 ghost use Rattle.std.specs.Int.{w64, to_le_bytes};
-ghost use Rattle.il_ast.specs.Values.{bytes_of, byte_count};
-ghost use Rattle.obj_link.specs.Shown.{shown};
-ghost use Rattle.obj_link.specs.ImageOf.{in_slots};
-ghost use Rattle.il_ast.specs.Cost.{round_16};
-ghost use Rattle.obj_link.specs.DataBytes.{address_bytes, item_bytes, field_bytes, slot_bytes};
+ghost use Rattle.il_ast.specs.Prelude.{bytes_of, byte_count, round_16};
+ghost use Rattle.obj_link.specs.Prelude.{shown, in_slots, address_bytes, item_bytes, field_bytes, slot_bytes};
 
 use crate::placing::addresses::{Addresses, callee_address, meaning, object_address};
 use il_ast::{DataDef, Field, InText, Item, Seq, Size, Target};

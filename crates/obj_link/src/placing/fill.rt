@@ -1,9 +1,8 @@
 //! The words of functions, with addresses filled in.
 
 ghost use Rattle.std.specs.Prelude.{◌≡◌, ◌++◌, ◌+◌, ◌*◌, ◌^◌, ◌<◌, ◌≤◌, drop, length, map, OnOk};
-ghost use Rattle.rv_isa.specs.Laid.{fill, filled};
-ghost use Rattle.obj_link.specs.Shown.{shown};
-ghost use Rattle.obj_link.specs.Placed.{functions_end, name_address, functions_words};
+ghost use Rattle.rv_isa.specs.Prelude.{fill, filled};
+ghost use Rattle.obj_link.specs.Prelude.{shown, functions_end, name_address, functions_words};
 
 use crate::placing::addresses::{Addresses, meaning, target_address};
 use il_ast::{Func, InText, Seq, Target};

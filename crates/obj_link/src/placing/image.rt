@@ -1,5 +1,5 @@
 ghost use Rattle.std.specs.Prelude.{◌≡◌, ◌<◌};
-ghost use Rattle.obj_link.specs.Image.{IsImage, code_size, code_start, data_start, image_end};
+ghost use Rattle.obj_link.specs.Prelude.{IsImage, code_size, code_start, data_start, image_end};
 
 use rv_isa::abi;
 use std::marker::Model;

@@ -3,8 +3,8 @@
 ghost use Rattle.std.specs.Prelude.{◌≡◌, ◌++◌, OnOk};
 ghost use Rattle.bits.specs.Words.{upper_field, lower_field};
 ghost use Rattle.rv_isa.specs.declared.abi.TheConstants.{FIRST_TEMPORARY};
-ghost use Rattle.rv_isa.specs.Formats.{i_type, u_type};
-ghost use Rattle.obj_link.specs.Natives.{start_words, write_words, exit_words, load_double, jump_to};
+ghost use Rattle.rv_isa.specs.Prelude.{i_type, u_type};
+ghost use Rattle.obj_link.specs.Prelude.{start_words, write_words, exit_words, load_double, jump_to};
 
 use bits::split;
 use rv_isa::encode::encode;

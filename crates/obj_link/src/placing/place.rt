@@ -2,9 +2,7 @@
 
 ghost use Rattle.std.specs.Prelude.{◌≡◌, ◌≤◌, ◌<◌, ◌^◌, length, map, IfOk, MatchResult, flat_map};
 ghost use Rattle.obj_link.specs.declared.linking.error.LinkError.TheVariants.{Memory};
-ghost use Rattle.obj_link.specs.ProgramOf.{program};
-ghost use Rattle.obj_link.specs.DataBytes.{slot_bytes};
-ghost use Rattle.obj_link.specs.Placed.{addresses_of, objects_start, code_of, contents_of, calls_reach, FitsBelow, EveryCode};
+ghost use Rattle.obj_link.specs.Prelude.{program, slot_bytes, addresses_of, objects_start, code_of, contents_of, calls_reach, FitsBelow, EveryCode};
 
 use crate::linking::error::LinkError;
 use crate::linking::linked::Linked;

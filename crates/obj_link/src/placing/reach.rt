@@ -1,10 +1,8 @@
 //! Whether calls reach their functions.
 
 ghost use Rattle.std.specs.Prelude.{◌≡◌, ◌+◌, ◌*◌, ◌^◌, ◌<◌, ◌≤◌, ◌&&◌, nat_le, nat_lt, drop, length, map};
-ghost use Rattle.rv_isa.specs.Laid.{all_reach};
-ghost use Rattle.rv_isa.specs.Relocations.{reaches};
-ghost use Rattle.obj_link.specs.Shown.{shown};
-ghost use Rattle.obj_link.specs.Placed.{functions_end, name_address, functions_reach};
+ghost use Rattle.rv_isa.specs.Prelude.{all_reach, reaches};
+ghost use Rattle.obj_link.specs.Prelude.{shown, functions_end, name_address, functions_reach};
 
 use crate::placing::addresses::{Addresses, meaning, target_address};
 use il_ast::{Func, InText, Seq, Target};

@@ -1,9 +1,9 @@
 //! Blocks and functions, put by what is known.
 ghost use Rattle.std.specs.Prelude.{◌≡◌, true, ◌+◌, ◌*◌, ◌^◌, ◌<◌, ◌≤◌, [], ℕ, List, length, IfOk, IfSome, None};
-ghost use Rattle.il_ast.specs.Passes.{Keeps};
+ghost use Rattle.il_ast.specs.Prelude.{Keeps};
 ghost use Rattle.vcode.specs.declared.line.Line.{Line as ALine};
 ghost use Rattle.vcode.specs.declared.line.Jump.{Jump as AJump};
-ghost use Rattle.vcode.specs.Coded.{virtual_code};
+ghost use Rattle.vcode.specs.Prelude.{virtual_code};
 ghost use Rattle.propagation.specs.declared.constants.claim.Entry.{Entry};
 ghost use Rattle.propagation.specs.FactTable.{facts_of, IsTable};
 ghost use Rattle.propagation.specs.Claimed.{claimed};

@@ -1,7 +1,7 @@
 //! Blocks and functions that read copies.
 ghost use Rattle.std.specs.Prelude.{◌≡◌, map, OnOk, IfOk, IfSome};
-ghost use Rattle.il_ast.specs.Passes.{Keeps};
-ghost use Rattle.vcode.specs.Coded.{virtual_code};
+ghost use Rattle.il_ast.specs.Prelude.{Keeps};
+ghost use Rattle.vcode.specs.Prelude.{virtual_code};
 ghost use Rattle.propagation.specs.Copied.{reading_lines, known_behind, reading_block};
 
 use crate::copies::known::KnownCopies;

@@ -2,8 +2,7 @@
 ghost use Rattle.std.specs.Prelude.{◌≡◌, ◌++◌, map, IfOk, IfErr, OnOk, MatchResult};
 ghost use Rattle.std.specs.List.{concat};
 ghost use Rattle.il_ast.specs.declared.program.Program.{Program};
-ghost use Rattle.obj_link.specs.Program.{IsProgram};
-ghost use Rattle.obj_link.specs.ProgramOf.{program};
+ghost use Rattle.obj_link.specs.Prelude.{IsProgram, program};
 ghost use Rattle.qbec.specs.declared.error.CompileError.TheVariants.{Memory};
 ghost use Rattle.qbec.specs.Codes.{AreGood, AreWords};
 ghost use Rattle.qbec.specs.Refusals.{Refuses};

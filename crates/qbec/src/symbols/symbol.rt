@@ -1,6 +1,6 @@
 //! Names and what they stand for.
 ghost use Rattle.std.specs.Prelude.{◌≡◌};
-ghost use Rattle.obj_link.specs.Names.{symbol_name};
+ghost use Rattle.obj_link.specs.Prelude.{symbol_name};
 
 use il_ast::symbol::Symbol as SymbolNumber;
 use il_types::Checked;

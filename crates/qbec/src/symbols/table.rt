@@ -1,13 +1,7 @@
 //! The symbols of a program.
 ghost use Rattle.std.specs.Prelude.{◌≡◌, ◌+◌, ◌-◌, ◌^◌, ◌<◌, ◌≤◌, ◌++◌, length, map, IfOk, OnOk};
-ghost use Rattle.il_ast.specs.Cost.{round_16};
-ghost use Rattle.obj_link.specs.Image.{code_start, round_to_page, functions_start};
-ghost use Rattle.obj_link.specs.Limits.{object_size};
-ghost use Rattle.obj_link.specs.Placed.{function_addresses, functions_end, objects_end};
-ghost use Rattle.obj_link.specs.ImageOf.{object_addresses};
-ghost use Rattle.obj_link.specs.Program.{IsProgram};
-ghost use Rattle.obj_link.specs.ProgramOf.{program};
-ghost use Rattle.obj_link.specs.Shown.{shown};
+ghost use Rattle.il_ast.specs.Prelude.{round_16};
+ghost use Rattle.obj_link.specs.Prelude.{code_start, round_to_page, functions_start, object_size, function_addresses, functions_end, objects_end, object_addresses, IsProgram, program, shown};
 ghost use Rattle.qbec.specs.Codes.{AreWords};
 ghost use Rattle.qbec.specs.Symbols.{entry, function_entries, object_entries, symbols_of};
 

@@ -1,7 +1,7 @@
 //! The places of the registers that each point names.
 ghost use Rattle.std.specs.Prelude.{◌≡◌, true, IfOk, IfSome};
 ghost use Rattle.std.specs.List.{list_all};
-ghost use Rattle.vcode.specs.Named.{is_place};
+ghost use Rattle.vcode.specs.Prelude.{is_place};
 ghost use Rattle.regalloc.specs.Scanned.{are_placed};
 
 use crate::linear_scan::machine_register;

@@ -1,7 +1,7 @@
 //! The places that parameters come in, and those of the registers that are live where blocks begin.
 ghost use Rattle.std.specs.Prelude.{◌≡◌, true, IfOk};
 ghost use Rattle.std.specs.List.{list_all};
-ghost use Rattle.vcode.specs.Named.{is_place};
+ghost use Rattle.vcode.specs.Prelude.{is_place};
 ghost use Rattle.regalloc.specs.Scanned.{are_placed};
 
 use crate::intervals::starts::Starts;

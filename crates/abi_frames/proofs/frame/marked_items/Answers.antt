@@ -1,6 +1,6 @@
 use Rattle.std.proofs.Common.{◌≡◌, ◌≤◌, ◌<◌, ◌+◌, ◌^◌, true, sym, subst, List, ℕ, arith, length}
 use Rattle.il_ast.specs.declared.limits.TheConstants.{ALLOC_BYTES}
-use Rattle.vcode.specs.Regular.{alloc_bytes, passes_few}
+use Rattle.vcode.specs.Prelude.{alloc_bytes, passes_few}
 use Rattle.abi_frames.proofs.Shared.{Location, Destination, Block, Layout, list_all, sum_by, leb-true}
 use Rattle.frame_ways.proofs.Suiting.{no_area}
 use Rattle.abi_frames.proofs.Saving.{few_saved_registers}

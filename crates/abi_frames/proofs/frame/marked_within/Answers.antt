@@ -1,7 +1,7 @@
 use Rattle.std.proofs.Common.{◌≡◌, ◌∙◌, ◌+◌, true, sym, ap, subst, List, ℕ, arith, nat_le, length}
 use Rattle.il_ast.specs.declared.limits.TheConstants.{FUNCTION_WEIGHT}
-use Rattle.rv_isa.specs.Labels.{IsLabelled, longest_size}
-use Rattle.vcode.specs.Regular.{code_weight}
+use Rattle.rv_isa.specs.Prelude.{IsLabelled, longest_size}
+use Rattle.vcode.specs.Prelude.{code_weight}
 use Rattle.abi_frames.proofs.Shared.{Item, Location, Block, leb-true}
 use Rattle.abi_frames.specs.Functions.{price}
 use Rattle.abi_frames.specs.Parts.{marked_code}

@@ -2,7 +2,7 @@ use Rattle.std.proofs.Common.{◌+◌, ◌++◌, drop, sym, ap, ◌∙◌, arith
 use Rattle.std.proofs.lemmas.List.{drop_all, append-nil}
 use Rattle.std.specs.List.{list_all, sum_by}
 use Rattle.abi_frames.proofs.Shared.{Location, Block}
-use Rattle.vcode.specs.Regular.{alloc_bytes, passes_few}
+use Rattle.vcode.specs.Prelude.{alloc_bytes, passes_few}
 use Rattle.vcode.proofs.Lists.{item_next}
 use Rattle.abi_frames.specs.Emission.{block_items, blocks_items}
 use Rattle.abi_frames.proofs.Walking.{all_next, sum_next, code_next}

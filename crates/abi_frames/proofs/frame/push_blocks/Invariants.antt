@@ -1,7 +1,7 @@
 use Rattle.il_ast.specs.declared.limits.TheConstants.{ALLOC_BYTES}
 use Rattle.std.proofs.Common.{◌≡◌, ◌≤◌, ◌++◌, drop, true}
 use Rattle.std.specs.List.{list_all, sum_by}
-use Rattle.vcode.specs.Regular.{alloc_bytes, passes_few}
+use Rattle.vcode.specs.Prelude.{alloc_bytes, passes_few}
 use Rattle.abi_frames.specs.Emission.{blocks_items}
 use Rattle.abi_frames.proofs.frame.push_blocks.Given as goal
 

@@ -1,7 +1,7 @@
 use Rattle.std.proofs.Common.{◌≡◌, ◌+◌, ◌*◌, ◌≤◌, ◌∙◌, sym, ap, subst, List, ℕ, length}
-use Rattle.rv_isa.specs.Labels.{IsLabelled, longest_size}
+use Rattle.rv_isa.specs.Prelude.{IsLabelled, longest_size}
 use Rattle.abi_frames.proofs.Shared.{Item, Location, Block}
-use Rattle.vcode.specs.Regular.{code_weight}
+use Rattle.vcode.specs.Prelude.{code_weight}
 use Rattle.abi_frames.specs.Functions.{frame_items}
 use Rattle.abi_frames.specs.Frames.{IsFrameOf}
 use Rattle.abi_frames.proofs.Promising.{code_of, frames_are_labelled, frames_are_small, frames_perform}

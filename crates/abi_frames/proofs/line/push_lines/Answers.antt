@@ -1,5 +1,5 @@
 use Rattle.std.proofs.Common.{◌+◌, ◌++◌, drop, sym, ap, ◌∙◌, arith}
-use Rattle.vcode.specs.Regular.{alloc_bytes, passes_few}
+use Rattle.vcode.specs.Prelude.{alloc_bytes, passes_few}
 use Rattle.vcode.proofs.Lists.{item_next}
 use Rattle.std.proofs.lemmas.List.{drop_all, append-nil}
 use Rattle.abi_frames.specs.Emission.{line_items, lines_items}

@@ -2,7 +2,7 @@ use Rattle.std.proofs.Common.{◌+◌, ◌++◌, ◌∷◌, drop, sym, ap, ◌�
 use Rattle.std.proofs.lemmas.List.{drop_all, append-nil}
 use Rattle.std.specs.List.{list_all, sum_by}
 use Rattle.abi_frames.proofs.Shared.{Label, Location, Block}
-use Rattle.vcode.specs.Regular.{alloc_bytes, passes_few}
+use Rattle.vcode.specs.Prelude.{alloc_bytes, passes_few}
 use Rattle.vcode.proofs.Lists.{item_next}
 use Rattle.abi_frames.specs.Emission.{rows}
 use Rattle.abi_frames.specs.Parts.{part_items, marked_body}

@@ -1,7 +1,7 @@
 use Rattle.il_ast.specs.declared.limits.TheConstants.{ALLOC_BYTES}
 use Rattle.std.proofs.Common.{◌≡◌, ◌≤◌, ◌++◌, drop, true}
 use Rattle.std.specs.List.{list_all, sum_by}
-use Rattle.vcode.specs.Regular.{alloc_bytes, passes_few}
+use Rattle.vcode.specs.Prelude.{alloc_bytes, passes_few}
 use Rattle.abi_frames.specs.Emission.{rows}
 use Rattle.abi_frames.specs.Parts.{marked_body}
 use Rattle.abi_frames.proofs.marks.push_parts.Given as goal

@@ -1,5 +1,5 @@
 use Rattle.std.proofs.Common.{◌≡◌, ◌+◌, drop}
-use Rattle.rv_isa.specs.Labels.{longest_size}
+use Rattle.rv_isa.specs.Prelude.{longest_size}
 use Rattle.abi_frames.proofs.price.is_within.Given as goal
 
 abbrev pub invariant-loop-item : goal.invariant-loop-item

@@ -1,5 +1,5 @@
 use Rattle.std.proofs.Common.{◌≡◌, ◌+◌, drop, sum_by}
-use Rattle.vcode.specs.Regular.{weight_of}
+use Rattle.vcode.specs.Prelude.{weight_of}
 use Rattle.abi_frames.proofs.price.lines_weight.Given as goal
 
 abbrev pub invariant-loop-line : goal.invariant-loop-line

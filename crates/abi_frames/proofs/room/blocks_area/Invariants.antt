@@ -1,5 +1,5 @@
 use Rattle.std.proofs.Common.{◌≡◌, ◌+◌, drop, sum_by}
-use Rattle.vcode.specs.Regular.{alloc_bytes}
+use Rattle.vcode.specs.Prelude.{alloc_bytes}
 use Rattle.abi_frames.proofs.room.blocks_area.Given as goal
 
 abbrev pub invariant-loop-block : goal.invariant-loop-block

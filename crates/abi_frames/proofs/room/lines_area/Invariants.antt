@@ -1,5 +1,5 @@
 use Rattle.std.proofs.Common.{◌≡◌, ◌+◌, drop, sum_by}
-use Rattle.vcode.specs.Regular.{alloc_bytes}
+use Rattle.vcode.specs.Prelude.{alloc_bytes}
 use Rattle.abi_frames.proofs.room.lines_area.Given as goal
 
 abbrev pub invariant-loop-line : goal.invariant-loop-line

@@ -1,7 +1,7 @@
 use Rattle.std.proofs.Common.{◌≡◌, ◌+◌, drop, true, nat_le}
 use Rattle.std.specs.List.{list_all, sum_by}
 use Rattle.il_ast.specs.declared.limits.TheConstants.{FUNCTION_WEIGHT}
-use Rattle.vcode.specs.Regular.{turns_of}
+use Rattle.vcode.specs.Prelude.{turns_of}
 use Rattle.abi_frames.proofs.turns.are_few.Given as goal
 
 abbrev pub invariant-loop-block : goal.invariant-loop-block

@@ -1,5 +1,5 @@
 use Rattle.std.proofs.Common.{◌≡◌, ◌+◌, drop, sum_by}
-use Rattle.vcode.specs.Regular.{turns_of}
+use Rattle.vcode.specs.Prelude.{turns_of}
 use Rattle.abi_frames.proofs.turns.lines_turns.Given as goal
 
 abbrev pub invariant-loop-line : goal.invariant-loop-line

@@ -1,14 +1,10 @@
 use Rattle.std.proofs.Common.{◌≡◌, true, sym, ◌∙◌, ap, subst, arith, IsTrue, nat_le}
 use Rattle.il_ast.specs.declared.limits.TheConstants.{FUNCTION_WEIGHT}
-use Rattle.il_ast.specs.Passes.{Keeps}
+use Rattle.il_ast.specs.Prelude.{Keeps}
 use Rattle.vcode.specs.declared.place.Location.{Location}
 use Rattle.vcode.specs.declared.code.Code.{Code}
-use Rattle.vcode.specs.Named.{keeps_places, is_place, are_near, are_distinct}
-use Rattle.vcode.specs.Places.{located}
-use Rattle.vcode.specs.Coded.{coded, virtual_code}
-use Rattle.vcode.specs.Regular.{IsRegular, code_weight}
-use Rattle.alloc_check.specs.Certified.{placed_by}
-use Rattle.alloc_check.specs.Accepted.{is_placed, is_accepted}
+use Rattle.vcode.specs.Prelude.{keeps_places, is_place, are_near, are_distinct, located, coded, virtual_code, IsRegular, code_weight}
+use Rattle.alloc_check.specs.Prelude.{placed_by, is_placed, is_accepted}
 use Rattle.alloc_check.proofs.Accepts.{parts, refused, unplaced, accepted, accepted_sound}
 use Rattle.alloc_check.proofs.Certifies.{to_true, certified_regular, weighs_same}
 use Rattle.alloc_check.proofs.Measures.{certified_keeps}

@@ -4,7 +4,7 @@ use Rattle.vcode.specs.declared.code.Block.{Block}
 use Rattle.vcode.specs.declared.code.Code.{Code}
 use Rattle.vcode.specs.declared.place.Destination.{Destination}
 use Rattle.vcode.specs.declared.place.Location.{Location}
-use Rattle.alloc_check.specs.Certified.{certified_params, certified_blocks}
+use Rattle.alloc_check.specs.Prelude.{certified_params, certified_blocks}
 use Rattle.alloc_check.proofs.certified.certified.Goals as goal
 
 abbrev made_of : Option Class → List (Destination Location) → List (Block Location) → Code Location

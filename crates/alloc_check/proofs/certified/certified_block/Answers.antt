@@ -4,8 +4,7 @@ use Rattle.vcode.specs.declared.line.Jump.{Jump}
 use Rattle.vcode.specs.declared.line.Line.{Line}
 use Rattle.vcode.specs.declared.place.Location.{Location}
 use Rattle.certificates.specs.declared.certificate.Equality.{Equality}
-use Rattle.alloc_check.specs.Placed.{placed_jump}
-use Rattle.alloc_check.specs.Certified.{certified_lines, jump_point, layout_at, place_by}
+use Rattle.alloc_check.specs.Prelude.{placed_jump, certified_lines, jump_point, layout_at, place_by}
 use Rattle.alloc_check.proofs.certified.certified_block.Goals as goal
 
 abbrev made_of : List (Line Location) → Jump Location → Block Location

@@ -1,6 +1,5 @@
 use Rattle.std.proofs.Common.{◌≡◌, ◌++◌, drop}
-use Rattle.alloc_check.specs.Certified.{certified_blocks}
-use Rattle.alloc_check.specs.Accepted.{end_point}
+use Rattle.alloc_check.specs.Prelude.{certified_blocks, end_point}
 use Rattle.alloc_check.proofs.certified.push_blocks.Given as goal
 
 abbrev pub invariant-loop-block : goal.invariant-loop-block

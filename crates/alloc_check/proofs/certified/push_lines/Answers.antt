@@ -1,5 +1,5 @@
 use Rattle.std.proofs.Common.{arith, ◌+◌, ◌++◌, drop, ap, sym, ◌∙◌}
-use Rattle.alloc_check.specs.Certified.{jump_point, certified_lines}
+use Rattle.alloc_check.specs.Prelude.{jump_point, certified_lines}
 use Rattle.cfg_live.proofs.Counting.{next_fits}
 use Rattle.vcode.proofs.Lists.{item_next}
 use Rattle.alloc_check.proofs.Walks.{push_on}

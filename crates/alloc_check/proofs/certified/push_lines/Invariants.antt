@@ -1,5 +1,5 @@
 use Rattle.std.proofs.Common.{◌≡◌, ◌++◌, drop}
-use Rattle.alloc_check.specs.Certified.{jump_point, certified_lines}
+use Rattle.alloc_check.specs.Prelude.{jump_point, certified_lines}
 use Rattle.alloc_check.proofs.certified.push_lines.Given as goal
 
 abbrev pub invariant-loop-from : goal.invariant-loop-from

@@ -1,5 +1,5 @@
 use Rattle.std.proofs.Common.{◌≡◌, ◌++◌, drop}
-use Rattle.alloc_check.specs.Certified.{transfers}
+use Rattle.alloc_check.specs.Prelude.{transfers}
 use Rattle.alloc_check.proofs.certified.push_moves.Given as goal
 
 abbrev pub invariant-loop-m : goal.invariant-loop-m

@@ -1,5 +1,5 @@
 use Rattle.std.proofs.Common.{◌≡◌, ◌++◌, drop}
-use Rattle.alloc_check.specs.Certified.{certified_params}
+use Rattle.alloc_check.specs.Prelude.{certified_params}
 use Rattle.alloc_check.proofs.certified.push_params.Given as goal
 
 abbrev pub invariant-loop-k : goal.invariant-loop-k

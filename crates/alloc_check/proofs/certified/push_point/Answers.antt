@@ -2,9 +2,7 @@ use Rattle.std.proofs.Common.{◌≡◌, ◌++◌, List, [], ◌∷◌, ap, ◌�
 use Rattle.vcode.specs.declared.line.Line.{Line}
 use Rattle.vcode.specs.declared.place.Location.{Location}
 use Rattle.certificates.specs.declared.certificate.Equality.{Equality}
-use Rattle.alloc_check.specs.Placed.{placed_line}
-use Rattle.alloc_check.specs.Certified.{layout_at, transfers, place_by}
-use Rattle.alloc_check.specs.Walk.{moves_before}
+use Rattle.alloc_check.specs.Prelude.{placed_line, layout_at, transfers, place_by, moves_before}
 use Rattle.alloc_check.proofs.Walks.{append_three}
 use Rattle.alloc_check.proofs.certified.push_point.Goals as goal
 

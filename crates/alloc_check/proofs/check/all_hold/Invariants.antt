@@ -1,6 +1,5 @@
 use Rattle.std.proofs.Common.{◌≡◌, drop}
-use Rattle.alloc_check.specs.Owners.{all_hold}
-use Rattle.alloc_check.specs.OwnerTable.{own_of}
+use Rattle.alloc_check.specs.Prelude.{all_hold, own_of}
 use Rattle.alloc_check.proofs.check.all_hold.Given as goal
 
 abbrev pub invariant-loop-equality : goal.invariant-loop-equality

@@ -1,7 +1,5 @@
 use Rattle.std.proofs.Common.{◌≡◌, drop}
-use Rattle.alloc_check.specs.Owners.{args_held}
-use Rattle.alloc_check.specs.Certified.{place_by}
-use Rattle.alloc_check.specs.OwnerTable.{own_of}
+use Rattle.alloc_check.specs.Prelude.{args_held, place_by, own_of}
 use Rattle.alloc_check.proofs.check.args_held.Given as goal
 
 abbrev pub invariant-loop-arg : goal.invariant-loop-arg

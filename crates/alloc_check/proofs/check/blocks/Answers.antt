@@ -1,6 +1,5 @@
 use Rattle.std.proofs.Common.{arith, ◌≡◌, ap}
-use Rattle.alloc_check.specs.Certified.{jump_point}
-use Rattle.alloc_check.specs.Accepted.{end_point}
+use Rattle.alloc_check.specs.Prelude.{jump_point, end_point}
 use Rattle.cfg_live.proofs.Counting.{block_fits}
 use Rattle.std.proofs.lemmas.Grind.{common_steps}
 use Rattle.alloc_check.proofs.check.blocks.Goals as goal

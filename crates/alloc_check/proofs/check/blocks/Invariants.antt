@@ -1,7 +1,5 @@
 use Rattle.std.proofs.Common.{◌≡◌, drop}
-use Rattle.alloc_check.specs.Accepted.{end_point}
-use Rattle.alloc_check.specs.OwnerTable.{IsTable}
-use Rattle.alloc_check.specs.Walk.{blocks_in}
+use Rattle.alloc_check.specs.Prelude.{end_point, IsTable, blocks_in}
 use Rattle.alloc_check.proofs.check.blocks.Given as goal
 
 abbrev pub invariant-loop-index : goal.invariant-loop-index

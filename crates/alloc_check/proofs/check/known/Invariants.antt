@@ -1,6 +1,5 @@
 use Rattle.std.proofs.Common.{◌≡◌, drop}
-use Rattle.alloc_check.specs.OwnerTable.{own_of, IsTable}
-use Rattle.alloc_check.specs.Walk.{known_in}
+use Rattle.alloc_check.specs.Prelude.{own_of, IsTable, known_in}
 use Rattle.alloc_check.proofs.check.known.Given as goal
 
 abbrev pub invariant-loop-equality : goal.invariant-loop-equality

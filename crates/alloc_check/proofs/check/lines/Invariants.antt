@@ -1,7 +1,5 @@
 use Rattle.std.proofs.Common.{◌≡◌, ◌+◌, drop}
-use Rattle.alloc_check.specs.Certified.{jump_point}
-use Rattle.alloc_check.specs.OwnerTable.{own_of, IsTable}
-use Rattle.alloc_check.specs.Walk.{lines_in}
+use Rattle.alloc_check.specs.Prelude.{jump_point, own_of, IsTable, lines_in}
 use Rattle.alloc_check.proofs.check.lines.Given as goal
 
 abbrev pub invariant-loop-from : goal.invariant-loop-from

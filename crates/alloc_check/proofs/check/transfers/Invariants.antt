@@ -1,6 +1,5 @@
 use Rattle.std.proofs.Common.{◌≡◌, drop}
-use Rattle.alloc_check.specs.OwnerTable.{own_of, IsTable}
-use Rattle.alloc_check.specs.Walk.{moved_in}
+use Rattle.alloc_check.specs.Prelude.{own_of, IsTable, moved_in}
 use Rattle.alloc_check.proofs.check.transfers.Given as goal
 
 abbrev pub invariant-loop-transfer : goal.invariant-loop-transfer

@@ -1,7 +1,5 @@
 use Rattle.std.proofs.Common.{◌≡◌, drop}
-use Rattle.alloc_check.specs.Owners.{nobody}
-use Rattle.alloc_check.specs.Certified.{own_params}
-use Rattle.alloc_check.specs.Walk.{entry_holds}
+use Rattle.alloc_check.specs.Prelude.{nobody, own_params, entry_holds}
 use Rattle.alloc_check.proofs.entry.all_entered.Given as goal
 
 abbrev pub invariant-loop-equality : goal.invariant-loop-equality

@@ -1,5 +1,5 @@
 use Rattle.std.proofs.Common.{◌≡◌, drop}
-use Rattle.alloc_check.specs.Certified.{is_param}
+use Rattle.alloc_check.specs.Prelude.{is_param}
 use Rattle.alloc_check.proofs.entry.is_param.Given as goal
 
 abbrev pub invariant-loop-param : goal.invariant-loop-param

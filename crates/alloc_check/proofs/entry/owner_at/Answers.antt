@@ -2,7 +2,7 @@ use Rattle.std.proofs.Common.{ℕ, List, drop, ap, sym, ◌∙◌, arith}
 use Rattle.std.proofs.Math.ListN.{drop_of_length-le}
 use Rattle.std.proofs.lemmas.Grind.{common_steps}
 use Rattle.vcode.specs.declared.place.Destination.{Destination}
-use Rattle.alloc_check.specs.Owners.{nobody}
+use Rattle.alloc_check.specs.Prelude.{nobody}
 use Rattle.alloc_check.proofs.Entering.{owner_from, none_from, owner_is}
 use Rattle.alloc_check.proofs.entry.owner_at.Goals as goal
 

@@ -1,9 +1,7 @@
 use Rattle.std.proofs.Common.{List, ap, sym, ◌∙◌}
 use Rattle.std.proofs.Math.ListN.{drop_of_length-le}
 use Rattle.certificates.specs.declared.certificate.Equality.{Equality}
-use Rattle.alloc_check.specs.Owners.{known, standing}
-use Rattle.alloc_check.specs.Accepted.{exists_in}
-use Rattle.alloc_check.specs.OwnerTable.{first_at, stands_at}
+use Rattle.alloc_check.specs.Prelude.{known, standing, exists_in, first_at, stands_at}
 use Rattle.alloc_check.proofs.Starting.{known_next, standing_next, every_next}
 use Rattle.alloc_check.proofs.first.know_all.Goals as goal
 

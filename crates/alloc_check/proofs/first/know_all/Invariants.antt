@@ -1,8 +1,6 @@
 use Rattle.std.proofs.Common.{◌≡◌, true, drop}
 use Rattle.std.specs.List.{list_all}
-use Rattle.alloc_check.specs.Owners.{known, standing}
-use Rattle.alloc_check.specs.Accepted.{exists_in}
-use Rattle.alloc_check.specs.OwnerTable.{first_at, stands_at, HasRoom}
+use Rattle.alloc_check.specs.Prelude.{known, standing, exists_in, first_at, stands_at, HasRoom}
 use Rattle.alloc_check.proofs.first.know_all.Given as goal
 
 abbrev pub invariant-loop-equality : goal.invariant-loop-equality

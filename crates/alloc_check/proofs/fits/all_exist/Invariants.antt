@@ -1,6 +1,6 @@
 use Rattle.std.proofs.Common.{◌≡◌, drop}
 use Rattle.std.specs.List.{list_all}
-use Rattle.alloc_check.specs.Accepted.{exists_in}
+use Rattle.alloc_check.specs.Prelude.{exists_in}
 use Rattle.alloc_check.proofs.fits.all_exist.Given as goal
 
 abbrev pub invariant-loop-equality : goal.invariant-loop-equality

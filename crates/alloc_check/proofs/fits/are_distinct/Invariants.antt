@@ -1,6 +1,5 @@
 use Rattle.std.proofs.Common.{◌≡◌, drop}
-use Rattle.vcode.specs.Named.{are_distinct}
-use Rattle.vcode.specs.Places.{located}
+use Rattle.vcode.specs.Prelude.{are_distinct, located}
 use Rattle.alloc_check.proofs.fits.are_distinct.Given as goal
 
 abbrev pub invariant-loop-k : goal.invariant-loop-k

@@ -1,5 +1,5 @@
 use Rattle.std.proofs.Common.{◌≡◌, drop}
-use Rattle.vcode.specs.Named.{are_near}
+use Rattle.vcode.specs.Prelude.{are_near}
 use Rattle.alloc_check.proofs.fits.are_near.Given as goal
 
 abbrev pub invariant-loop-param : goal.invariant-loop-param

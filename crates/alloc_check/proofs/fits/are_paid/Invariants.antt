@@ -1,6 +1,6 @@
 use Rattle.std.proofs.Common.{◌≡◌, drop}
 use Rattle.std.specs.List.{list_all}
-use Rattle.vcode.specs.Cost.{is_paid}
+use Rattle.vcode.specs.Prelude.{is_paid}
 use Rattle.alloc_check.proofs.fits.are_paid.Given as goal
 
 abbrev pub invariant-loop-block : goal.invariant-loop-block

@@ -1,5 +1,5 @@
 use Rattle.std.proofs.Common.{◌≡◌, drop}
-use Rattle.alloc_check.specs.Accepted.{equalities_exist}
+use Rattle.alloc_check.specs.Prelude.{equalities_exist}
 use Rattle.alloc_check.proofs.fits.equalities_exist.Given as goal
 
 abbrev pub invariant-loop-equalities : goal.invariant-loop-equalities

@@ -2,7 +2,7 @@ use Rattle.std.proofs.Common.{◌≡◌, drop}
 use Rattle.std.specs.List.{list_any}
 use Rattle.vcode.specs.declared.place.Destination.{Destination}
 use Rattle.vcode.specs.declared.place.Location.{Location}
-use Rattle.vcode.specs.Places.{same_location}
+use Rattle.vcode.specs.Prelude.{same_location}
 use Rattle.alloc_check.proofs.fits.is_among.Given as goal
 
 abbrev pub invariant-loop-param : goal.invariant-loop-param

@@ -1,6 +1,6 @@
 use Rattle.std.proofs.Common.{◌≡◌, drop}
 use Rattle.std.specs.List.{list_all}
-use Rattle.vcode.specs.Named.{line_keeps, is_place}
+use Rattle.vcode.specs.Prelude.{line_keeps, is_place}
 use Rattle.alloc_check.proofs.fits.lines.Given as goal
 
 abbrev pub invariant-loop-from : goal.invariant-loop-from

@@ -1,5 +1,5 @@
 use Rattle.std.proofs.Common.{◌≡◌, ◌+◌, ◌-◌, ◌/◌, sym, ap, ◌∙◌, arith}
-use Rattle.vcode.specs.Named.{keeps_places, is_place}
+use Rattle.vcode.specs.Prelude.{keeps_places, is_place}
 use Rattle.alloc_check.proofs.frame_slots.fewest_slots.Goals as goal
 
 pub loop-short-preserved : goal.loop-short-preserved

@@ -1,5 +1,5 @@
 use Rattle.std.proofs.Common.{◌≡◌, ◌≤◌, ◌<◌, ◌-◌, true, false}
-use Rattle.vcode.specs.Named.{keeps_places, is_place}
+use Rattle.vcode.specs.Prelude.{keeps_places, is_place}
 use Rattle.alloc_check.proofs.frame_slots.fewest_slots.Given as goal
 
 abbrev pub invariant-loop-short : goal.invariant-loop-short

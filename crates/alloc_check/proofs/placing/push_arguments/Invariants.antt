@@ -1,5 +1,5 @@
 use Rattle.std.proofs.Common.{◌≡◌, ◌++◌, map, drop}
-use Rattle.alloc_check.specs.Placed.{placed_argument}
+use Rattle.alloc_check.specs.Prelude.{placed_argument}
 use Rattle.alloc_check.proofs.placing.push_arguments.Given as goal
 
 abbrev pub invariant-loop-arg : goal.invariant-loop-arg

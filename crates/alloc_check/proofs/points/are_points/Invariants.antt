@@ -1,5 +1,5 @@
 use Rattle.std.proofs.Common.{◌≡◌, ◌≤◌, drop}
-use Rattle.alloc_check.specs.Accepted.{end_point}
+use Rattle.alloc_check.specs.Prelude.{end_point}
 use Rattle.alloc_check.proofs.points.are_points.Given as goal
 
 abbrev pub invariant-loop-block : goal.invariant-loop-block

@@ -1,5 +1,5 @@
 use Rattle.std.proofs.Common.{sym, ◌∙◌}
-use Rattle.alloc_check.specs.Certified.{next_point, jump_point}
+use Rattle.alloc_check.specs.Prelude.{next_point, jump_point}
 use Rattle.alloc_check.proofs.Counted.{beyond}
 use Rattle.cfg_live.proofs.Counting.{next_fits}
 use Rattle.alloc_check.proofs.points.lines_within.Goals as goal

@@ -1,5 +1,5 @@
 use Rattle.std.proofs.Common.{◌≡◌, ◌≤◌, drop}
-use Rattle.alloc_check.specs.Certified.{jump_point}
+use Rattle.alloc_check.specs.Prelude.{jump_point}
 use Rattle.alloc_check.proofs.points.lines_within.Given as goal
 
 abbrev pub invariant-loop-line : goal.invariant-loop-line

@@ -1,5 +1,5 @@
 use Rattle.std.proofs.Common.{◌≡◌, drop}
-use Rattle.alloc_check.specs.Certified.{place_by}
+use Rattle.alloc_check.specs.Prelude.{place_by}
 use Rattle.alloc_check.proofs.says.place_by.Given as goal
 
 abbrev pub invariant-loop-equality : goal.invariant-loop-equality

@@ -1,13 +1,9 @@
 use Rattle.std.proofs.Common.{sym, ◌∙◌, ap, subst, IsTrue, nat_le}
 use Rattle.il_ast.specs.declared.limits.TheConstants.{FUNCTION_WEIGHT}
-use Rattle.il_ast.specs.Passes.{Keeps}
+use Rattle.il_ast.specs.Prelude.{Keeps}
 use Rattle.vcode.specs.declared.place.Location.{Location}
 use Rattle.vcode.specs.declared.code.Code.{Code}
-use Rattle.vcode.specs.Named.{keeps_places, is_place, are_near, are_distinct}
-use Rattle.vcode.specs.Outgoing.{frame_bound}
-use Rattle.vcode.specs.Places.{located}
-use Rattle.vcode.specs.Coded.{coded, virtual_code}
-use Rattle.vcode.specs.Regular.{IsRegular, code_weight}
+use Rattle.vcode.specs.Prelude.{keeps_places, is_place, are_near, are_distinct, frame_bound, located, coded, virtual_code, IsRegular, code_weight}
 use Rattle.alloc_check.proofs.Measures.{slots_weigh_same, in_slots_keeps, slots_take_same}
 use Rattle.alloc_check.proofs.Regular.{slots_regular, slots_known, slots_near, slots_apart}
 use Rattle.alloc_check.proofs.spill_all.spill_all.Goals as goal

@@ -1,7 +1,7 @@
 use Rattle.std.proofs.Common.{◌≡◌, ◌&&◌, drop}
 use Rattle.std.specs.List.{list_all}
 use Rattle.certificates.specs.declared.certificate.Equality.{Equality}
-use Rattle.alloc_check.specs.Owners.{nobody, known, nowhere, standing, owns, is_at, are_apart}
+use Rattle.alloc_check.specs.Prelude.{nobody, known, nowhere, standing, owns, is_at, are_apart}
 use Rattle.alloc_check.proofs.stays.are_apart.Given as goal
 
 abbrev pub invariant-loop-equality : goal.invariant-loop-equality

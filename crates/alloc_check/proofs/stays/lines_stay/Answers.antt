@@ -1,5 +1,5 @@
 use Rattle.std.proofs.Common.{arith}
-use Rattle.alloc_check.specs.Certified.{jump_point}
+use Rattle.alloc_check.specs.Prelude.{jump_point}
 use Rattle.cfg_live.proofs.Counting.{next_fits}
 use Rattle.std.proofs.lemmas.Grind.{common_steps}
 use Rattle.alloc_check.proofs.stays.lines_stay.Goals as goal

@@ -1,7 +1,5 @@
 use Rattle.std.proofs.Common.{◌≡◌, drop}
-use Rattle.alloc_check.specs.Certified.{jump_point}
-use Rattle.alloc_check.specs.OwnerTable.{own_of}
-use Rattle.alloc_check.specs.Walk.{lines_stay}
+use Rattle.alloc_check.specs.Prelude.{jump_point, own_of, lines_stay}
 use Rattle.alloc_check.proofs.stays.lines_stay.Given as goal
 
 abbrev pub invariant-loop-line : goal.invariant-loop-line

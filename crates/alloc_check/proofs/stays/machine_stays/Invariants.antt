@@ -1,6 +1,5 @@
 use Rattle.std.proofs.Common.{◌≡◌}
-use Rattle.alloc_check.specs.OwnerTable.{own_of}
-use Rattle.alloc_check.specs.Walk.{machine_stays}
+use Rattle.alloc_check.specs.Prelude.{own_of, machine_stays}
 use Rattle.alloc_check.proofs.stays.machine_stays.Given as goal
 
 abbrev pub invariant-loop-register : goal.invariant-loop-register

@@ -1,6 +1,5 @@
 use Rattle.std.proofs.Common.{◌≡◌, drop}
-use Rattle.alloc_check.specs.OwnerTable.{own_of}
-use Rattle.alloc_check.specs.Walk.{moves_stay}
+use Rattle.alloc_check.specs.Prelude.{own_of, moves_stay}
 use Rattle.alloc_check.proofs.stays.moves_stay.Given as goal
 
 abbrev pub invariant-loop-one : goal.invariant-loop-one

@@ -1,6 +1,5 @@
 use Rattle.std.proofs.Common.{◌≡◌, drop}
-use Rattle.alloc_check.specs.OwnerTable.{own_of}
-use Rattle.alloc_check.specs.Walk.{starts_stay}
+use Rattle.alloc_check.specs.Prelude.{own_of, starts_stay}
 use Rattle.alloc_check.proofs.stays.starts_stay.Given as goal
 
 abbrev pub invariant-loop-equality : goal.invariant-loop-equality

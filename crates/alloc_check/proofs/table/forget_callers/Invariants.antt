@@ -1,5 +1,5 @@
 use Rattle.std.proofs.Common.{◌≡◌, ℕ, nat_lt, if◌then◌else◌}
-use Rattle.alloc_check.specs.OwnerTable.{item, forgets}
+use Rattle.alloc_check.specs.Prelude.{item, forgets}
 use Rattle.alloc_check.proofs.table.forget_callers.Given as goal
 
 abbrev pub invariant-loop-register : goal.invariant-loop-register

@@ -1,6 +1,6 @@
 use Rattle.std.proofs.Common.{◌≡◌, drop}
 use Rattle.std.specs.List.{list_all}
-use Rattle.alloc_check.specs.Accepted.{names_once}
+use Rattle.alloc_check.specs.Prelude.{names_once}
 use Rattle.alloc_check.proofs.whole.all_once.Given as goal
 
 abbrev pub invariant-loop-equalities : goal.invariant-loop-equalities

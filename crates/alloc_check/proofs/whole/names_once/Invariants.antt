@@ -1,5 +1,5 @@
 use Rattle.std.proofs.Common.{◌≡◌, drop}
-use Rattle.alloc_check.specs.Accepted.{names_once}
+use Rattle.alloc_check.specs.Prelude.{names_once}
 use Rattle.alloc_check.proofs.whole.names_once.Given as goal
 
 abbrev pub invariant-loop-k : goal.invariant-loop-k

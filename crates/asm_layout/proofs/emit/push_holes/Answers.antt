@@ -1,5 +1,5 @@
 use Rattle.std.proofs.Common.{◌∙◌, ap, drop, arith}
-use Rattle.rv_isa.specs.Labels.{longest_size}
+use Rattle.rv_isa.specs.Prelude.{longest_size}
 use Rattle.asm_layout.proofs.Distances.{size_longest}
 use Rattle.asm_layout.proofs.Steps.{from_item, holes_on}
 use Rattle.asm_layout.proofs.emit.push_holes.Goals as goal

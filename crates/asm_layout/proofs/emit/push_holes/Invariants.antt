@@ -1,5 +1,5 @@
 use Rattle.std.proofs.Common.{◌≡◌, ◌+◌, ◌≤◌, drop}
-use Rattle.rv_isa.specs.Labels.{longest_size}
+use Rattle.rv_isa.specs.Prelude.{longest_size}
 use Rattle.asm_layout.specs.Forms.{holes_with}
 use Rattle.asm_layout.proofs.emit.push_holes.Given as goal
 

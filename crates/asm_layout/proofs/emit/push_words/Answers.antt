@@ -1,5 +1,5 @@
 use Rattle.std.proofs.Common.{◌∙◌, length, ap, subst, drop, arith}
-use Rattle.rv_isa.specs.Labels.{longest_size}
+use Rattle.rv_isa.specs.Prelude.{longest_size}
 use Rattle.asm_layout.specs.Forms.{no_address, AllFit}
 use Rattle.asm_layout.proofs.Distances.{size_longest}
 use Rattle.asm_layout.proofs.Standing.{more_length}

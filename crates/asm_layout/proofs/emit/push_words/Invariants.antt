@@ -1,5 +1,5 @@
 use Rattle.std.proofs.Common.{◌≡◌, ◌+◌, ◌≤◌, drop, length}
-use Rattle.rv_isa.specs.Labels.{longest_size}
+use Rattle.rv_isa.specs.Prelude.{longest_size}
 use Rattle.asm_layout.specs.Forms.{words_with, no_address, AllFit}
 use Rattle.asm_layout.proofs.emit.push_words.Given as goal
 

@@ -1,7 +1,6 @@
 use Rattle.std.proofs.Common.{◌≡◌, ◌≤◌, length}
 use Rattle.std.proofs.lemmas.Result.{IfOk-weaker}
-use Rattle.rv_isa.specs.Labels.{longest_size}
-use Rattle.rv_isa.specs.Laid.{LaysOut}
+use Rattle.rv_isa.specs.Prelude.{longest_size, LaysOut}
 use Rattle.asm_layout.specs.Forms.{words_of, holes_of, HaveForm}
 use Rattle.asm_layout.proofs.Whole.{made_lays_out, made_not_longer, made_have_form}
 use Rattle.asm_layout.proofs.layout.layout.Goals as goal

@@ -1,6 +1,6 @@
 use Rattle.std.proofs.Common.{arith, subst, sym}
 use Rattle.std.proofs.lemmas.Result.{err_from_is_err_and}
-use Rattle.rv_isa.specs.State.{State}
+use Rattle.rv_isa.specs.Prelude.{State}
 use Rattle.rv_machine.specs.Decoded.{IsDecoded}
 use Rattle.rv_machine.specs.Machine.{view}
 use Rattle.commands.proofs.Sending.{ran_on, ran_to_end, ran_to_stop, run_broke}

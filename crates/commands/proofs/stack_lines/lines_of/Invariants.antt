@@ -1,5 +1,5 @@
 use Rattle.std.proofs.Common.{◌≡◌, ◌++◌, drop, map}
-use Rattle.obj_link.specs.Shown.{shown}
+use Rattle.obj_link.specs.Prelude.{shown}
 use Rattle.commands.specs.StackLines.{stack_lines}
 use Rattle.commands.proofs.stack_lines.lines_of.Given as goal
 

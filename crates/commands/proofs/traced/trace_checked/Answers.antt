@@ -1,6 +1,6 @@
 use Rattle.std.proofs.Common.{ℕ, List, Bor, map, refl}
 use Rattle.std.proofs.lemmas.Result.{IfErr-weaker}
-use Rattle.obj_link.specs.ProgramOf.{program}
+use Rattle.obj_link.specs.Prelude.{program}
 use Rattle.qbec.proofs.CompileLemmas.{link_says}
 use Rattle.commands.specs.Refusals.{compile_refusal}
 use Rattle.commands.proofs.Ending.{texts_fail, texts_refused}

@@ -1,7 +1,7 @@
 use Rattle.std.proofs.Common.{ℕ, ◌-◌, length, refl, ap, ◌∙◌, arith}
 use Rattle.std.proofs.lemmas.Option.{slice_get_read}
 use Rattle.vcode.specs.declared.code.Block.{Block}
-use Rattle.vcode.specs.Named.{block_keeps, is_below}
+use Rattle.vcode.specs.Prelude.{block_keeps, is_below}
 use Rattle.dead_code.proofs.guess.sweep.Goals as goal
 use Rattle.il_ast.proofs.Listed.{all_at}
 

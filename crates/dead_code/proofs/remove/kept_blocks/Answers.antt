@@ -2,7 +2,7 @@ use Rattle.std.proofs.Common.{◌≡◌, ℕ, List, length, slice_get, Some, ref
 use Rattle.std.proofs.lemmas.Option.{slice_get_read}
 use Rattle.bitset.specs.Bits.{Bits, is_member}
 use Rattle.vcode.specs.declared.code.Block.{Block}
-use Rattle.vcode.specs.Named.{block_keeps, is_below}
+use Rattle.vcode.specs.Prelude.{block_keeps, is_below}
 use Rattle.dead_code.specs.Without.{Wanted, kept_block, wanted_in, held}
 use Rattle.dead_code.proofs.Walking.{blocks_on, closed_on, inside_at}
 use Rattle.dead_code.proofs.remove.kept_blocks.Goals as goal

@@ -1,7 +1,7 @@
 use Rattle.std.proofs.Common.{◌≡◌, ℕ, true, ◌||◌, drop}
 use Rattle.std.specs.List.{list_any, list_all}
 use Rattle.bitset.specs.Bits.{is_member}
-use Rattle.vcode.specs.Named.{operand_keeps, is_below}
+use Rattle.vcode.specs.Prelude.{operand_keeps, is_below}
 use Rattle.dead_code.specs.Without.{names_it}
 use Rattle.dead_code.proofs.wanted.want_args.Given as goal
 

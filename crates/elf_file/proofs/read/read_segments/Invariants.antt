@@ -1,5 +1,5 @@
 use Rattle.std.proofs.Common.{◌≡◌, ◌≤◌}
-use Rattle.obj_link.specs.Image.{code_start}
+use Rattle.obj_link.specs.Prelude.{code_start}
 use Rattle.elf_file.specs.Conditions.{MapsAll, lowest}
 use Rattle.elf_file.proofs.read.read_segments.Given as goal
 

@@ -1,8 +1,7 @@
 use Rattle.std.proofs.Common.{◌∙◌, ap, refl}
 use Rattle.std.proofs.lemmas.Option.{IfSome_then}
 use Rattle.il_ast.specs.declared.value.Value.TheVariants.{Pointer}
-use Rattle.il_ast.specs.Values.{byte_count}
-use Rattle.il_ast.specs.Operations.{operate_one}
+use Rattle.il_ast.specs.Prelude.{byte_count, operate_one}
 use Rattle.il_interp.proofs.AccessLemmas.{loads, loads_long}
 use Rattle.il_interp.proofs.accesses.loaded.Goals as goal
 

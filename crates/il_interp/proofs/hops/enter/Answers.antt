@@ -1,9 +1,9 @@
 use Rattle.std.proofs.Common.{◌≡◌, ◌∙◌, ap, subst, sym, List, Bool, Some, MatchBool, option_map}
 use Rattle.il_ast.specs.declared.block.Phi.{Phi}
 use Rattle.il_ast.specs.declared.value.Value.{Value}
-use Rattle.il_ast.specs.Effect.{phi_values, with_phis}
-use Rattle.obj_link.specs.Shown.{shown}
-use Rattle.il_types.specs.Arguments.{are_all_distinct}
+use Rattle.il_ast.specs.Prelude.{phi_values, with_phis}
+use Rattle.obj_link.specs.Prelude.{shown}
+use Rattle.il_types.specs.Prelude.{are_all_distinct}
 use Rattle.il_interp.specs.Prepared.{program_of}
 use Rattle.il_interp.proofs.HopLemmas.{enters}
 use Rattle.il_interp.proofs.LabelLemmas.{program_distinct}

@@ -1,5 +1,5 @@
 use Rattle.std.proofs.Common.{ap}
-use Rattle.obj_link.specs.ProgramOf.{program}
+use Rattle.obj_link.specs.Prelude.{program}
 use Rattle.il_interp.specs.Machine.{inst_next}
 use Rattle.il_interp.proofs.instruction.in_row.Goals as goal
 

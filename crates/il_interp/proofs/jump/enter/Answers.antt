@@ -1,8 +1,8 @@
 use Rattle.std.proofs.Common.{◌≡◌, ◌∙◌, ap, subst, sym, List, Bool, Option, Some, None, MatchBool}
 use Rattle.il_ast.specs.declared.value.Value.{Value}
-use Rattle.il_ast.specs.Effect.{phi_values, with_phis}
-use Rattle.obj_link.specs.Shown.{shown}
-use Rattle.il_types.specs.Arguments.{are_all_distinct}
+use Rattle.il_ast.specs.Prelude.{phi_values, with_phis}
+use Rattle.obj_link.specs.Prelude.{shown}
+use Rattle.il_types.specs.Prelude.{are_all_distinct}
 use Rattle.il_interp.specs.Prepared.{program_of}
 use Rattle.il_interp.specs.Machine.{On, env_of}
 use Rattle.il_interp.proofs.HopLemmas.{entering, entering_none}

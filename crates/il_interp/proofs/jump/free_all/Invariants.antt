@@ -1,5 +1,5 @@
 use Rattle.std.proofs.Common.{◌≡◌, ◌≤◌, length, take}
-use Rattle.il_ast.specs.Memory.{free_all}
+use Rattle.il_ast.specs.Prelude.{free_all}
 use Rattle.il_interp.proofs.jump.free_all.Given as goal
 
 abbrev pub invariant-loop-left : goal.invariant-loop-left

@@ -1,6 +1,6 @@
 use Rattle.std.proofs.Common.{◌≡◌, ◌++◌, take, flat_map}
-use Rattle.il_ast.specs.Start.{globals_of, item_cells}
-use Rattle.obj_link.specs.ProgramOf.{program}
+use Rattle.il_ast.specs.Prelude.{globals_of, item_cells}
+use Rattle.obj_link.specs.Prelude.{program}
 use Rattle.il_interp.proofs.object.push_items.Given as goal
 
 abbrev pub invariant-loop-item : goal.invariant-loop-item

@@ -1,6 +1,6 @@
 use Rattle.std.proofs.Common.{◌++◌, map}
 use Rattle.il_ast.specs.declared.value.Cell.TheVariants.{Plain}
-use Rattle.il_ast.specs.Values.{bytes_of}
+use Rattle.il_ast.specs.Prelude.{bytes_of}
 use Rattle.il_interp.proofs.StartLemmas.{number_next}
 use Rattle.il_interp.proofs.object.push_number.Goals as goal
 

@@ -1,6 +1,6 @@
 use Rattle.std.proofs.Common.{◌≡◌, ◌++◌, ◌-◌, map}
 use Rattle.il_ast.specs.declared.value.Cell.TheVariants.{Plain}
-use Rattle.il_ast.specs.Values.{bytes_of}
+use Rattle.il_ast.specs.Prelude.{bytes_of}
 use Rattle.il_interp.proofs.object.push_number.Given as goal
 
 abbrev pub invariant-loop-done : goal.invariant-loop-done

@@ -1,5 +1,5 @@
 use Rattle.std.proofs.Common.{◌≡◌, ◌++◌, take}
-use Rattle.il_ast.specs.Memory.{parts}
+use Rattle.il_ast.specs.Prelude.{parts}
 use Rattle.il_interp.proofs.object.push_parts.Given as goal
 
 abbrev pub invariant-loop-index : goal.invariant-loop-index

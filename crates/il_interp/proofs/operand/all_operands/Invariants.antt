@@ -1,7 +1,6 @@
 use Rattle.std.proofs.Common.{◌≡◌, drop}
-use Rattle.il_ast.specs.Start.{globals_of}
-use Rattle.il_ast.specs.Effect.{all_operands}
-use Rattle.obj_link.specs.ProgramOf.{program}
+use Rattle.il_ast.specs.Prelude.{globals_of, all_operands}
+use Rattle.obj_link.specs.Prelude.{program}
 use Rattle.il_interp.proofs.ListLemmas.{found_then}
 use Rattle.il_interp.proofs.operand.all_operands.Given as goal
 

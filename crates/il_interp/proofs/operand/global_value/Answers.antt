@@ -1,7 +1,7 @@
 use Rattle.std.proofs.Common.{◌∙◌, ap, sym, List, slice_get, Option, Some, option_map}
 use Rattle.std.proofs.lemmas.Option.{slice_get_past, slice_get-map}
 use Rattle.il_ast.specs.declared.program.Target.{Target}
-use Rattle.il_ast.specs.Start.{target_value, values_of}
+use Rattle.il_ast.specs.Prelude.{target_value, values_of}
 use Rattle.il_interp.proofs.operand.global_value.Goals as goal
 use Rattle.il_ast.proofs.Listed.{get_there}
 

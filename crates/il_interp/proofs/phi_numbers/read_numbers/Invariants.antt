@@ -1,7 +1,7 @@
 use Rattle.std.proofs.Common.{◌≡◌, List, drop, map}
 use Rattle.il_ast.specs.declared.value.Value.{Value}
 use Rattle.il_ast.specs.declared.value.Value.TheVariants.{Integer}
-use Rattle.il_ast.specs.Effect.{phi_values}
+use Rattle.il_ast.specs.Prelude.{phi_values}
 use Rattle.il_interp.proofs.ListLemmas.{found_then}
 use Rattle.il_interp.proofs.phi_numbers.read_numbers.Given as goal
 

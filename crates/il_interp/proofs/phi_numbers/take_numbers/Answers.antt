@@ -1,7 +1,7 @@
 use Rattle.std.proofs.Common.{◌≡◌, List, subst, sym, Some, MatchBool, option_map}
 use Rattle.il_ast.specs.declared.block.Phi.{Phi}
 use Rattle.il_ast.specs.declared.value.Value.{Value}
-use Rattle.il_ast.specs.Effect.{phi_values, with_phis}
+use Rattle.il_ast.specs.Prelude.{phi_values, with_phis}
 use Rattle.il_interp.proofs.HopLemmas.{two_items}
 use Rattle.il_interp.proofs.phi_numbers.take_numbers.Goals as goal
 

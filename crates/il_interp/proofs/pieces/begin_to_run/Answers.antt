@@ -1,5 +1,5 @@
 use Rattle.std.proofs.Common.{◌∙◌, ap, map, refl, List, [], ℕ, Bor}
-use Rattle.obj_link.specs.ProgramOf.{program}
+use Rattle.obj_link.specs.Prelude.{program}
 use Rattle.il_interp.specs.Machine.{Over}
 use Rattle.il_interp.specs.Begun.{begun_next}
 use Rattle.il_interp.proofs.PieceLaws.{begins_empty, begun_means}

@@ -1,6 +1,6 @@
 use Rattle.std.proofs.Common.{◌∙◌, sym, ap}
 use Rattle.il_ast.specs.declared.operation.BinaryOp.{BinaryOp}
-use Rattle.il_ast.specs.Operations.{on_places}
+use Rattle.il_ast.specs.Prelude.{on_places}
 use Rattle.il_interp.proofs.places.on_places.Goals as goal
 
 pub returns-in-Add : goal.returns-in-Add

@@ -1,5 +1,5 @@
 use Rattle.std.proofs.Common.{◌≡◌, map, take}
-use Rattle.obj_link.specs.Shown.{shown}
+use Rattle.obj_link.specs.Prelude.{shown}
 use Rattle.il_interp.specs.Places.{needs_of}
 use Rattle.il_interp.proofs.prepare.needs.Given as goal
 

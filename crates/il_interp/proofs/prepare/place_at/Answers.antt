@@ -1,7 +1,7 @@
 use Rattle.std.proofs.Common.{◌∙◌, ℕ, ap, sym, List, slice_get, Option}
 use Rattle.std.proofs.lemmas.Option.{slice_get_past}
 use Rattle.std.specs.Option.{option_and_then, option_flatten}
-use Rattle.il_types.specs.LabelBlocks.{place_in}
+use Rattle.il_types.specs.Prelude.{place_in}
 use Rattle.il_interp.proofs.prepare.place_at.Goals as goal
 use Rattle.il_ast.proofs.Listed.{get_there}
 

@@ -1,7 +1,7 @@
 use Rattle.std.proofs.Common.{◌∙◌, ap, arith, ◌∷◌, [], length, length-append}
-use Rattle.il_types.specs.LabelBlocks.{place_in}
+use Rattle.il_types.specs.Prelude.{place_in}
 use Rattle.il_interp.proofs.PlaceLemmas.{tables_further}
-use Rattle.il_ast.specs.Effect.{place_of}
+use Rattle.il_ast.specs.Prelude.{place_of}
 use Rattle.il_interp.proofs.prepare.places.Goals as goal
 
 pub loop-function-preserved : goal.loop-function-preserved

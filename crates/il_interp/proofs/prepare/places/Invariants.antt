@@ -1,5 +1,5 @@
 use Rattle.std.proofs.Common.{◌≡◌, ℕ, map, take, length}
-use Rattle.obj_link.specs.Shown.{shown}
+use Rattle.obj_link.specs.Prelude.{shown}
 use Rattle.il_interp.specs.Places.{placed, places_of}
 use Rattle.il_interp.proofs.prepare.places.Given as goal
 

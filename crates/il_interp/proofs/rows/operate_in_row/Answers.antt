@@ -1,5 +1,5 @@
 use Rattle.std.proofs.Common.{◌<◌, arith, length, get_or}
-use Rattle.obj_link.specs.ProgramOf.{program}
+use Rattle.obj_link.specs.Prelude.{program}
 use Rattle.il_interp.specs.Rows.{held}
 use Rattle.il_interp.proofs.RowLemmas.{one_further}
 use Rattle.il_interp.proofs.rows.operate_in_row.Goals.{then-most-count, else-most-count}

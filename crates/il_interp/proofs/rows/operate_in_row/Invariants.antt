@@ -1,4 +1,4 @@
-use Rattle.obj_link.specs.ProgramOf.{program}
+use Rattle.obj_link.specs.Prelude.{program}
 use Rattle.il_interp.specs.Rows.{GoesOn, held}
 use Rattle.il_interp.proofs.rows.operate_in_row.Given as goal
 

@@ -1,9 +1,8 @@
 use Rattle.std.proofs.Common.{◌≡◌, ◌++◌, map, take, Some}
 use Rattle.il_ast.specs.declared.datum.DataDef.{DataDef}
 use Rattle.il_ast.specs.declared.program.InText.{InText}
-use Rattle.il_ast.specs.Start.{object_cells}
-use Rattle.obj_link.specs.Shown.{shown}
-use Rattle.obj_link.specs.ProgramOf.{program}
+use Rattle.il_ast.specs.Prelude.{object_cells}
+use Rattle.obj_link.specs.Prelude.{shown, program}
 use Rattle.il_interp.proofs.start.add_objects.Given as goal
 
 abbrev pub invariant-loop-object : goal.invariant-loop-object

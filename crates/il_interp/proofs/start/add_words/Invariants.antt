@@ -1,5 +1,5 @@
 use Rattle.std.proofs.Common.{◌≡◌, ◌++◌, map, take, ℕ, List, Some}
-use Rattle.il_ast.specs.Start.{word_cells}
+use Rattle.il_ast.specs.Prelude.{word_cells}
 use Rattle.il_interp.proofs.start.add_words.Given as goal
 
 abbrev pub invariant-loop-word : goal.invariant-loop-word

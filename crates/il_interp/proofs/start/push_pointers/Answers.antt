@@ -1,5 +1,5 @@
 use Rattle.std.proofs.Common.{◌++◌}
-use Rattle.il_ast.specs.Start.{pointers_from}
+use Rattle.il_ast.specs.Prelude.{pointers_from}
 use Rattle.il_interp.proofs.StartLemmas.{pointers_next}
 use Rattle.il_interp.proofs.start.push_pointers.Goals as goal
 

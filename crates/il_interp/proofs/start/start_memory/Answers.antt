@@ -1,10 +1,9 @@
 use Rattle.std.proofs.Common.{◌≡◌, ◌∙◌, sym, ap, ℕ, List, [], ◌∷◌, ◌++◌, length, map, Some, Bor}
 use Rattle.std.proofs.lemmas.List.{length-map}
-use Rattle.il_ast.specs.Start.{list_cells, object_cells, word_cells}
+use Rattle.il_ast.specs.Prelude.{list_cells, object_cells, word_cells}
 use Rattle.il_ast.specs.declared.datum.DataDef.{DataDef}
 use Rattle.il_ast.specs.declared.program.InText.{InText}
-use Rattle.obj_link.specs.Shown.{shown}
-use Rattle.obj_link.specs.ProgramOf.{program}
+use Rattle.obj_link.specs.Prelude.{shown, program}
 use Rattle.il_interp.proofs.StartLemmas.{three_parts}
 use Rattle.il_interp.proofs.start.start_memory.Goals as goal
 

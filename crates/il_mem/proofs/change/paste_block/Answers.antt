@@ -1,5 +1,5 @@
 use Rattle.std.proofs.Common.{◌∙◌, sym, ap, Some}
-use Rattle.il_ast.specs.Memory.{span}
+use Rattle.il_ast.specs.Prelude.{span}
 use Rattle.il_mem.specs.Changed.{cells_put}
 use Rattle.il_mem.proofs.Putting.{inside_of, pasted, changes}
 use Rattle.il_mem.proofs.change.paste_block.Goals as goal

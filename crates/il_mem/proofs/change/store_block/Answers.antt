@@ -1,6 +1,6 @@
 use Rattle.std.proofs.Common.{◌∙◌, sym, subst}
 use Rattle.il_ast.specs.declared.value.Value.{Value}
-use Rattle.il_ast.specs.Values.{byte_count}
+use Rattle.il_ast.specs.Prelude.{byte_count}
 use Rattle.il_mem.specs.Changed.{value_put, ChangesBlock}
 use Rattle.il_mem.proofs.Putting.{integer_is}
 use Rattle.il_mem.proofs.change.store_block.Goals as goal

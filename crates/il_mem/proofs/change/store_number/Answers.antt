@@ -1,6 +1,6 @@
 use Rattle.std.proofs.Common.{◌∙◌, sym, ap, refl, Some}
 use Rattle.il_ast.specs.declared.value.Value.TheVariants.{Integer}
-use Rattle.il_ast.specs.Values.{byte_count}
+use Rattle.il_ast.specs.Prelude.{byte_count}
 use Rattle.il_mem.specs.Changed.{value_put}
 use Rattle.il_mem.proofs.Putting.{integer_inside, changes}
 use Rattle.il_mem.proofs.change.store_number.Goals as goal

@@ -1,4 +1,4 @@
-use Rattle.il_ast.specs.Values.{byte_count}
+use Rattle.il_ast.specs.Prelude.{byte_count}
 use Rattle.il_mem.proofs.Reading.{spanned}
 use Rattle.il_mem.proofs.ranges.number_in.Goals as goal
 

@@ -1,5 +1,5 @@
 use Rattle.std.proofs.Common.{◌≡◌, take, drop}
-use Rattle.il_ast.specs.Memory.{are_parts_from}
+use Rattle.il_ast.specs.Prelude.{are_parts_from}
 use Rattle.il_mem.proofs.read.are_parts.Given as goal
 
 abbrev pub invariant-loop-k : goal.invariant-loop-k

@@ -1,5 +1,5 @@
 use Rattle.std.proofs.Common.{◌∙◌, sym, ap, take, drop, ◌+◌, ◌<◌, length, arith}
-use Rattle.il_ast.specs.Memory.{plain_bytes}
+use Rattle.il_ast.specs.Prelude.{plain_bytes}
 use Rattle.il_mem.proofs.Reading.{byte_there, bytes_then, bytes_go_on, bytes_stop, bytes_begin, bytes_end}
 use Rattle.il_mem.proofs.read.read_bytes.Goals as goal
 

@@ -1,5 +1,5 @@
 use Rattle.std.proofs.Common.{◌≡◌, take, drop}
-use Rattle.il_ast.specs.Memory.{plain_bytes}
+use Rattle.il_ast.specs.Prelude.{plain_bytes}
 use Rattle.il_mem.proofs.Reading.{bytes_then}
 use Rattle.il_mem.proofs.read.read_bytes.Given as goal
 

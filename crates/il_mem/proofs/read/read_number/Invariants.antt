@@ -1,6 +1,5 @@
 use Rattle.std.proofs.Common.{◌≡◌, ◌<◌, ◌≤◌, ◌-◌, ◌^◌, take, drop, Some, option_map}
-use Rattle.il_ast.specs.Values.{number_of}
-use Rattle.il_ast.specs.Memory.{plain_bytes}
+use Rattle.il_ast.specs.Prelude.{number_of, plain_bytes}
 use Rattle.il_mem.proofs.read.read_number.Given as goal
 
 abbrev pub invariant-loop-left : goal.invariant-loop-left

@@ -1,6 +1,6 @@
 use Rattle.std.proofs.Common.{◌≡◌, ◌+◌, ◌-◌, length, map}
 use Rattle.il_ast.specs.declared.value.Cell.TheVariants.{Plain}
-use Rattle.il_ast.specs.Values.{bytes_of}
+use Rattle.il_ast.specs.Prelude.{bytes_of}
 use Rattle.il_mem.specs.Written.{written}
 use Rattle.il_mem.proofs.write.write_number.Given as goal
 

@@ -1,6 +1,6 @@
 use Rattle.std.proofs.Common.{◌∙◌, ◌+◌, ℕ, ap, length, slice_set, length-set}
 use Rattle.il_ast.specs.declared.value.Cell.TheVariants.{Part}
-use Rattle.il_ast.specs.Memory.{parts}
+use Rattle.il_ast.specs.Prelude.{parts}
 use Rattle.il_mem.proofs.Writing.{written_next, parts_next}
 use Rattle.il_mem.proofs.write.write_parts.Goals as goal
 

@@ -1,5 +1,5 @@
 use Rattle.std.proofs.Common.{◌≡◌, ◌+◌, length, drop}
-use Rattle.il_ast.specs.Memory.{parts}
+use Rattle.il_ast.specs.Prelude.{parts}
 use Rattle.il_mem.specs.Written.{written}
 use Rattle.il_mem.proofs.write.write_parts.Given as goal
 

@@ -1,7 +1,5 @@
 use Rattle.std.proofs.Common.{◌≡◌, ◌-◌, suc, length}
-use Rattle.il_reader.specs.Steps.{sees, separated}
-use Rattle.il_reader.specs.Reading.{argument, comma, is_comma, is_word}
-use Rattle.il_reader.specs.Gives.{appended}
+use Rattle.il_reader.specs.Prelude.{sees, separated, argument, comma, is_comma, is_word, appended}
 use Rattle.il_reader.proofs.arguments.more_arguments.Given as goal
 
 abbrev pub invariant-loop : goal.invariant-loop

@@ -1,6 +1,5 @@
 use Rattle.std.proofs.Common.{sym, ◌∙◌, rules}
-use Rattle.il_reader.specs.Steps.{sees}
-use Rattle.il_reader.specs.Reading.{phi_argument, comma, is_comma, is_label}
+use Rattle.il_reader.specs.Prelude.{sees, phi_argument, comma, is_comma, is_label}
 use Rattle.il_reader.proofs.Rounds.{separated_more}
 use Rattle.il_reader.proofs.arguments.more_phi_arguments.Goals as goal
 

@@ -1,7 +1,5 @@
 use Rattle.std.proofs.Common.{◌≡◌, ◌-◌, suc, length}
-use Rattle.il_reader.specs.Steps.{sees, separated}
-use Rattle.il_reader.specs.Reading.{phi_argument, comma, is_comma, is_label}
-use Rattle.il_reader.specs.Gives.{appended}
+use Rattle.il_reader.specs.Prelude.{sees, separated, phi_argument, comma, is_comma, is_label, appended}
 use Rattle.il_reader.proofs.arguments.more_phi_arguments.Given as goal
 
 abbrev pub invariant-loop : goal.invariant-loop

@@ -1,9 +1,7 @@
 use Rattle.std.proofs.Common.{List, sym, ap, ◌∙◌}
 use Rattle.std.proofs.lemmas.Result.{err_from_is_err_and}
 use Rattle.il_ast.specs.declared.block.PhiArg.{PhiArg}
-use Rattle.il_reader.specs.Steps.{sees}
-use Rattle.il_reader.specs.Reading.{phi_argument, comma, is_comma, is_label}
-use Rattle.il_reader.specs.Gives.{appended, pushed}
+use Rattle.il_reader.specs.Prelude.{sees, phi_argument, comma, is_comma, is_label, appended, pushed}
 use Rattle.il_reader.proofs.Rounds.{commas_pushed}
 use Rattle.il_reader.proofs.arguments.phi_arguments.Goals as goal
 

@@ -3,10 +3,7 @@ use Rattle.std.proofs.lemmas.Result.{err_from_is_err_and}
 use Rattle.il_ast.specs.declared.block.Block.{Block}
 use Rattle.il_ast.specs.declared.instruction.Lined.{Lined}
 use Rattle.il_ast.specs.declared.instruction.Jump.{Jump}
-use Rattle.il_reader.specs.State.{State}
-use Rattle.il_reader.specs.Steps.{Step, ◌>>=◌, give, maybe, sees, label}
-use Rattle.il_reader.specs.Reading.{on_line, lined, jump, is_word}
-use Rattle.il_reader.specs.Blocks.{Lines, body, block}
+use Rattle.il_reader.specs.Prelude.{State, Step, ◌>>=◌, give, maybe, sees, label, on_line, lined, jump, is_word, Lines, body, block}
 use Rattle.il_reader.proofs.Binding.{bind_some, bind_none, on_line_then}
 use Rattle.il_reader.proofs.block.block.Goals as goal
 

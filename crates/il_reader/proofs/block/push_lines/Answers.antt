@@ -1,7 +1,6 @@
 use Rattle.std.proofs.Common.{◌≡◌, ℕ, ◌-◌, suc, length, false, sym, ap, ◌∙◌, arith, rules}
 use Rattle.std.proofs.lemmas.Result.{err_from_is_err_and}
-use Rattle.il_reader.specs.Blocks.{lines}
-use Rattle.il_reader.specs.Gives.{with_lines}
+use Rattle.il_reader.specs.Prelude.{lines, with_lines}
 use Rattle.il_reader.proofs.BlockLines.{lines_more, lines_refused, with_lines_none}
 use Rattle.il_reader.proofs.block.push_lines.Goals as goal
 

@@ -1,6 +1,5 @@
 use Rattle.std.proofs.Common.{◌≡◌, ◌-◌, suc, length, false}
-use Rattle.il_reader.specs.Blocks.{lines}
-use Rattle.il_reader.specs.Gives.{with_lines}
+use Rattle.il_reader.specs.Prelude.{lines, with_lines}
 use Rattle.il_reader.proofs.block.push_lines.Given as goal
 
 abbrev pub invariant-loop : goal.invariant-loop

@@ -1,10 +1,7 @@
 use Rattle.std.proofs.Common.{List, sym, ap, ◌∙◌}
 use Rattle.std.proofs.lemmas.Result.{err_from_is_err_and}
 use Rattle.il_ast.specs.declared.datum.Field.{Field}
-use Rattle.il_reader.specs.Steps.{sees}
-use Rattle.il_reader.specs.Reading.{comma, is_comma, is_word}
-use Rattle.il_reader.specs.Definitions.{spaced, field}
-use Rattle.il_reader.specs.Gives.{appended, pushed}
+use Rattle.il_reader.specs.Prelude.{sees, comma, is_comma, is_word, spaced, field, appended, pushed}
 use Rattle.il_reader.proofs.Rounds.{commas_pushed}
 use Rattle.il_reader.proofs.datum.field_list.Goals as goal
 

@@ -1,8 +1,5 @@
 use Rattle.std.proofs.Common.{◌≡◌, ◌-◌, suc, length}
-use Rattle.il_reader.specs.Steps.{sees, separated}
-use Rattle.il_reader.specs.Reading.{comma, is_comma, is_word}
-use Rattle.il_reader.specs.Definitions.{spaced, field}
-use Rattle.il_reader.specs.Gives.{appended}
+use Rattle.il_reader.specs.Prelude.{sees, separated, comma, is_comma, is_word, spaced, field, appended}
 use Rattle.il_reader.proofs.datum.more_fields.Given as goal
 
 abbrev pub invariant-loop : goal.invariant-loop

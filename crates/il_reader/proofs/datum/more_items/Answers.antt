@@ -1,6 +1,5 @@
 use Rattle.std.proofs.Common.{sym, ◌∙◌, rules}
-use Rattle.il_reader.specs.Steps.{sees}
-use Rattle.il_reader.specs.Definitions.{is_item, item}
+use Rattle.il_reader.specs.Prelude.{sees, is_item, item}
 use Rattle.il_reader.proofs.Rounds.{repeated_more}
 use Rattle.il_reader.proofs.datum.more_items.Goals as goal
 

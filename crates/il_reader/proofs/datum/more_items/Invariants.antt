@@ -1,7 +1,5 @@
 use Rattle.std.proofs.Common.{◌≡◌, ◌-◌, suc, length}
-use Rattle.il_reader.specs.Steps.{sees, repeated}
-use Rattle.il_reader.specs.Definitions.{is_item, item}
-use Rattle.il_reader.specs.Gives.{appended}
+use Rattle.il_reader.specs.Prelude.{sees, repeated, is_item, item, appended}
 use Rattle.il_reader.proofs.datum.more_items.Given as goal
 
 abbrev pub invariant-loop : goal.invariant-loop

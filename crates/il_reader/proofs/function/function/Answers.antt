@@ -2,8 +2,7 @@ use Rattle.std.proofs.Common.{ℕ, Bool, List, Option, Some, sym, ap, ◌∙◌}
 use Rattle.il_ast.specs.declared.block.Block.{Block}
 use Rattle.il_ast.specs.declared.function.Param.{Param}
 use Rattle.il_ast.specs.declared.operation.Class.{Class}
-use Rattle.il_reader.specs.Steps.{Step, ◌>>=◌, give}
-use Rattle.il_reader.specs.Definitions.{FunctionParts, function_head, function_params, function_body, function_names}
+use Rattle.il_reader.specs.Prelude.{Step, ◌>>=◌, give, FunctionParts, function_head, function_params, function_body, function_names}
 use Rattle.il_reader.proofs.Binding.{bind_some}
 use Rattle.il_reader.proofs.Ordered.{function_named}
 use Rattle.il_reader.proofs.function.function.Goals as goal

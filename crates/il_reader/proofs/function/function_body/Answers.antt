@@ -2,11 +2,7 @@ use Rattle.std.proofs.Common.{List, ◌∙◌}
 use Rattle.std.proofs.lemmas.Result.{err_from_is_err_and}
 use Rattle.il_ast.specs.declared.block.Block.{Block}
 use Rattle.il_lex.specs.declared.kind.Symbol.TheVariants.{LeftBrace, RightBrace}
-use Rattle.il_reader.specs.Reads.{falling}
-use Rattle.il_reader.specs.Steps.{Step, ◌>>=◌, ◌>>◌, give, piece}
-use Rattle.il_reader.specs.Reading.{on_line}
-use Rattle.il_reader.specs.Definitions.{blocks}
-use Rattle.il_reader.specs.Gives.{falling_blocks}
+use Rattle.il_reader.specs.Prelude.{falling, Step, ◌>>=◌, ◌>>◌, give, piece, on_line, blocks, falling_blocks}
 use Rattle.il_reader.proofs.Binding.{bind_some, bind_none, on_line_then}
 use Rattle.il_reader.proofs.Falling.{falling_then}
 use Rattle.il_reader.proofs.function.function_body.Goals as goal

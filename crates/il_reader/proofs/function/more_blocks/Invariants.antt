@@ -1,8 +1,5 @@
 use Rattle.std.proofs.Common.{◌≡◌, ◌-◌, suc, length}
-use Rattle.il_reader.specs.Steps.{sees, repeated}
-use Rattle.il_reader.specs.Reading.{is_label}
-use Rattle.il_reader.specs.Blocks.{block}
-use Rattle.il_reader.specs.Gives.{fallen}
+use Rattle.il_reader.specs.Prelude.{sees, repeated, is_label, block, fallen}
 use Rattle.il_reader.proofs.function.more_blocks.Given as goal
 
 abbrev pub invariant-loop : goal.invariant-loop

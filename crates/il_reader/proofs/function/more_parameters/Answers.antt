@@ -1,7 +1,5 @@
 use Rattle.std.proofs.Common.{sym, ◌∙◌, rules}
-use Rattle.il_reader.specs.Steps.{sees}
-use Rattle.il_reader.specs.Reading.{comma, is_comma, is_word}
-use Rattle.il_reader.specs.Definitions.{parameter}
+use Rattle.il_reader.specs.Prelude.{sees, comma, is_comma, is_word, parameter}
 use Rattle.il_reader.proofs.Rounds.{separated_more}
 use Rattle.il_reader.proofs.function.more_parameters.Goals as goal
 

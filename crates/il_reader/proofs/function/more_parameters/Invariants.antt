@@ -1,8 +1,5 @@
 use Rattle.std.proofs.Common.{◌≡◌, ◌-◌, suc, length}
-use Rattle.il_reader.specs.Steps.{sees, separated}
-use Rattle.il_reader.specs.Reading.{comma, is_comma, is_word}
-use Rattle.il_reader.specs.Definitions.{parameter}
-use Rattle.il_reader.specs.Gives.{appended}
+use Rattle.il_reader.specs.Prelude.{sees, separated, comma, is_comma, is_word, parameter, appended}
 use Rattle.il_reader.proofs.function.more_parameters.Given as goal
 
 abbrev pub invariant-loop : goal.invariant-loop

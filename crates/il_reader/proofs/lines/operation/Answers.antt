@@ -1,5 +1,5 @@
 use Rattle.std.proofs.Common.{sym, ◌∙◌}
-use Rattle.il_reader.specs.Blocks.{operation_of}
+use Rattle.il_reader.specs.Prelude.{operation_of}
 use Rattle.il_reader.proofs.Keywords.{keyword_read}
 use Rattle.il_reader.proofs.lines.operation.Goals as goal
 

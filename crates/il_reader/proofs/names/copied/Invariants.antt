@@ -1,5 +1,5 @@
 use Rattle.std.proofs.Common.{◌≡◌, take, map}
-use Rattle.il_reader.specs.Keys.{key_bytes}
+use Rattle.il_reader.specs.Prelude.{key_bytes}
 use Rattle.il_reader.proofs.names.copied.Given as goal
 
 abbrev pub invariant-loop-name : goal.invariant-loop-name

@@ -1,6 +1,5 @@
 use Rattle.std.proofs.Common.{◌≡◌, ◌+◌, drop, map}
-use Rattle.il_reader.specs.Keys.{key_bytes}
-use Rattle.il_reader.specs.State.{place}
+use Rattle.il_reader.specs.Prelude.{key_bytes, place}
 use Rattle.il_reader.proofs.names.place_among.Given as goal
 
 abbrev pub invariant-loop-k : goal.invariant-loop-k

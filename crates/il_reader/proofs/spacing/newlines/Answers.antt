@@ -1,6 +1,5 @@
 use Rattle.std.proofs.Common.{sym, ◌∙◌, rules}
-use Rattle.il_reader.specs.Steps.{sees, newline}
-use Rattle.il_reader.specs.Reading.{is_newline}
+use Rattle.il_reader.specs.Prelude.{sees, newline, is_newline}
 use Rattle.il_reader.proofs.Rounds.{repeated_passed}
 use Rattle.il_reader.proofs.spacing.newlines.Goals as goal
 

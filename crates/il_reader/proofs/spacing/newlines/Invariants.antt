@@ -1,7 +1,5 @@
 use Rattle.std.proofs.Common.{◌≡◌, ◌-◌, suc, length}
-use Rattle.il_reader.specs.Steps.{sees, repeated, newline}
-use Rattle.il_reader.specs.Reading.{is_newline}
-use Rattle.il_reader.specs.Gives.{passed}
+use Rattle.il_reader.specs.Prelude.{sees, repeated, newline, is_newline, passed}
 use Rattle.il_reader.proofs.spacing.newlines.Given as goal
 
 abbrev pub invariant-loop : goal.invariant-loop

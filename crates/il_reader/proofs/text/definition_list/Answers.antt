@@ -1,10 +1,7 @@
 use Rattle.std.proofs.Common.{◌≡◌, Bool, cond, List, [], Some, sym, ap, ◌∙◌, rules, true}
 use Rattle.std.proofs.lemmas.Result.{err_from_is_err_and}
 use Rattle.il_ast.specs.declared.text.Definition.{Definition}
-use Rattle.il_reader.specs.Steps.{sees, commas}
-use Rattle.il_reader.specs.Reading.{is_newline, is_word}
-use Rattle.il_reader.specs.Definitions.{between, definition}
-use Rattle.il_reader.specs.Gives.{appended, pushed, parts_of}
+use Rattle.il_reader.specs.Prelude.{sees, commas, is_newline, is_word, between, definition, appended, pushed, parts_of}
 use Rattle.il_reader.proofs.Rounds.{commas_pushed}
 use Rattle.il_reader.proofs.text.definition_list.Goals as goal
 

@@ -1,9 +1,6 @@
 use Rattle.std.proofs.Common.{◌≡◌, ℕ, ◌-◌, suc, length, sym, ap, ◌∙◌, arith, rules}
 use Rattle.std.proofs.lemmas.Result.{err_from_is_err_and}
-use Rattle.il_reader.specs.Steps.{sees, separated}
-use Rattle.il_reader.specs.Reading.{is_newline, is_word}
-use Rattle.il_reader.specs.Definitions.{between, definition}
-use Rattle.il_reader.specs.Gives.{appended, parts_of}
+use Rattle.il_reader.specs.Prelude.{sees, separated, is_newline, is_word, between, definition, appended, parts_of}
 use Rattle.il_reader.proofs.Rounds.{separated_more, separated_last, separated_no_comma, separated_no_item, appended_none}
 use Rattle.il_reader.proofs.text.more_definitions.Goals as goal
 

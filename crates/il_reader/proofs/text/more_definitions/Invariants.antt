@@ -1,8 +1,5 @@
 use Rattle.std.proofs.Common.{◌≡◌, ◌-◌, suc, length}
-use Rattle.il_reader.specs.Steps.{sees, separated}
-use Rattle.il_reader.specs.Reading.{is_newline, is_word}
-use Rattle.il_reader.specs.Definitions.{between, definition}
-use Rattle.il_reader.specs.Gives.{appended, parts_of}
+use Rattle.il_reader.specs.Prelude.{sees, separated, is_newline, is_word, between, definition, appended, parts_of}
 use Rattle.il_reader.proofs.text.more_definitions.Given as goal
 
 abbrev pub invariant-loop : goal.invariant-loop

@@ -1,5 +1,5 @@
 use Rattle.std.proofs.Common.{◌≡◌, drop}
-use Rattle.il_types.specs.Faults.{first_fault}
+use Rattle.il_types.specs.Prelude.{first_fault}
 use Rattle.il_types.proofs.check.first_fault.Given as goal
 
 abbrev pub invariant-loop-definition : goal.invariant-loop-definition

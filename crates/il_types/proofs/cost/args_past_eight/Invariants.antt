@@ -1,5 +1,5 @@
 use Rattle.std.proofs.Common.{◌≡◌, take}
-use Rattle.il_ast.specs.Cost.{largest_of}
+use Rattle.il_ast.specs.Prelude.{largest_of}
 use Rattle.il_types.proofs.cost.args_past_eight.Given as goal
 
 abbrev pub invariant-loop-block : goal.invariant-loop-block

@@ -1,6 +1,5 @@
 use Rattle.std.proofs.Common.{◌≡◌, take}
-use Rattle.il_types.specs.Capped.{capped}
-use Rattle.il_types.specs.Parts.{insts_weight}
+use Rattle.il_types.specs.Prelude.{capped, insts_weight}
 use Rattle.il_types.proofs.cost.insts_weight.Given as goal
 
 abbrev pub invariant-loop-inst : goal.invariant-loop-inst

@@ -1,5 +1,5 @@
 use Rattle.std.proofs.Common.{◌≡◌, take}
-use Rattle.il_ast.specs.Cost.{largest_in}
+use Rattle.il_ast.specs.Prelude.{largest_in}
 use Rattle.il_types.proofs.cost.largest_call.Given as goal
 
 abbrev pub invariant-loop-inst : goal.invariant-loop-inst

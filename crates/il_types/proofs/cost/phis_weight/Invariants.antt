@@ -1,6 +1,5 @@
 use Rattle.std.proofs.Common.{◌≡◌, take}
-use Rattle.il_types.specs.Capped.{capped}
-use Rattle.il_types.specs.Parts.{phis_weight}
+use Rattle.il_types.specs.Prelude.{capped, phis_weight}
 use Rattle.il_types.proofs.cost.phis_weight.Given as goal
 
 abbrev pub invariant-loop-phi : goal.invariant-loop-phi

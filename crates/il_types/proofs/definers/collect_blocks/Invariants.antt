@@ -1,5 +1,5 @@
 use Rattle.std.proofs.Common.{◌≡◌, ◌++◌, take, flat_map}
-use Rattle.il_types.specs.Sites.{block_definers}
+use Rattle.il_types.specs.Prelude.{block_definers}
 use Rattle.il_types.proofs.definers.collect_blocks.Given as goal
 
 abbrev pub invariant-loop-block : goal.invariant-loop-block

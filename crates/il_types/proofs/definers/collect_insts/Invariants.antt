@@ -1,5 +1,5 @@
 use Rattle.std.proofs.Common.{◌≡◌, ◌++◌, take, flat_map}
-use Rattle.il_types.specs.Sites.{inst_definers}
+use Rattle.il_types.specs.Prelude.{inst_definers}
 use Rattle.il_types.proofs.definers.collect_insts.Given as goal
 
 abbrev pub invariant-loop-inst : goal.invariant-loop-inst

@@ -1,5 +1,5 @@
 use Rattle.std.proofs.Common.{◌≡◌, ◌++◌, take, flat_map}
-use Rattle.il_types.specs.Sites.{param_definers}
+use Rattle.il_types.specs.Prelude.{param_definers}
 use Rattle.il_types.proofs.definers.collect_params.Given as goal
 
 abbrev pub invariant-loop-param : goal.invariant-loop-param

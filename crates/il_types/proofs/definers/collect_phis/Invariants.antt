@@ -1,5 +1,5 @@
 use Rattle.std.proofs.Common.{◌≡◌, ◌++◌, take, flat_map}
-use Rattle.il_types.specs.Sites.{phi_definers}
+use Rattle.il_types.specs.Prelude.{phi_definers}
 use Rattle.il_types.proofs.definers.collect_phis.Given as goal
 
 abbrev pub invariant-loop-phi : goal.invariant-loop-phi

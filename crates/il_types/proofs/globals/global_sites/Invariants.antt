@@ -1,5 +1,5 @@
 use Rattle.std.proofs.Common.{◌≡◌, take}
-use Rattle.il_types.specs.Rules.{global_sites}
+use Rattle.il_types.specs.Prelude.{global_sites}
 use Rattle.il_types.proofs.globals.global_sites.Given as goal
 
 abbrev pub invariant-loop-definition : goal.invariant-loop-definition

@@ -1,8 +1,7 @@
 use Rattle.std.proofs.Common.{◌≡◌, drop}
-use Rattle.il_types.specs.First.{when, first}
+use Rattle.il_types.specs.Prelude.{when, first, is_alloc}
 use Rattle.il_ast.specs.declared.instruction.Inst.{Inst}
 use Rattle.il_ast.specs.declared.instruction.Lined.{Lined}
-use Rattle.il_types.specs.Locals.{is_alloc}
 use Rattle.il_types.proofs.insts.alloc_in.Given as goal
 
 abbrev pub invariant-loop-inst : goal.invariant-loop-inst

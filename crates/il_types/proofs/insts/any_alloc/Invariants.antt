@@ -1,5 +1,5 @@
 use Rattle.std.proofs.Common.{◌≡◌, drop}
-use Rattle.il_types.specs.Locals.{in_insts, is_alloc}
+use Rattle.il_types.specs.Prelude.{in_insts, is_alloc}
 use Rattle.il_types.proofs.insts.any_alloc.Given as goal
 
 abbrev pub invariant-loop-block : goal.invariant-loop-block

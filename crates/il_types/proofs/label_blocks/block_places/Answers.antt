@@ -1,6 +1,6 @@
 use Rattle.std.proofs.Common.{◌∙◌, sym, ap, cond, nat_eq, Some, None}
 use Rattle.std.specs.Option.{option_or}
-use Rattle.il_types.specs.LabelBlocks.{place_in}
+use Rattle.il_types.specs.Prelude.{place_in}
 use Rattle.il_types.proofs.PlaceTable.{places_further}
 use Rattle.il_types.proofs.label_blocks.block_places.Goals as goal
 

@@ -1,5 +1,5 @@
 use Rattle.std.proofs.Common.{◌≡◌, ℕ, ◌+◌, ◌-◌, length}
-use Rattle.il_types.specs.LabelBlocks.{place_in}
+use Rattle.il_types.specs.Prelude.{place_in}
 use Rattle.il_types.proofs.label_blocks.set_place.Given as goal
 
 abbrev pub invariant-loop-table : goal.invariant-loop-table

@@ -1,5 +1,5 @@
 use Rattle.std.proofs.Common.{◌≡◌, drop, is_none}
-use Rattle.il_types.specs.First.{when, first}
+use Rattle.il_types.specs.Prelude.{when, first}
 use Rattle.il_ast.specs.declared.block.Block.{Block}
 use Rattle.il_types.proofs.labels.block_without_jump.Given as goal
 

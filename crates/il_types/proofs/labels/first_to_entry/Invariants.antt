@@ -1,7 +1,6 @@
 use Rattle.std.proofs.Common.{◌≡◌, drop}
-use Rattle.il_types.specs.First.{when, first}
+use Rattle.il_types.specs.Prelude.{when, first, is_entry}
 use Rattle.il_types.specs.declared.site.Site.{Site}
-use Rattle.il_types.specs.Locals.{is_entry}
 use Rattle.il_types.proofs.labels.first_to_entry.Given as goal
 
 abbrev pub invariant-loop-site : goal.invariant-loop-site

@@ -1,6 +1,5 @@
 use Rattle.std.proofs.Common.{◌≡◌, ℕ, take}
-use Rattle.il_types.specs.Marks.{marked}
-use Rattle.il_types.specs.Locals.{is_label}
+use Rattle.il_types.specs.Prelude.{marked, is_label}
 use Rattle.il_types.proofs.labels.labels.Given as goal
 
 abbrev pub invariant-loop-block : goal.invariant-loop-block

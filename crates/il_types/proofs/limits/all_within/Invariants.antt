@@ -1,6 +1,6 @@
 use Rattle.std.proofs.Common.{◌≡◌, drop}
 use Rattle.std.specs.List.{list_all}
-use Rattle.il_types.specs.Rules.{definition_within}
+use Rattle.il_types.specs.Prelude.{definition_within}
 use Rattle.il_types.proofs.limits.all_within.Given as goal
 
 abbrev pub invariant-loop-definition : goal.invariant-loop-definition

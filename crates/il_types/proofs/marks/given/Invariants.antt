@@ -1,5 +1,5 @@
 use Rattle.std.proofs.Common.{◌≡◌, ℕ, take}
-use Rattle.il_types.specs.Marks.{marked, is_given}
+use Rattle.il_types.specs.Prelude.{marked, is_given}
 use Rattle.il_types.proofs.marks.given.Given as goal
 
 abbrev pub invariant-loop-definer : goal.invariant-loop-definer

@@ -1,5 +1,5 @@
 use Rattle.std.proofs.Common.{◌≡◌, ℕ, ◌+◌, ◌-◌, length}
-use Rattle.il_types.specs.Marks.{marked}
+use Rattle.il_types.specs.Prelude.{marked}
 use Rattle.il_types.proofs.marks.mark.Given as goal
 
 abbrev pub invariant-loop-marks : goal.invariant-loop-marks

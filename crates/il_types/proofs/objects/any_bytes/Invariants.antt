@@ -1,6 +1,6 @@
 use Rattle.std.proofs.Common.{◌≡◌, drop}
 use Rattle.std.specs.List.{list_any}
-use Rattle.il_types.specs.Rules.{has_bytes}
+use Rattle.il_types.specs.Prelude.{has_bytes}
 use Rattle.il_types.proofs.objects.any_bytes.Given as goal
 
 abbrev pub invariant-loop-field : goal.invariant-loop-field

@@ -1,6 +1,6 @@
 use Rattle.std.proofs.Common.{◌≡◌, drop}
 use Rattle.std.specs.List.{list_any}
-use Rattle.il_types.specs.Rules.{is_misfit}
+use Rattle.il_types.specs.Prelude.{is_misfit}
 use Rattle.il_types.proofs.objects.any_item_misfit.Given as goal
 
 abbrev pub invariant-loop-item : goal.invariant-loop-item

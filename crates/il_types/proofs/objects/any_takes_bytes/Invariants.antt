@@ -1,6 +1,6 @@
 use Rattle.std.proofs.Common.{◌≡◌, drop}
 use Rattle.std.specs.List.{list_any}
-use Rattle.il_types.specs.Rules.{takes_bytes}
+use Rattle.il_types.specs.Prelude.{takes_bytes}
 use Rattle.il_types.proofs.objects.any_takes_bytes.Given as goal
 
 abbrev pub invariant-loop-item : goal.invariant-loop-item

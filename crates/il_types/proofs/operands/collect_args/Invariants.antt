@@ -1,5 +1,5 @@
 use Rattle.std.proofs.Common.{◌≡◌, ◌++◌, take}
-use Rattle.il_types.specs.Sites.{arg_operands}
+use Rattle.il_types.specs.Prelude.{arg_operands}
 use Rattle.il_types.proofs.operands.collect_args.Given as goal
 
 abbrev pub invariant-loop-arg : goal.invariant-loop-arg

@@ -1,6 +1,6 @@
 use Rattle.std.proofs.Common.{◌≡◌, ◌++◌, ◌∷◌, [], take, flat_map}
 use Rattle.il_ast.specs.declared.block.PhiArg.{PhiArg}
-use Rattle.il_types.specs.Sites.{operand_at}
+use Rattle.il_types.specs.Prelude.{operand_at}
 use Rattle.il_types.proofs.operands.collect_phi.Given as goal
 
 abbrev pub invariant-loop-arg : goal.invariant-loop-arg

@@ -1,7 +1,7 @@
 use Rattle.std.proofs.Common.{◌≡◌, drop, not, ◌&&◌}
 use Rattle.std.specs.List.{list_all}
 use Rattle.il_ast.specs.declared.block.PhiArg.{PhiArg}
-use Rattle.il_types.specs.Tally.{named, is_never, is_once}
+use Rattle.il_types.specs.Prelude.{named, is_never, is_once}
 use Rattle.il_types.proofs.phis.are_args_right.Given as goal
 
 abbrev pub invariant-loop-arg : goal.invariant-loop-arg

@@ -1,6 +1,6 @@
 use Rattle.std.proofs.Common.{◌∙◌, ℕ, ap, sym, not, ◌&&◌}
 use Rattle.std.specs.List.{list_all}
-use Rattle.il_types.specs.Tally.{named, is_never}
+use Rattle.il_types.specs.Prelude.{named, is_never}
 use Rattle.il_types.proofs.TallyLemmas.{covers_by_tallies}
 use Rattle.il_types.proofs.phis.are_right.Goals as goal
 

@@ -1,7 +1,6 @@
 use Rattle.std.proofs.Common.{◌∙◌, ap, sym, not}
 use Rattle.il_ast.specs.declared.block.Phi.{Phi}
-use Rattle.il_types.specs.First.{when}
-use Rattle.il_types.specs.Covering.{covers_by}
+use Rattle.il_types.specs.Prelude.{when, covers_by}
 use Rattle.il_types.proofs.OneMore.{first_on}
 use Rattle.il_types.proofs.phis.first_uncovered.Goals as goal
 

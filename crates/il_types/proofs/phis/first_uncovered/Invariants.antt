@@ -1,6 +1,5 @@
 use Rattle.std.proofs.Common.{◌≡◌, drop}
-use Rattle.il_types.specs.Tally.{NothingNamed}
-use Rattle.il_types.specs.Covering.{first_uncovered_by}
+use Rattle.il_types.specs.Prelude.{NothingNamed, first_uncovered_by}
 use Rattle.il_types.proofs.phis.first_uncovered.Given as goal
 
 abbrev pub invariant-loop-phi : goal.invariant-loop-phi

@@ -1,5 +1,5 @@
 use Rattle.std.proofs.Common.{◌∙◌, sym}
-use Rattle.il_types.specs.Covering.{uncovered_by}
+use Rattle.il_types.specs.Prelude.{uncovered_by}
 use Rattle.il_types.proofs.OneMore.{first_on}
 use Rattle.il_types.proofs.phis.uncovered_in.Goals as goal
 

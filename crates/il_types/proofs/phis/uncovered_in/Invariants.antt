@@ -1,7 +1,5 @@
 use Rattle.std.proofs.Common.{◌≡◌, drop}
-use Rattle.il_types.specs.First.{first}
-use Rattle.il_types.specs.Tally.{NothingNamed}
-use Rattle.il_types.specs.Covering.{uncovered_by}
+use Rattle.il_types.specs.Prelude.{first, NothingNamed, uncovered_by}
 use Rattle.il_types.proofs.phis.uncovered_in.Given as goal
 
 abbrev pub invariant-loop-block : goal.invariant-loop-block

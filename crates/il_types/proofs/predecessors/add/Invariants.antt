@@ -1,5 +1,5 @@
 use Rattle.std.proofs.Common.{◌≡◌, ℕ, ◌+◌, ◌-◌, length}
-use Rattle.il_types.specs.Covering.{row}
+use Rattle.il_types.specs.Prelude.{row}
 use Rattle.il_types.proofs.predecessors.add.Given as goal
 
 abbrev pub invariant-loop-alloc : goal.invariant-loop-alloc

@@ -1,5 +1,5 @@
 use Rattle.std.proofs.Common.{◌≡◌, ℕ, take}
-use Rattle.il_types.specs.Covering.{row, predecessors_of}
+use Rattle.il_types.specs.Prelude.{row, predecessors_of}
 use Rattle.il_types.proofs.predecessors.predecessors.Given as goal
 
 abbrev pub invariant-loop-block : goal.invariant-loop-block

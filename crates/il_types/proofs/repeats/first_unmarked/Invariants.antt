@@ -1,7 +1,6 @@
 use Rattle.std.proofs.Common.{◌≡◌, drop, not}
 use Rattle.il_types.specs.declared.site.Site.{Site}
-use Rattle.il_types.specs.First.{when, first}
-use Rattle.il_types.specs.Marks.{marked}
+use Rattle.il_types.specs.Prelude.{when, first, marked}
 use Rattle.il_types.proofs.repeats.first_unmarked.Given as goal
 
 abbrev pub invariant-loop-site : goal.invariant-loop-site

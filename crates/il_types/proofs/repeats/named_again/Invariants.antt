@@ -1,6 +1,5 @@
 use Rattle.std.proofs.Common.{◌≡◌, ℕ, take, nat_lt}
-use Rattle.il_types.specs.Marks.{marked}
-use Rattle.il_types.specs.Locals.{times}
+use Rattle.il_types.specs.Prelude.{marked, times}
 use Rattle.il_types.proofs.repeats.named_again.Given as goal
 
 abbrev pub invariant-loop-site : goal.invariant-loop-site

@@ -1,5 +1,5 @@
 use Rattle.std.proofs.Common.{◌≡◌, ◌++◌, take, flat_map}
-use Rattle.il_types.specs.Sites.{phi_sources}
+use Rattle.il_types.specs.Prelude.{phi_sources}
 use Rattle.il_types.proofs.sites.collect_sources.Given as goal
 
 abbrev pub invariant-loop-phi : goal.invariant-loop-phi

@@ -1,5 +1,5 @@
 use Rattle.std.proofs.Common.{◌≡◌, take}
-use Rattle.il_types.specs.Locals.{label_sites}
+use Rattle.il_types.specs.Prelude.{label_sites}
 use Rattle.il_types.proofs.sites.label_sites.Given as goal
 
 abbrev pub invariant-loop-block : goal.invariant-loop-block

@@ -1,5 +1,5 @@
 use Rattle.std.proofs.Common.{◌≡◌, take}
-use Rattle.il_types.specs.Locals.{param_sites}
+use Rattle.il_types.specs.Prelude.{param_sites}
 use Rattle.il_types.proofs.sites.param_sites.Given as goal
 
 abbrev pub invariant-loop-param : goal.invariant-loop-param

@@ -1,5 +1,5 @@
 use Rattle.std.proofs.Common.{◌≡◌, take}
-use Rattle.il_types.specs.Locals.{phi_sites}
+use Rattle.il_types.specs.Prelude.{phi_sites}
 use Rattle.il_types.proofs.sites.phi_sites.Given as goal
 
 abbrev pub invariant-loop-phi : goal.invariant-loop-phi

@@ -1,5 +1,5 @@
 use Rattle.std.proofs.Common.{◌≡◌, take, flat_map}
-use Rattle.il_types.specs.Sites.{sources_in}
+use Rattle.il_types.specs.Prelude.{sources_in}
 use Rattle.il_types.proofs.sites.sources.Given as goal
 
 abbrev pub invariant-loop-block : goal.invariant-loop-block

@@ -1,4 +1,4 @@
-use Rattle.il_types.specs.Sites.{block_targets}
+use Rattle.il_types.specs.Prelude.{block_targets}
 use Rattle.il_types.proofs.OneMore.{flat_on}
 use Rattle.il_types.proofs.sites.targets.Goals as goal
 

@@ -1,5 +1,5 @@
 use Rattle.std.proofs.Common.{◌≡◌, take, flat_map}
-use Rattle.il_types.specs.Sites.{block_targets}
+use Rattle.il_types.specs.Prelude.{block_targets}
 use Rattle.il_types.proofs.sites.targets.Given as goal
 
 abbrev pub invariant-loop-block : goal.invariant-loop-block

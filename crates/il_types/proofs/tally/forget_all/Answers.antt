@@ -1,7 +1,7 @@
 use Rattle.std.proofs.Common.{◌∙◌, ap, cond, List, ℕ, nat_eq, take_all}
 use Rattle.std.specs.List.{list_any}
 use Rattle.il_types.specs.declared.tally.Often.TheVariants.{Never}
-use Rattle.il_types.specs.Tally.{named}
+use Rattle.il_types.specs.Prelude.{named}
 use Rattle.il_types.proofs.TallyLemmas.{all_forgotten}
 use Rattle.il_types.proofs.tally.forget_all.Goals as goal
 

@@ -1,7 +1,7 @@
 use Rattle.std.proofs.Common.{◌≡◌, ℕ, take, cond, nat_eq}
 use Rattle.std.specs.List.{list_any}
 use Rattle.il_types.specs.declared.tally.Often.TheVariants.{Never}
-use Rattle.il_types.specs.Tally.{named}
+use Rattle.il_types.specs.Prelude.{named}
 use Rattle.il_types.proofs.tally.forget_all.Given as goal
 
 abbrev pub invariant-loop-number : goal.invariant-loop-number

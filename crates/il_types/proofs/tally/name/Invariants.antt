@@ -1,5 +1,5 @@
 use Rattle.std.proofs.Common.{◌≡◌, ℕ, ◌+◌, ◌-◌, length}
-use Rattle.il_types.specs.Tally.{named}
+use Rattle.il_types.specs.Prelude.{named}
 use Rattle.il_types.proofs.tally.name.Given as goal
 
 abbrev pub invariant-loop-tally : goal.invariant-loop-tally

@@ -1,5 +1,5 @@
 use Rattle.std.proofs.Common.{◌∙◌, ap, cond, get_or, nat_eq}
-use Rattle.il_types.specs.Tally.{once_more}
+use Rattle.il_types.specs.Prelude.{once_more}
 use Rattle.il_types.proofs.TallyLemmas.{named_further}
 use Rattle.il_types.proofs.tally.name_all.Goals as goal
 

@@ -1,7 +1,6 @@
 use Rattle.std.proofs.Common.{◌≡◌, drop, not}
-use Rattle.il_types.specs.First.{when, first}
+use Rattle.il_types.specs.Prelude.{when, first, value_fits}
 use Rattle.il_types.specs.declared.site.Operand.{Operand}
-use Rattle.il_types.specs.Tables.{value_fits}
 use Rattle.il_types.proofs.temps.first_misfit.Given as goal
 
 abbrev pub invariant-loop-operand : goal.invariant-loop-operand

@@ -1,6 +1,5 @@
 use Rattle.std.proofs.Common.{◌≡◌, drop, ◌&&◌}
-use Rattle.il_types.specs.First.{when, first}
-use Rattle.il_types.specs.Marks.{marked}
+use Rattle.il_types.specs.Prelude.{when, first, marked}
 use Rattle.il_types.specs.declared.site.Definer.{Definer}
 use Rattle.il_types.proofs.temps.first_of_both.Given as goal
 

@@ -1,5 +1,5 @@
 use Rattle.std.proofs.Common.{◌≡◌, drop}
-use Rattle.il_types.specs.Tables.{returned_misfit}
+use Rattle.il_types.specs.Prelude.{returned_misfit}
 use Rattle.il_types.proofs.temps.misfit_return.Given as goal
 
 abbrev pub invariant-loop-block : goal.invariant-loop-block

@@ -1,5 +1,5 @@
 use Rattle.std.proofs.Common.{◌≡◌, drop}
-use Rattle.il_types.specs.Tables.{returned_undefined}
+use Rattle.il_types.specs.Prelude.{returned_undefined}
 use Rattle.il_types.proofs.temps.undefined_return.Given as goal
 
 abbrev pub invariant-loop-block : goal.invariant-loop-block

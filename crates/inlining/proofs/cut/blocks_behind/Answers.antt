@@ -2,8 +2,7 @@ use Rattle.std.proofs.Common.{ℕ, List, ap, ◌∙◌}
 use Rattle.std.specs.List.{list_all}
 use Rattle.vcode.specs.declared.limits.TheConstants.{PLACES}
 use Rattle.vcode.specs.declared.code.Block.{Block}
-use Rattle.vcode.specs.Named.{block_keeps, is_below}
-use Rattle.vcode.specs.Regular.{leads_inside}
+use Rattle.vcode.specs.Prelude.{block_keeps, is_below, leads_inside}
 use Rattle.inlining.specs.declared.limits.TheConstants.{BLOCKS}
 use Rattle.inlining.proofs.WithinLimits.{inside_all, blocks_known}
 use Rattle.inlining.proofs.cut.blocks_behind.Goals as goal

@@ -2,7 +2,7 @@ use Rattle.std.proofs.Common.{rules, ℕ, List, ap, ◌∙◌}
 use Rattle.std.specs.List.{list_all}
 use Rattle.vcode.specs.declared.limits.TheConstants.{PLACES}
 use Rattle.vcode.specs.declared.place.Destination.{Destination}
-use Rattle.vcode.specs.Named.{is_below}
+use Rattle.vcode.specs.Prelude.{is_below}
 use Rattle.inlining.proofs.WithinLimits.{params_known}
 use Rattle.inlining.proofs.cut.cut_for.Goals as goal
 

@@ -1,7 +1,7 @@
 use Rattle.std.proofs.Common.{◌+◌, not, List, drop, ℕ, sym, ap, ◌∙◌, arith}
 use Rattle.std.specs.List.{list_any}
 use Rattle.vcode.specs.declared.line.Line.{Line}
-use Rattle.vcode.specs.Regular.{is_alloc}
+use Rattle.vcode.specs.Prelude.{is_alloc}
 use Rattle.inlining.proofs.Listing.{none_later}
 use Rattle.inlining.proofs.cut.cut_in.Goals as goal
 

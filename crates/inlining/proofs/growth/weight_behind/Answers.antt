@@ -3,7 +3,7 @@ use Rattle.std.proofs.lemmas.List.{at_drop_all}
 use Rattle.std.proofs.lemmas.List.Sums.{sum_by-drop_more}
 use Rattle.vcode.specs.declared.line.Line.{Line}
 use Rattle.vcode.specs.declared.code.Block.{Block}
-use Rattle.vcode.specs.Regular.{weight_of}
+use Rattle.vcode.specs.Prelude.{weight_of}
 use Rattle.inlining.proofs.growth.weight_behind.Goals as goal
 
 pub loop-block-preserved : goal.loop-block-preserved

@@ -1,6 +1,6 @@
 use Rattle.std.proofs.Common.{◌≡◌, ℕ, ◌+◌, drop, sum_by}
 use Rattle.vcode.specs.declared.code.Block.{Block}
-use Rattle.vcode.specs.Regular.{weight_of}
+use Rattle.vcode.specs.Prelude.{weight_of}
 use Rattle.inlining.proofs.growth.weight_behind.Given as goal
 
 abbrev pub invariant-loop-block : goal.invariant-loop-block

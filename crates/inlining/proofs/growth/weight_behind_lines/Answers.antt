@@ -1,7 +1,7 @@
 use Rattle.std.proofs.Common.{ℕ, ap, arith, sum_by}
 use Rattle.std.proofs.lemmas.List.{at_drop_all}
 use Rattle.std.proofs.lemmas.List.Sums.{sum_by-drop_more}
-use Rattle.vcode.specs.Regular.{weight_of}
+use Rattle.vcode.specs.Prelude.{weight_of}
 use Rattle.inlining.proofs.growth.weight_behind_lines.Goals as goal
 
 pub loop-line-preserved : goal.loop-line-preserved

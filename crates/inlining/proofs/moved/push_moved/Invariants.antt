@@ -1,5 +1,5 @@
 use Rattle.std.proofs.Common.{◌≡◌, ◌++◌, map, drop}
-use Rattle.vcode.specs.Replaced.{with_argument}
+use Rattle.vcode.specs.Prelude.{with_argument}
 use Rattle.inlining.specs.Moved.{moved}
 use Rattle.inlining.proofs.moved.push_moved.Given as goal
 

@@ -1,6 +1,6 @@
 use Rattle.std.proofs.Common.{◌≡◌, drop}
 use Rattle.std.specs.List.{list_any}
-use Rattle.vcode.specs.Regular.{is_alloc}
+use Rattle.vcode.specs.Prelude.{is_alloc}
 use Rattle.inlining.proofs.site.up_to_allocs.Given as goal
 
 abbrev pub invariant-loop-number : goal.invariant-loop-number

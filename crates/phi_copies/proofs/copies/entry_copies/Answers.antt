@@ -1,6 +1,6 @@
 use Rattle.std.proofs.Common.{◌≡◌, length, map, sym, ◌∙◌, ap, subst, arith}
 use Rattle.std.proofs.lemmas.List.{length-map}
-use Rattle.il_types.specs.Arguments.{are_all_distinct}
+use Rattle.il_types.specs.Prelude.{are_all_distinct}
 use Rattle.phi_copies.specs.Copies.{AreCopies}
 use Rattle.phi_copies.specs.Moves.{HasDistinctDestinations, IsUnnamed}
 use Rattle.phi_copies.specs.Together.{wanted, moves_in, first_in, IsInOrder}

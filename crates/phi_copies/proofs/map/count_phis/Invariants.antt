@@ -1,6 +1,6 @@
 use Rattle.std.proofs.Common.{◌≡◌, ◌+◌, ◌++◌, length, drop, sum_by}
 use Rattle.il_ast.specs.declared.block.Block.{Block}
-use Rattle.il_ast.specs.Cost.{phi_count}
+use Rattle.il_ast.specs.Prelude.{phi_count}
 use Rattle.phi_copies.specs.Map.{first_numbers}
 use Rattle.phi_copies.proofs.map.count_phis.Given as goal
 

@@ -2,8 +2,7 @@ use Rattle.std.proofs.Common.{◌≡◌, ℕ, List, map, length, refl, sym, ◌�
 use Rattle.il_ast.specs.declared.block.Block.{Block}
 use Rattle.il_ast.specs.declared.function.Param.{Param}
 use Rattle.il_ast.specs.declared.function.Func.{Func}
-use Rattle.il_ast.specs.Mentions.{come_after, temps_of, labels_of, are_distinct}
-use Rattle.il_ast.specs.Written.{has_block, have_arguments}
+use Rattle.il_ast.specs.Prelude.{come_after, temps_of, labels_of, are_distinct, has_block, have_arguments}
 use Rattle.promote.specs.declared.mention.Mention.{Mention}
 use Rattle.promote.specs.declared.standing.Standing.{Standing}
 use Rattle.promote.specs.declared.standing.Standing.TheVariants.{Unseen}

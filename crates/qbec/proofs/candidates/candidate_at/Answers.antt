@@ -1,8 +1,7 @@
 use Rattle.std.proofs.Common.{◌≡◌, List, Bor, Some, slice_get, subst}
 use Rattle.il_ast.specs.declared.function.Func.{Func}
 use Rattle.il_ast.specs.declared.program.InText.{InText}
-use Rattle.obj_link.specs.ProgramOf.{program}
-use Rattle.obj_link.specs.Shown.{shown}
+use Rattle.obj_link.specs.Prelude.{program, shown}
 use Rattle.qbec.proofs.Placing.{got_at, got_mapped, candidate_answer}
 use Rattle.qbec.proofs.candidates.candidate_at.Goals as goal
 

@@ -1,5 +1,5 @@
 use Rattle.std.proofs.lemmas.Option.{slice_get-get_or}
-use Rattle.obj_link.specs.ProgramOf.{program}
+use Rattle.obj_link.specs.Prelude.{program}
 use Rattle.qbec.proofs.Placing.{candidates_none, more_candidates}
 use Rattle.qbec.proofs.candidates.candidates_meant.Goals as goal
 

@@ -1,4 +1,4 @@
-use Rattle.obj_link.specs.ProgramOf.{program}
+use Rattle.obj_link.specs.Prelude.{program}
 use Rattle.qbec.proofs.Placing.{no_tables, more_tables}
 use Rattle.qbec.proofs.candidates.candidates_over.Goals as goal
 

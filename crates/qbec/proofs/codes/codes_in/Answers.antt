@@ -3,8 +3,7 @@ use Rattle.std.proofs.lemmas.Result.{IfOk-weaker}
 use Rattle.il_ast.specs.declared.function.Func.{Func}
 use Rattle.il_ast.specs.declared.program.InText.{InText}
 use Rattle.il_ast.specs.declared.program.Program.{Program}
-use Rattle.obj_link.specs.ProgramOf.{program}
-use Rattle.obj_link.specs.Shown.{shown}
+use Rattle.obj_link.specs.Prelude.{program, shown}
 use Rattle.vcode.specs.declared.function.VFunc.{VFunc}
 use Rattle.qbec.specs.Codes.{AreGood, AreWords, AreWordsIn}
 use Rattle.qbec.specs.Candidates.{AreCandidatesIn}

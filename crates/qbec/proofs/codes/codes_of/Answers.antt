@@ -1,7 +1,6 @@
 use Rattle.std.proofs.Common.{◌≡◌, true}
 use Rattle.std.proofs.lemmas.Result.{IfOk-weaker}
-use Rattle.obj_link.specs.Placed.{calls_reach}
-use Rattle.obj_link.specs.ProgramOf.{program}
+use Rattle.obj_link.specs.Prelude.{calls_reach, program}
 use Rattle.asm_layout.specs.declared.call.CallForm.TheVariants.{Far}
 use Rattle.qbec.specs.Codes.{AllHaveForm}
 use Rattle.qbec.proofs.Reaching.{far_calls_reach}

@@ -1,7 +1,6 @@
 use Rattle.std.proofs.Common.{◌∙◌}
 use Rattle.std.proofs.lemmas.List.{length-map}
-use Rattle.obj_link.specs.ProgramOf.{program}
-use Rattle.obj_link.specs.Shown.{shown}
+use Rattle.obj_link.specs.Prelude.{program, shown}
 use Rattle.qbec.proofs.PromotedFunctions.{one_each}
 use Rattle.qbec.proofs.FileLemmas.{fits_below}
 use Rattle.qbec.proofs.codes.reach.Goals as goal

@@ -1,6 +1,6 @@
 use Rattle.std.proofs.Common.{ℕ, List, Bor, map, subst}
 use Rattle.il_types.specs.declared.checked.Checked.{Checked}
-use Rattle.obj_link.specs.Refusals.{Refuses as LinkRefuses}
+use Rattle.obj_link.specs.Prelude.{Refuses as LinkRefuses}
 use Rattle.headline.proofs.GoodFunctions.{functions_are_good}
 use Rattle.qbec.proofs.CompileLemmas.{link_says}
 use Rattle.qbec.proofs.compile.compile.Goals as goal

@@ -1,10 +1,8 @@
 use Rattle.std.proofs.Common.{◌∙◌, subst}
-use Rattle.obj_link.specs.Image.{IsImage}
+use Rattle.obj_link.specs.Prelude.{IsImage, program, shown}
 use Rattle.elf_file.specs.Conditions.{Loads}
 use Rattle.elf_file.specs.File.{executable_of}
 use Rattle.std.proofs.lemmas.List.{length-map}
-use Rattle.obj_link.specs.ProgramOf.{program}
-use Rattle.obj_link.specs.Shown.{shown}
 use Rattle.qbec.proofs.PromotedFunctions.{one_each}
 use Rattle.qbec.proofs.FileLemmas.{fits_below, is_file}
 use Rattle.qbec.proofs.compile.file_of.Goals as goal

@@ -1,7 +1,7 @@
 use Rattle.std.proofs.Common.{sym, subst}
-use Rattle.il_ast.specs.Passes.{Keeps}
+use Rattle.il_ast.specs.Prelude.{Keeps}
 use Rattle.vcode.specs.declared.function.LFunc.{LFunc}
-use Rattle.vcode.specs.Coded.{virtual_code, location_code}
+use Rattle.vcode.specs.Prelude.{virtual_code, location_code}
 use Rattle.qbec.proofs.Placing.{stays_with}
 use Rattle.qbec.proofs.pipeline.located.Goals as goal
 

@@ -1,10 +1,7 @@
 use Rattle.std.proofs.Common.{◌≤◌, subst}
 use Rattle.il_ast.specs.declared.function.Func.{Func}
-use Rattle.il_ast.specs.Cost.{need, weight}
-use Rattle.il_ast.specs.Passes.{IsCodeOf}
-use Rattle.vcode.specs.Coded.{virtual_code}
-use Rattle.vcode.specs.Outgoing.{frame_bound}
-use Rattle.vcode.specs.Regular.{code_weight}
+use Rattle.il_ast.specs.Prelude.{need, weight, IsCodeOf}
+use Rattle.vcode.specs.Prelude.{virtual_code, frame_bound, code_weight}
 use Rattle.qbec.proofs.pipeline.selected.Goals as goal
 
 pub returns-clause-is : goal.returns-clause-is

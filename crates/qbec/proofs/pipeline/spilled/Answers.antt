@@ -1,11 +1,8 @@
 use Rattle.std.proofs.Common.{◌≤◌, sym, subst}
-use Rattle.il_ast.specs.Cost.{need, weight}
-use Rattle.il_ast.specs.Passes.{Keeps}
+use Rattle.il_ast.specs.Prelude.{need, weight, Keeps}
 use Rattle.il_ast.proofs.Passing.{passes_stay}
 use Rattle.vcode.specs.declared.function.LFunc.{LFunc}
-use Rattle.vcode.specs.Coded.{virtual_code, location_code}
-use Rattle.vcode.specs.Outgoing.{frame_bound}
-use Rattle.vcode.specs.Regular.{code_weight}
+use Rattle.vcode.specs.Prelude.{virtual_code, location_code, frame_bound, code_weight}
 use Rattle.qbec.proofs.pipeline.spilled.Goals as goal
 
 pub returns-clause-is : goal.returns-clause-is

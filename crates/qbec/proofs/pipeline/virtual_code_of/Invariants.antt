@@ -1,4 +1,4 @@
-use Rattle.vcode.specs.Coded.{virtual_code}
+use Rattle.vcode.specs.Prelude.{virtual_code}
 use Rattle.qbec.specs.Pipeline.{IsCodeWith}
 use Rattle.qbec.proofs.pipeline.virtual_code_of.Given as goal
 

@@ -1,5 +1,5 @@
 use Rattle.std.proofs.lemmas.Result.{IfOk-weaker}
-use Rattle.vcode.specs.Coded.{virtual_code}
+use Rattle.vcode.specs.Prelude.{virtual_code}
 use Rattle.inlining.specs.Placed.{KeepsCalls}
 use Rattle.qbec.specs.Pipeline.{IsCodeWith}
 use Rattle.qbec.proofs.Placing.{placed_is}

@@ -1,5 +1,5 @@
 use Rattle.std.proofs.Common.{sym, ◌∙◌, subst, ap}
-use Rattle.il_types.specs.Rules.{IsGood}
+use Rattle.il_types.specs.Prelude.{IsGood}
 use Rattle.qbec.specs.declared.error.CompileError.{CompileError}
 use Rattle.qbec.specs.Reasons.{RefusesText, read_refusal, check_refusal}
 use Rattle.qbec.proofs.TextLemmas.{read_says, check_says}

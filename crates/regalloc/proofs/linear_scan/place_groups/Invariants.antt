@@ -1,6 +1,6 @@
 use Rattle.std.proofs.Common.{◌≡◌, true, length}
 use Rattle.std.specs.List.{list_all}
-use Rattle.vcode.specs.Named.{is_place}
+use Rattle.vcode.specs.Prelude.{is_place}
 use Rattle.regalloc.proofs.linear_scan.place_groups.Given as goal
 
 abbrev pub invariant-loop-candidate : goal.invariant-loop-candidate

@@ -1,4 +1,4 @@
-use Rattle.vcode.specs.Named.{is_place}
+use Rattle.vcode.specs.Prelude.{is_place}
 use Rattle.regalloc.proofs.Standing.{all_with}
 use Rattle.regalloc.proofs.linear_scan.set.Goals as goal
 

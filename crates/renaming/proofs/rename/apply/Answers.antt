@@ -1,6 +1,6 @@
 use Rattle.std.proofs.Common.{◌≡◌, ℕ, ◌≤◌, true, List, IfSome, sym, subst, rules}
 use Rattle.vcode.specs.declared.code.Block.{Block}
-use Rattle.vcode.specs.Becomes.{Becomes}
+use Rattle.vcode.specs.Prelude.{Becomes}
 use Rattle.vcode.proofs.Results.{becomes}
 use Rattle.renaming.specs.Renamed.{Owners, total, AllRenamed, start_at, keep_names}
 use Rattle.renaming.specs.Named.{owners_of}

@@ -1,6 +1,6 @@
 -- The answer is that of the definition, whose law says for which word each instruction comes.
 use Rattle.std.proofs.Common.{◌≡◌, sym, ◌∙◌, Some, None}
-use Rattle.rv_isa.specs.Decoding.{instruction_of}
+use Rattle.rv_isa.specs.Prelude.{instruction_of}
 use Rattle.rv_isa.proofs.DecodingLaws.{decodes, not_decoded}
 use Rattle.rv_isa.proofs.decode.decode.Goals as goal
 

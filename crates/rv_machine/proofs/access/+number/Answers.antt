@@ -1,5 +1,5 @@
 use Rattle.std.proofs.Common.{◌≡◌, ℕ, ◌+◌, ◌-◌, ◌*◌, ◌<◌, ◌^◌, Bool, true, arith, rules, sym, ◌∙◌, ap}
-use Rattle.rv_isa.specs.Memory.{each_of, number_at}
+use Rattle.rv_isa.specs.Prelude.{each_of, number_at}
 use Rattle.rv_machine.specs.Mapped.{is_mapped}
 use Rattle.rv_machine.proofs.Spans.{each_parts, number_first, number_one, fits_more}
 use Rattle.rv_machine.proofs.access.+number.Goals as goal

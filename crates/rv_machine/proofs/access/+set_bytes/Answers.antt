@@ -1,6 +1,5 @@
 use Rattle.std.proofs.Common.{◌≡◌, ℕ, ◌+◌, ◌-◌, ◌%◌, Bool, true, rules, sym, ◌∙◌, ap}
-use Rattle.rv_isa.specs.Memory.{each_of}
-use Rattle.rv_isa.specs.State.{updated}
+use Rattle.rv_isa.specs.Prelude.{each_of, updated}
 use Rattle.rv_isa.specs.declared.permission.Permission.{Permission}
 use Rattle.rv_machine.specs.Mapped.{is_mapped}
 use Rattle.rv_machine.proofs.Spans.{each_parts, stored_first, stored_one}

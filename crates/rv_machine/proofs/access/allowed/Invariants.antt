@@ -1,5 +1,5 @@
 use Rattle.std.proofs.Common.{◌≡◌, ◌+◌, ◌-◌, ℕ, Bool}
-use Rattle.rv_isa.specs.Memory.{each_of}
+use Rattle.rv_isa.specs.Prelude.{each_of}
 use Rattle.rv_machine.specs.Access.{permits}
 use Rattle.rv_machine.proofs.access.allowed.Given as goal
 

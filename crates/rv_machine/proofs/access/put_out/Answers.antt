@@ -1,6 +1,6 @@
 use Rattle.std.proofs.Common.{◌≡◌, ℕ, ◌+◌, Bool, true, arith, sym, ◌∙◌, ap, ◌++◌, ◌∷◌, [], append-nil, is_ok, not}
 use Rattle.std.proofs.lemmas.Grind.{common_steps}
-use Rattle.rv_isa.specs.Memory.{bytes_at}
+use Rattle.rv_isa.specs.Prelude.{bytes_at}
 use Rattle.rv_isa.proofs.MemoryLemmas.{each_at}
 use Rattle.rv_machine.specs.Mapped.{is_mapped}
 use Rattle.rv_machine.proofs.Spans.{output_goes_on}

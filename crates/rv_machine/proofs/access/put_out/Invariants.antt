@@ -1,5 +1,5 @@
 use Rattle.std.proofs.Common.{◌≡◌, ◌++◌}
-use Rattle.rv_isa.specs.Memory.{bytes_at}
+use Rattle.rv_isa.specs.Prelude.{bytes_at}
 use Rattle.rv_machine.proofs.access.put_out.Given as goal
 
 abbrev pub invariant-loop-k : goal.invariant-loop-k

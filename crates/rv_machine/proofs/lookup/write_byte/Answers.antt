@@ -1,5 +1,5 @@
 use Rattle.std.proofs.Common.{ap, ◌∙◌}
-use Rattle.rv_isa.specs.Memory.{stored}
+use Rattle.rv_isa.specs.Prelude.{stored}
 use Rattle.rv_machine.specs.Regions.{region_byte}
 use Rattle.rv_machine.proofs.WholeLemmas.{stored-byte}
 use Rattle.rv_machine.proofs.lookup.write_byte.Goals as goal

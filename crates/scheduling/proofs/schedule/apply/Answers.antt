@@ -1,12 +1,9 @@
 use Rattle.std.proofs.Common.{sym, ◌∙◌, ap, subst, IsTrue, nat_le}
 use Rattle.il_ast.specs.declared.limits.TheConstants.{FUNCTION_WEIGHT}
-use Rattle.il_ast.specs.Passes.{Keeps}
+use Rattle.il_ast.specs.Prelude.{Keeps}
 use Rattle.vcode.specs.declared.place.Location.{Location}
 use Rattle.vcode.specs.declared.code.Code.{Code}
-use Rattle.vcode.specs.Coded.{coded, location_code}
-use Rattle.vcode.specs.Named.{keeps_places, is_place, are_near, are_distinct}
-use Rattle.vcode.specs.Places.{located}
-use Rattle.vcode.specs.Regular.{IsRegular, code_weight}
+use Rattle.vcode.specs.Prelude.{coded, location_code, keeps_places, is_place, are_near, are_distinct, located, IsRegular, code_weight}
 use Rattle.scheduling.proofs.Keeping.{scheduled_keeps}
 use Rattle.scheduling.proofs.Measuring.{scheduled_weighs, scheduled_names, scheduled_regular}
 use Rattle.scheduling.proofs.schedule.apply.Goals as goal

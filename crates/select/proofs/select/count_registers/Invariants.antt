@@ -1,6 +1,6 @@
 use Rattle.std.proofs.Common.{◌≡◌, ◌+◌, length, drop, sum_by}
 use Rattle.il_ast.specs.declared.block.Block.{Block}
-use Rattle.il_ast.specs.Cost.{phi_count}
+use Rattle.il_ast.specs.Prelude.{phi_count}
 use Rattle.select.proofs.select.count_registers.Given as goal
 
 abbrev pub invariant-loop-block : goal.invariant-loop-block

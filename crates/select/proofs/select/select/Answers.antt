@@ -1,14 +1,10 @@
 use Rattle.std.proofs.Common.{ℕ, ◌+◌, ◌≤◌, length, sym, ◌∙◌, ap, subst, arith, le-leb}
 use Rattle.il_ast.specs.declared.limits.TheConstants.{FUNCTION_WEIGHT}
-use Rattle.il_ast.specs.Cost.{phi_count, need, weight}
+use Rattle.il_ast.specs.Prelude.{phi_count, need, weight, IsCodeOf}
 use Rattle.phi_copies.specs.Endings.{Endings}
 use Rattle.phi_copies.proofs.Counting.{is_small}
-use Rattle.il_ast.specs.Passes.{IsCodeOf}
 use Rattle.vcode.specs.declared.code.Code.{Code}
-use Rattle.vcode.specs.Coded.{coded}
-use Rattle.vcode.specs.Outgoing.{frame_bound}
-use Rattle.vcode.specs.Places.{virtual}
-use Rattle.vcode.specs.Regular.{code_weight}
+use Rattle.vcode.specs.Prelude.{coded, frame_bound, virtual, code_weight}
 use Rattle.select.specs.Classes.{classes_in}
 use Rattle.select.specs.Invariants.{IsVirtual}
 use Rattle.select.proofs.Narrowing.{small, light, is_selected_by}

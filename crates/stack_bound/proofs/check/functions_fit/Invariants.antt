@@ -1,6 +1,5 @@
 use Rattle.std.proofs.Common.{◌≡◌, drop, map}
-use Rattle.obj_link.specs.ProgramOf.{program}
-use Rattle.obj_link.specs.Shown.{shown}
+use Rattle.obj_link.specs.Prelude.{program, shown}
 use Rattle.stack_bound.specs.Bounds.{functions_fit}
 use Rattle.stack_bound.proofs.check.functions_fit.Given as goal
 

@@ -1,7 +1,6 @@
 use Rattle.std.proofs.Common.{◌≡◌, drop, map}
 use Rattle.std.specs.List.{list_all}
-use Rattle.obj_link.specs.ProgramOf.{program}
-use Rattle.obj_link.specs.Shown.{shown}
+use Rattle.obj_link.specs.Prelude.{program, shown}
 use Rattle.stack_bound.specs.Bounds.{object_fits}
 use Rattle.stack_bound.proofs.data.objects_fit.Given as goal
 

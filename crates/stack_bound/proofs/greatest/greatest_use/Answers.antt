@@ -1,4 +1,4 @@
-use Rattle.obj_link.specs.ProgramOf.{program}
+use Rattle.obj_link.specs.Prelude.{program}
 use Rattle.stack_bound.proofs.MainBound.{main_enough, main_stays}
 use Rattle.stack_bound.proofs.greatest.greatest_use.Goals as goal
 

@@ -1,5 +1,5 @@
 use Rattle.std.proofs.Common.{◌+◌, drop, sym, ap, ◌∙◌, arith}
-use Rattle.vcode.specs.Cost.{affords}
+use Rattle.vcode.specs.Prelude.{affords}
 use Rattle.vcode.proofs.Lists.{item_next}
 use Rattle.vcode.proofs.Affording.{after_line, not_after}
 use Rattle.vcode.proofs.cost.affords.Goals as goal

@@ -1,5 +1,5 @@
 use Rattle.std.proofs.Common.{◌≡◌, ◌≤◌, ◌*◌, drop}
-use Rattle.vcode.specs.Cost.{affords}
+use Rattle.vcode.specs.Prelude.{affords}
 use Rattle.vcode.proofs.cost.affords.Given as goal
 
 abbrev pub invariant-loop-line : goal.invariant-loop-line

@@ -1,5 +1,5 @@
 use Rattle.il_ast.proofs.Passing.{keeps_compose}
-use Rattle.vcode.specs.Coded.{virtual_code}
+use Rattle.vcode.specs.Prelude.{virtual_code}
 use Rattle.vcode.proofs.laws.passes_compose.Goals as goal
 
 pub returns : goal.returns

@@ -1,5 +1,5 @@
 use Rattle.il_ast.proofs.Passing.{passes_stay}
-use Rattle.vcode.specs.Coded.{virtual_code, location_code}
+use Rattle.vcode.specs.Prelude.{virtual_code, location_code}
 use Rattle.vcode.proofs.laws.placing_stays.Goals as goal
 
 pub returns : goal.returns

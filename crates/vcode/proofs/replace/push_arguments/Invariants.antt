@@ -1,5 +1,5 @@
 use Rattle.std.proofs.Common.{◌≡◌, ◌++◌, map, drop}
-use Rattle.vcode.specs.Replaced.{with_argument}
+use Rattle.vcode.specs.Prelude.{with_argument}
 use Rattle.vcode.proofs.replace.push_arguments.Given as goal
 
 abbrev pub invariant-loop-arg : goal.invariant-loop-arg

@@ -1,5 +1,5 @@
 use Rattle.std.proofs.Common.{ap, ◌∙◌, arith}
-use Rattle.alloc_check.specs.Owners.{nobody, known, standing}
+use Rattle.alloc_check.specs.Prelude.{nobody, known, standing}
 use Rattle.alloc_check.proofs.Starting.{known_low}
 use Rattle.alloc_check.proofs.first.First.new.Goals as goal
 

@@ -1,7 +1,6 @@
 use Rattle.std.proofs.Common.{◌≡◌, ◌&&◌, nat_lt, true, arith, ap, sym, ◌∙◌, Some}
 use Rattle.std.proofs.lemmas.Bool.Decides.{nat_tests}
-use Rattle.alloc_check.specs.Owners.{Owners, where_held, own_also}
-use Rattle.alloc_check.specs.OwnerTable.{in_table, own_of}
+use Rattle.alloc_check.specs.Prelude.{Owners, where_held, own_also, in_table, own_of}
 use Rattle.alloc_check.proofs.Holding.{also_owns, stays_table}
 use Rattle.alloc_check.proofs.table.OwnerTable.also.Goals as goal
 

@@ -5,7 +5,7 @@ use Rattle.vcode.specs.declared.place.Location.{Location}
 use Rattle.vcode.specs.declared.place.Location.TheVariants.{Register, Slot}
 use Rattle.alloc_check.specs.declared.table.Held.{Held}
 use Rattle.alloc_check.specs.declared.table.OwnerTable.{OwnerTable}
-use Rattle.alloc_check.specs.OwnerTable.{item, cell_at, forgets, Forgotten}
+use Rattle.alloc_check.specs.Prelude.{item, cell_at, forgets, Forgotten}
 use Rattle.alloc_check.proofs.Holding.{call_keeps, call_cells}
 use Rattle.alloc_check.proofs.table.OwnerTable.call.Goals as goal
 

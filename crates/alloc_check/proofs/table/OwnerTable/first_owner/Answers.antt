@@ -1,5 +1,5 @@
 use Rattle.std.proofs.Common.{ap, ◌∙◌}
-use Rattle.alloc_check.specs.Owners.{Owners}
+use Rattle.alloc_check.specs.Prelude.{Owners}
 use Rattle.alloc_check.proofs.table.OwnerTable.first_owner.Goals as goal
 
 pub returns : goal.returns

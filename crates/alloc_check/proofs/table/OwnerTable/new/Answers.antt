@@ -2,7 +2,7 @@ use Rattle.std.proofs.Common.{refl, ◌≡◌, None}
 use Rattle.vcode.specs.declared.place.Location.{Location}
 use Rattle.vcode.specs.declared.place.Location.TheVariants.{Register, Slot}
 use Rattle.alloc_check.specs.declared.table.OwnerTable.{OwnerTable}
-use Rattle.alloc_check.specs.OwnerTable.{cell_at}
+use Rattle.alloc_check.specs.Prelude.{cell_at}
 use Rattle.alloc_check.proofs.Holding.{new_known}
 use Rattle.alloc_check.proofs.table.OwnerTable.new.Goals as goal
 

@@ -1,8 +1,7 @@
 use Rattle.std.proofs.Common.{◌≡◌, ◌+◌, slice_get, ◌&&◌, true, nat_lt, arith, ap, sym, ◌∙◌, Some, length, subst, length-set}
 use Rattle.std.proofs.lemmas.Bool.Decides.{nat_tests}
 use Rattle.alloc_check.specs.declared.first.First.{First}
-use Rattle.alloc_check.specs.Owners.{Owners, where_held, own_put}
-use Rattle.alloc_check.specs.OwnerTable.{in_table, own_of, IsFirst}
+use Rattle.alloc_check.specs.Prelude.{Owners, where_held, own_put, in_table, own_of, IsFirst}
 use Rattle.alloc_check.proofs.Holding.{put_owns, later_cells, later_writes}
 use Rattle.alloc_check.proofs.table.OwnerTable.put.Goals as goal
 

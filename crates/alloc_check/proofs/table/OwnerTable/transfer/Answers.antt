@@ -1,7 +1,6 @@
 use Rattle.std.proofs.Common.{◌≡◌, ℕ, true, arith, ap, subst, sym, ◌∙◌, Some, Option}
 use Rattle.alloc_check.specs.declared.table.OwnerTable.{OwnerTable}
-use Rattle.alloc_check.specs.Owners.{Owners, where_held, own_move}
-use Rattle.alloc_check.specs.OwnerTable.{in_table, own_of, Rewrites}
+use Rattle.alloc_check.specs.Prelude.{Owners, where_held, own_move, in_table, own_of, Rewrites}
 use Rattle.alloc_check.proofs.Holding.{move_owns, stays_table}
 use Rattle.alloc_check.proofs.table.OwnerTable.transfer.Goals as goal
 

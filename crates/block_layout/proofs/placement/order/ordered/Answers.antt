@@ -1,6 +1,6 @@
 use Rattle.std.proofs.Common.{ℕ, List, map, ◌∙◌, ap}
 use Rattle.vcode.specs.declared.code.Block.{Block}
-use Rattle.vcode.specs.Becomes.{with_these}
+use Rattle.vcode.specs.Prelude.{with_these}
 use Rattle.vcode.proofs.Results.{becomes_these}
 use Rattle.block_layout.specs.Ordered.{block_at, placed, in_order}
 use Rattle.block_layout.proofs.KeepingOrder.{holds, owed}

@@ -1,6 +1,6 @@
 use Rattle.std.proofs.Common.{ℕ, List, sym, subst}
 use Rattle.vcode.specs.declared.code.Block.{Block}
-use Rattle.vcode.specs.Becomes.{Becomes}
+use Rattle.vcode.specs.Prelude.{Becomes}
 use Rattle.block_layout.proofs.KeepingLonger.{becomes_longer}
 use Rattle.block_layout.proofs.tails.copy.with_these.Goals as goal
 

@@ -1,5 +1,5 @@
 use Rattle.il_ast.proofs.Passing.{keeps_compose}
-use Rattle.vcode.specs.Coded.{virtual_code}
+use Rattle.vcode.specs.Prelude.{virtual_code}
 use Rattle.code_motion.proofs.later.put_off.put_off_sums.Goals as goal
 
 pub loop-round-init : goal.loop-round-init

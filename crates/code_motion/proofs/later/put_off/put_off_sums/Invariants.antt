@@ -1,5 +1,5 @@
-use Rattle.il_ast.specs.Passes.{Keeps}
-use Rattle.vcode.specs.Coded.{virtual_code}
+use Rattle.il_ast.specs.Prelude.{Keeps}
+use Rattle.vcode.specs.Prelude.{virtual_code}
 use Rattle.code_motion.proofs.later.put_off.put_off_sums.Given as goal
 
 abbrev pub invariant-loop-round : goal.invariant-loop-round

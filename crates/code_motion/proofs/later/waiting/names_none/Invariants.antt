@@ -1,7 +1,7 @@
 use Rattle.std.proofs.Common.{◌≡◌, ℕ, drop}
 use Rattle.std.specs.List.{list_all}
 use Rattle.vcode.specs.declared.place.Argument.{Argument}
-use Rattle.vcode.specs.Named.{operand_keeps}
+use Rattle.vcode.specs.Prelude.{operand_keeps}
 use Rattle.code_motion.specs.Later.{differs}
 use Rattle.code_motion.proofs.later.waiting.names_none.Given as goal
 

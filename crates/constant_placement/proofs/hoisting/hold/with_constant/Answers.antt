@@ -1,7 +1,7 @@
 use Rattle.std.proofs.Common.{◌≡◌, ◌∙◌, ◌&&◌, Bool, true, false, refl, sym, ap, nat_lt}
 use Rattle.std.specs.List.{list_all}
 use Rattle.std.proofs.lemmas.Bool.{and_parts, and_from}
-use Rattle.vcode.specs.Cost.{is_paid}
+use Rattle.vcode.specs.Prelude.{is_paid}
 use Rattle.constant_placement.specs.Held.{with_blocks, is_safe}
 use Rattle.constant_placement.proofs.hoisting.hold.with_constant.Goals as goal
 

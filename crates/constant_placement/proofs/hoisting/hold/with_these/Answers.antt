@@ -1,7 +1,6 @@
 use Rattle.std.proofs.Common.{◌≡◌, true, sym, ◌∙◌, ap}
 use Rattle.std.specs.List.{list_all}
-use Rattle.vcode.specs.Cost.{is_paid}
-use Rattle.vcode.specs.Becomes.{with_these}
+use Rattle.vcode.specs.Prelude.{is_paid, with_these}
 use Rattle.vcode.proofs.Results.{becomes_these}
 use Rattle.constant_placement.specs.Held.{with_blocks}
 use Rattle.constant_placement.proofs.KeepingHeld.{owed}

@@ -1,5 +1,5 @@
 use Rattle.std.proofs.Common.{◌≡◌, ◌++◌, map, drop}
-use Rattle.vcode.specs.Replaced.{with_line}
+use Rattle.vcode.specs.Prelude.{with_line}
 use Rattle.constant_placement.specs.Held.{replaced}
 use Rattle.constant_placement.proofs.hoisting.replace.push_lines.Given as goal
 

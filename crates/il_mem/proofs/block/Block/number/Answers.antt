@@ -1,5 +1,5 @@
 use Rattle.std.proofs.Common.{◌≡◌, ◌+◌, ◌≤◌, length, refl, arith}
-use Rattle.il_ast.specs.Values.{byte_count}
+use Rattle.il_ast.specs.Prelude.{byte_count}
 use Rattle.il_mem.specs.Joined.{joined}
 use Rattle.il_mem.proofs.JoinedLemmas.{length-joined}
 use Rattle.il_mem.proofs.OverlaidLemmas.{as_many, number_read}

@@ -1,5 +1,5 @@
 use Rattle.std.proofs.Common.{◌≡◌, ◌+◌, ◌≤◌, length, refl, arith}
-use Rattle.il_ast.specs.Values.{byte_count}
+use Rattle.il_ast.specs.Prelude.{byte_count}
 use Rattle.il_mem.proofs.OverlaidLemmas.{as_many, numbered}
 use Rattle.il_mem.proofs.block.Block.set_number.Goals as goal
 

@@ -1,5 +1,5 @@
 use Rattle.std.proofs.Common.{subst, length-set, slice_set}
-use Rattle.il_ast.specs.Memory.{Memory}
+use Rattle.il_ast.specs.Prelude.{Memory}
 use Rattle.il_mem.specs.Blocks.{blocks}
 use Rattle.il_mem.specs.Changed.{within_put}
 use Rattle.il_mem.specs.Found.{found}

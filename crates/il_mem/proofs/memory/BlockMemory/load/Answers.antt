@@ -1,5 +1,5 @@
 use Rattle.std.proofs.Common.{◌∙◌, sym, ap, option_and_then}
-use Rattle.il_ast.specs.Memory.{cells_at, value_of}
+use Rattle.il_ast.specs.Prelude.{cells_at, value_of}
 use Rattle.il_mem.proofs.Accesses.{load_at, load_nowhere}
 use Rattle.il_mem.proofs.memory.BlockMemory.load.Goals as goal
 

@@ -1,5 +1,5 @@
 use Rattle.std.proofs.lemmas.Option.{IfSome_then}
-use Rattle.il_ast.specs.Values.{byte_count}
+use Rattle.il_ast.specs.Prelude.{byte_count}
 use Rattle.il_mem.proofs.Accesses.{load_here}
 use Rattle.il_mem.proofs.memory.BlockMemory.load_number.Goals as goal
 

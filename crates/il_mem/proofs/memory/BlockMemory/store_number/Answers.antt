@@ -1,4 +1,4 @@
-use Rattle.il_ast.specs.Values.{byte_count}
+use Rattle.il_ast.specs.Prelude.{byte_count}
 use Rattle.il_mem.proofs.Accesses.{store_here}
 use Rattle.il_mem.proofs.memory.BlockMemory.store_number.Goals as goal
 

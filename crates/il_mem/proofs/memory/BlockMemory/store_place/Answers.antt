@@ -1,6 +1,5 @@
 use Rattle.std.proofs.Common.{subst, length-set, slice_set, option_and_then}
-use Rattle.il_ast.specs.Values.{byte_count}
-use Rattle.il_ast.specs.Memory.{Memory, write_at, cells_for}
+use Rattle.il_ast.specs.Prelude.{byte_count, Memory, write_at, cells_for}
 use Rattle.il_mem.specs.Blocks.{blocks}
 use Rattle.il_mem.specs.Changed.{value_put}
 use Rattle.il_mem.specs.Found.{found}

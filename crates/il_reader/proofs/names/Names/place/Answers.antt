@@ -1,6 +1,5 @@
 use Rattle.std.proofs.Common.{ap, ◌∙◌, map}
-use Rattle.il_reader.specs.State.{place, with_name}
-use Rattle.il_reader.specs.Keys.{key_bytes}
+use Rattle.il_reader.specs.Prelude.{place, with_name, key_bytes}
 use Rattle.il_reader.proofs.Interning.{place_is, with_name_is, found_stays}
 use Rattle.il_reader.proofs.names.Names.place.Goals as goal
 

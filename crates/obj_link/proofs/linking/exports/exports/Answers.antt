@@ -1,7 +1,6 @@
 use Rattle.std.proofs.Common.{◌≡◌, ◌++◌, ◌∷◌, [], ◌∙◌, ap, sym, take, ◌+◌}
 use Rattle.std.proofs.lemmas.List.{take_more, take_all}
-use Rattle.obj_link.specs.Names.{symbol_name, times_exported, visible}
-use Rattle.obj_link.specs.Tables.{seen}
+use Rattle.obj_link.specs.Prelude.{symbol_name, times_exported, visible, seen}
 use Rattle.obj_link.specs.declared.linking.names.GlobalName.{GlobalName}
 use Rattle.obj_link.proofs.ExportLemmas.{once_few, tabled_none, tabled_hidden, tabled_declared, exported_again}
 use Rattle.obj_link.proofs.linking.exports.exports.Goals as goal

@@ -1,5 +1,5 @@
 use Rattle.std.proofs.Common.{take}
-use Rattle.obj_link.specs.Tables.{seen}
+use Rattle.obj_link.specs.Prelude.{seen}
 use Rattle.obj_link.proofs.ExportLemmas.{Tabled}
 use Rattle.obj_link.proofs.linking.exports.exports.Given as goal
 

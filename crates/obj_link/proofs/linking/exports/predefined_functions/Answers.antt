@@ -1,6 +1,6 @@
 use Rattle.std.proofs.Common.{ap, bytes_eq}
 use Rattle.std.specs.Map.{lookup}
-use Rattle.obj_link.specs.Tables.{seen}
+use Rattle.obj_link.specs.Prelude.{seen}
 use Rattle.obj_link.proofs.ExportLemmas.{predefined_seen}
 use Rattle.obj_link.proofs.linking.exports.predefined_functions.Goals as goal
 

@@ -1,6 +1,6 @@
 use Rattle.std.proofs.Common.{ℕ, List, [], ap, sym, ◌∙◌, Some, slice_index_or}
 use Rattle.std.proofs.lemmas.Option.{slice_get-get_or, slice_get_past}
-use Rattle.obj_link.specs.Names.{symbol_in}
+use Rattle.obj_link.specs.Prelude.{symbol_in}
 use Rattle.obj_link.proofs.linking.exports.symbol_name.Goals as goal
 
 pub returns-in-Some : goal.returns-in-Some

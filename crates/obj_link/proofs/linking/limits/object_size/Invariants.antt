@@ -1,6 +1,6 @@
 use Rattle.std.proofs.Common.{◌≡◌, take, sum_by}
-use Rattle.il_types.specs.Capped.{capped}
-use Rattle.obj_link.specs.Limits.{field_size}
+use Rattle.il_types.specs.Prelude.{capped}
+use Rattle.obj_link.specs.Prelude.{field_size}
 use Rattle.obj_link.proofs.linking.limits.object_size.Given as goal
 
 abbrev pub invariant-loop-field : goal.invariant-loop-field

@@ -1,7 +1,6 @@
 use Rattle.std.proofs.Common.{◌≡◌, take, map}
-use Rattle.il_types.specs.Capped.{capped}
-use Rattle.obj_link.specs.Shown.{shown}
-use Rattle.obj_link.specs.Limits.{total_size}
+use Rattle.il_types.specs.Prelude.{capped}
+use Rattle.obj_link.specs.Prelude.{shown, total_size}
 use Rattle.obj_link.proofs.linking.limits.total_size.Given as goal
 
 abbrev pub invariant-loop-object : goal.invariant-loop-object

@@ -1,7 +1,6 @@
 use Rattle.std.proofs.Common.{◌≡◌, take, map}
-use Rattle.il_types.specs.Capped.{capped}
-use Rattle.obj_link.specs.Shown.{shown}
-use Rattle.obj_link.specs.Limits.{total_weight}
+use Rattle.il_types.specs.Prelude.{capped}
+use Rattle.obj_link.specs.Prelude.{shown, total_weight}
 use Rattle.obj_link.proofs.linking.limits.total_weight.Given as goal
 
 abbrev pub invariant-loop-function : goal.invariant-loop-function

@@ -1,6 +1,6 @@
 use Rattle.std.proofs.Common.{ap, sym, ◌∙◌, Some, arith, option_map}
 use Rattle.std.proofs.lemmas.Option.{slice_get-get_or, slice_get_past, slice_get-map}
-use Rattle.obj_link.specs.Shown.{shown}
+use Rattle.obj_link.specs.Prelude.{shown}
 use Rattle.obj_link.proofs.linking.main_function.main_in.Goals as goal
 
 pub returns-then-is_main : goal.returns-then-is_main

@@ -1,6 +1,5 @@
 use Rattle.std.proofs.Common.{◌≡◌, ◌++◌, map, take, flat_map}
-use Rattle.obj_link.specs.Shown.{shown}
-use Rattle.obj_link.specs.Names.{function_in}
+use Rattle.obj_link.specs.Prelude.{shown, function_in}
 use Rattle.obj_link.proofs.linking.names.collect_functions.Given as goal
 
 abbrev pub invariant-loop-definition : goal.invariant-loop-definition

@@ -1,6 +1,5 @@
 use Rattle.std.proofs.Common.{◌≡◌, ◌++◌, map, take, flat_map}
-use Rattle.obj_link.specs.Shown.{shown}
-use Rattle.obj_link.specs.Names.{object_in}
+use Rattle.obj_link.specs.Prelude.{shown, object_in}
 use Rattle.obj_link.proofs.linking.names.collect_objects.Given as goal
 
 abbrev pub invariant-loop-definition : goal.invariant-loop-definition

@@ -1,7 +1,6 @@
 use Rattle.std.proofs.Common.{map, arith}
 use Rattle.std.proofs.lemmas.Grind.{common_steps}
-use Rattle.obj_link.specs.Shown.{shown}
-use Rattle.obj_link.specs.Names.{functions_from}
+use Rattle.obj_link.specs.Prelude.{shown, functions_from}
 use Rattle.obj_link.proofs.NameLemmas.{functions_on}
 use Rattle.obj_link.proofs.linking.names.functions.Goals as goal
 

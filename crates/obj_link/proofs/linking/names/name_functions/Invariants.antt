@@ -1,6 +1,5 @@
 use Rattle.std.proofs.Common.{◌≡◌, ◌++◌, map, drop}
-use Rattle.obj_link.specs.Shown.{shown}
-use Rattle.obj_link.specs.Names.{names_of_functions}
+use Rattle.obj_link.specs.Prelude.{shown, names_of_functions}
 use Rattle.obj_link.proofs.linking.names.name_functions.Given as goal
 
 abbrev pub invariant-loop-number : goal.invariant-loop-number

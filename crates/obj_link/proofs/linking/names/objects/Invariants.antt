@@ -1,6 +1,5 @@
 use Rattle.std.proofs.Common.{◌≡◌, ◌++◌, map, drop}
-use Rattle.obj_link.specs.Shown.{shown}
-use Rattle.obj_link.specs.Names.{objects_from}
+use Rattle.obj_link.specs.Prelude.{shown, objects_from}
 use Rattle.obj_link.proofs.linking.names.objects.Given as goal
 
 abbrev pub invariant-loop-number : goal.invariant-loop-number

@@ -1,8 +1,6 @@
 use Rattle.std.proofs.Common.{sym, ◌∙◌, ap, codes, Some}
 use Rattle.std.specs.Option.{option_or}
-use Rattle.obj_link.specs.Names.{own}
-use Rattle.obj_link.specs.Tables.{seen, meaning_in}
-use Rattle.obj_link.specs.Joined.{meaning_by}
+use Rattle.obj_link.specs.Prelude.{own, seen, meaning_in, meaning_by}
 use Rattle.obj_link.proofs.ProgramLemmas.{targets_same}
 use Rattle.obj_link.proofs.linking.resolve.join.Goals as goal
 

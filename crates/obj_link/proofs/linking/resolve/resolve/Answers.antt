@@ -1,5 +1,5 @@
 use Rattle.obj_link.proofs.ProgramLemmas.{refuted, one_program}
-use Rattle.obj_link.specs.ProgramOf.{program}
+use Rattle.obj_link.specs.Prelude.{program}
 use Rattle.obj_link.proofs.linking.resolve.resolve.Goals as goal
 
 pub returns-in-Ok-clause-only : goal.returns-in-Ok-clause-only

@@ -1,5 +1,5 @@
 use Rattle.std.proofs.Common.{◌≡◌, false, is_some}
-use Rattle.obj_link.specs.Tables.{held}
+use Rattle.obj_link.specs.Prelude.{held}
 use Rattle.obj_link.proofs.OwnLemmas.{defined_at, none_where_absent}
 use Rattle.obj_link.proofs.linking.tables.define.Goals as goal
 

@@ -1,6 +1,5 @@
 use Rattle.std.proofs.Common.{◌≡◌, ℕ, take}
-use Rattle.obj_link.specs.Names.{own}
-use Rattle.obj_link.specs.Tables.{held}
+use Rattle.obj_link.specs.Prelude.{own, held}
 use Rattle.obj_link.proofs.linking.tables.owned.Given as goal
 
 abbrev pub invariant-loop-global : goal.invariant-loop-global

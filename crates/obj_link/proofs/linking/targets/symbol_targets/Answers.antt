@@ -1,6 +1,6 @@
 use Rattle.std.proofs.Common.{◌∙◌, ap, sym, arith}
 use Rattle.std.proofs.lemmas.Grind.{common_steps}
-use Rattle.obj_link.specs.Tables.{meaning_in}
+use Rattle.obj_link.specs.Prelude.{meaning_in}
 use Rattle.obj_link.proofs.TargetLemmas.{symbols_further, unknown_at}
 use Rattle.obj_link.proofs.linking.targets.symbol_targets.Goals as goal
 

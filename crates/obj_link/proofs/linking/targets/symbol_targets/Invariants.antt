@@ -1,6 +1,5 @@
 use Rattle.std.proofs.Common.{◌≡◌, drop}
-use Rattle.obj_link.specs.Names.{symbols_by}
-use Rattle.obj_link.specs.Tables.{meaning_in}
+use Rattle.obj_link.specs.Prelude.{symbols_by, meaning_in}
 use Rattle.obj_link.proofs.TargetLemmas.{found_then}
 use Rattle.obj_link.proofs.linking.targets.symbol_targets.Given as goal
 

@@ -1,8 +1,6 @@
 use Rattle.std.proofs.Common.{◌∙◌, ap, sym, subst, arith}
 use Rattle.std.proofs.lemmas.Grind.{common_steps}
-use Rattle.obj_link.specs.Tables.{meaning_in}
-use Rattle.obj_link.specs.Names.{symbols_by}
-use Rattle.obj_link.specs.Refusals.{RefusesSymbols}
+use Rattle.obj_link.specs.Prelude.{meaning_in, symbols_by, RefusesSymbols}
 use Rattle.obj_link.proofs.TargetLemmas.{texts_further, refused_in}
 use Rattle.obj_link.proofs.linking.targets.targets.Goals as goal
 

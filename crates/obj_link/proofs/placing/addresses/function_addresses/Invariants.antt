@@ -1,5 +1,5 @@
 use Rattle.std.proofs.Common.{◌≡◌, ◌++◌, drop}
-use Rattle.obj_link.specs.Placed.{function_addresses, functions_end}
+use Rattle.obj_link.specs.Prelude.{function_addresses, functions_end}
 use Rattle.obj_link.proofs.placing.addresses.function_addresses.Given as goal
 
 abbrev pub invariant-loop-code : goal.invariant-loop-code

@@ -1,5 +1,5 @@
 use Rattle.std.proofs.Common.{◌≡◌, drop}
-use Rattle.obj_link.specs.Placed.{functions_end, EveryCode}
+use Rattle.obj_link.specs.Prelude.{functions_end, EveryCode}
 use Rattle.obj_link.proofs.placing.addresses.functions_end.Given as goal
 
 abbrev pub invariant-loop-code : goal.invariant-loop-code

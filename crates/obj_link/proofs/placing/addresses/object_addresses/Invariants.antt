@@ -1,7 +1,5 @@
 use Rattle.std.proofs.Common.{◌≡◌, ◌++◌, drop, map}
-use Rattle.obj_link.specs.Shown.{shown}
-use Rattle.obj_link.specs.Placed.{objects_end}
-use Rattle.obj_link.specs.ImageOf.{object_addresses}
+use Rattle.obj_link.specs.Prelude.{shown, objects_end, object_addresses}
 use Rattle.obj_link.proofs.placing.addresses.object_addresses.Given as goal
 
 abbrev pub invariant-loop-object : goal.invariant-loop-object

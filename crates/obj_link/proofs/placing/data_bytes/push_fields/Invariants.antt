@@ -1,5 +1,5 @@
 use Rattle.std.proofs.Common.{◌≡◌, ◌++◌, drop, flat_map}
-use Rattle.obj_link.specs.DataBytes.{field_bytes}
+use Rattle.obj_link.specs.Prelude.{field_bytes}
 use Rattle.obj_link.proofs.placing.data_bytes.push_fields.Given as goal
 
 abbrev pub invariant-loop-field : goal.invariant-loop-field

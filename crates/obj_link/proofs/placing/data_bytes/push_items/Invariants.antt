@@ -1,5 +1,5 @@
 use Rattle.std.proofs.Common.{◌≡◌, ◌++◌, drop, flat_map}
-use Rattle.obj_link.specs.DataBytes.{item_bytes}
+use Rattle.obj_link.specs.Prelude.{item_bytes}
 use Rattle.obj_link.proofs.placing.data_bytes.push_items.Given as goal
 
 abbrev pub invariant-loop-item : goal.invariant-loop-item

@@ -1,6 +1,5 @@
 use Rattle.std.proofs.Common.{◌≡◌, ◌++◌, drop, map, flat_map}
-use Rattle.obj_link.specs.Shown.{shown}
-use Rattle.obj_link.specs.DataBytes.{slot_bytes}
+use Rattle.obj_link.specs.Prelude.{shown, slot_bytes}
 use Rattle.obj_link.proofs.placing.data_bytes.push_objects.Given as goal
 
 abbrev pub invariant-loop-object : goal.invariant-loop-object

@@ -1,6 +1,6 @@
 use Rattle.std.proofs.Common.{◌≡◌, drop, length}
-use Rattle.rv_isa.specs.Laid.{filled}
-use Rattle.obj_link.specs.Placed.{name_address}
+use Rattle.rv_isa.specs.Prelude.{filled}
+use Rattle.obj_link.specs.Prelude.{name_address}
 use Rattle.obj_link.proofs.placing.fill.fill_all.Given as goal
 
 abbrev pub invariant-loop-hole : goal.invariant-loop-hole

@@ -1,4 +1,4 @@
-use Rattle.obj_link.specs.ProgramOf.{program}
+use Rattle.obj_link.specs.Prelude.{program}
 use Rattle.obj_link.proofs.ImageLemmas.{ends}
 use Rattle.obj_link.proofs.placing.place.code_of.Goals as goal
 

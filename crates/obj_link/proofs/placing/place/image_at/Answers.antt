@@ -1,7 +1,6 @@
 use Rattle.std.proofs.Common.{sym, ◌∙◌}
 use Rattle.std.proofs.lemmas.List.{length-map}
-use Rattle.obj_link.specs.ProgramOf.{program}
-use Rattle.obj_link.specs.Shown.{shown}
+use Rattle.obj_link.specs.Prelude.{program, shown}
 use Rattle.obj_link.proofs.ImageLemmas.{image_made, contents_made}
 use Rattle.obj_link.proofs.placing.place.image_at.Goals as goal
 

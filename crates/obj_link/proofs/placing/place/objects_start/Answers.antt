@@ -1,5 +1,5 @@
 use Rattle.std.proofs.Common.{arith}
-use Rattle.obj_link.specs.ProgramOf.{program}
+use Rattle.obj_link.specs.Prelude.{program}
 use Rattle.obj_link.proofs.ImageLemmas.{ends}
 use Rattle.obj_link.proofs.placing.place.objects_start.Goals as goal
 

@@ -1,6 +1,6 @@
 use Rattle.std.proofs.Common.{◌≡◌, drop}
-use Rattle.rv_isa.specs.Laid.{all_reach}
-use Rattle.obj_link.specs.Placed.{name_address}
+use Rattle.rv_isa.specs.Prelude.{all_reach}
+use Rattle.obj_link.specs.Prelude.{name_address}
 use Rattle.obj_link.proofs.placing.reach.all_reach.Given as goal
 
 abbrev pub invariant-loop-hole : goal.invariant-loop-hole

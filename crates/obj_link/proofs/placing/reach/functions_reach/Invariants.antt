@@ -1,6 +1,5 @@
 use Rattle.std.proofs.Common.{◌≡◌, drop, map}
-use Rattle.obj_link.specs.Shown.{shown}
-use Rattle.obj_link.specs.Placed.{functions_end, functions_reach}
+use Rattle.obj_link.specs.Prelude.{shown, functions_end, functions_reach}
 use Rattle.obj_link.proofs.placing.reach.functions_reach.Given as goal
 
 abbrev pub invariant-loop-number : goal.invariant-loop-number

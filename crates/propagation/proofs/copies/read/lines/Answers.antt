@@ -1,7 +1,7 @@
 use Rattle.std.proofs.Common.{◌≡◌, ℕ, List, [], ◌∷◌, ◌++◌, ◌+◌, drop, ap, ◌∙◌, arith}
 use Rattle.std.proofs.lemmas.Grind.{common_steps}
 use Rattle.vcode.specs.declared.line.Line.{Line}
-use Rattle.vcode.specs.Replaced.{with_line}
+use Rattle.vcode.specs.Prelude.{with_line}
 use Rattle.propagation.specs.declared.copies.known.KnownCopy.{KnownCopy}
 use Rattle.propagation.specs.Copied.{read_by, reading_lines, known_behind}
 use Rattle.propagation.proofs.MakingCopies.{lines_on, known_on}

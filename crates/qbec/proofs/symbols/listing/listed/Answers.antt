@@ -1,7 +1,6 @@
 use Rattle.std.proofs.Common.{List, ◌∙◌, ap, subst}
-use Rattle.rv_isa.specs.Words.{Words}
-use Rattle.obj_link.specs.Placed.{contents_of}
-use Rattle.obj_link.specs.ProgramOf.{program}
+use Rattle.rv_isa.specs.Prelude.{Words}
+use Rattle.obj_link.specs.Prelude.{contents_of, program}
 use Rattle.elf_file.specs.Conditions.{Loads}
 use Rattle.elf_file.specs.File.{executable_of}
 use Rattle.qbec.specs.Listing.{listing_of}

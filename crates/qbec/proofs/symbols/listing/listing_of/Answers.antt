@@ -1,4 +1,4 @@
-use Rattle.obj_link.specs.ProgramOf.{program}
+use Rattle.obj_link.specs.Prelude.{program}
 use Rattle.qbec.proofs.ListingLemmas.{lists}
 use Rattle.qbec.proofs.symbols.listing.listing_of.Goals as goal
 

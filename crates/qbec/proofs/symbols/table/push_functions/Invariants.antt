@@ -1,7 +1,5 @@
 use Rattle.std.proofs.Common.{◌≡◌, ◌++◌, drop, map}
-use Rattle.obj_link.specs.Image.{functions_start}
-use Rattle.obj_link.specs.Placed.{function_addresses, functions_end}
-use Rattle.obj_link.specs.Shown.{shown}
+use Rattle.obj_link.specs.Prelude.{functions_start, function_addresses, functions_end, shown}
 use Rattle.qbec.specs.Symbols.{entry, function_entries}
 use Rattle.qbec.proofs.symbols.table.push_functions.Given as goal
 

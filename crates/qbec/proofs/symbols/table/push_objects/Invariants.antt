@@ -1,7 +1,5 @@
 use Rattle.std.proofs.Common.{◌≡◌, ◌++◌, drop, map}
-use Rattle.obj_link.specs.Placed.{objects_end}
-use Rattle.obj_link.specs.ImageOf.{object_addresses}
-use Rattle.obj_link.specs.Shown.{shown}
+use Rattle.obj_link.specs.Prelude.{objects_end, object_addresses, shown}
 use Rattle.qbec.specs.Symbols.{entry, object_entries}
 use Rattle.qbec.proofs.symbols.table.push_objects.Given as goal
 

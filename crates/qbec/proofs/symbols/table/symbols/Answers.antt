@@ -1,9 +1,6 @@
 use Rattle.std.proofs.Common.{◌∙◌, ◌+◌, ◌-◌, ◌^◌, ◌<◌, ap, sym, subst, length, map, arith}
 use Rattle.std.proofs.lemmas.List.{length-map}
-use Rattle.obj_link.specs.Image.{code_start, round_to_page, functions_start}
-use Rattle.obj_link.specs.Placed.{objects_end, objects_start}
-use Rattle.obj_link.specs.ProgramOf.{program}
-use Rattle.obj_link.specs.Shown.{shown}
+use Rattle.obj_link.specs.Prelude.{code_start, round_to_page, functions_start, objects_end, objects_start, program, shown}
 use Rattle.obj_link.proofs.AddressLemmas.{functions_rise}
 use Rattle.obj_link.proofs.ImageLemmas.{ends}
 use Rattle.qbec.proofs.FileLemmas.{fits_below}

@@ -1,7 +1,5 @@
 use Rattle.std.proofs.Common.{◌≡◌, ℕ, sym, ◌∙◌, ap, subst, to_z, of_z, ℤ, w32}
-use Rattle.rv_isa.specs.State.{State, register}
-use Rattle.rv_isa.specs.Arithmetic.{moved}
-use Rattle.rv_isa.specs.Step.{load, store, act, environment_call}
+use Rattle.rv_isa.specs.Prelude.{State, register, moved, load, store, act, environment_call}
 use Rattle.rv_isa.specs.declared.instruction.Instr.{Instr}
 use Rattle.rv_machine.specs.Machine.{view}
 use Rattle.rv_machine.specs.Steps.{MayWant}

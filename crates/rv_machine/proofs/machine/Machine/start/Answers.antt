@@ -1,8 +1,8 @@
 use Rattle.rv_isa.specs.declared.abi.TheConstants.{ARGUMENT_BYTES}
 use Rattle.std.proofs.Common.{◌≡◌, ◌≤◌, ◌∙◌, true, refl, sym, ap, arith, length}
 use Rattle.std.proofs.lemmas.Grind.{common_steps}
-use Rattle.rv_isa.specs.Start.{argument_bytes}
-use Rattle.obj_link.specs.Arguments.{are_arguments}
+use Rattle.rv_isa.specs.Prelude.{argument_bytes}
+use Rattle.obj_link.specs.Prelude.{are_arguments}
 use Rattle.rv_machine.specs.Words.{texts}
 use Rattle.rv_machine.proofs.Arguments.{arguments_fit, start_mapped}
 use Rattle.rv_machine.proofs.machine.Machine.start.Goals as goal

@@ -1,5 +1,5 @@
 use Rattle.std.proofs.Common.{◌≡◌, ℕ, true, sym, subst}
-use Rattle.rv_isa.specs.Memory.{each_of}
+use Rattle.rv_isa.specs.Prelude.{each_of}
 use Rattle.rv_isa.specs.declared.permission.Permission.{Permission}
 use Rattle.rv_machine.specs.Mapped.{is_mapped}
 use Rattle.rv_machine.proofs.machine.Machine.store_by_bytes.Goals as goal

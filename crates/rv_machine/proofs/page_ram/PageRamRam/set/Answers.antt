@@ -1,6 +1,6 @@
 use Rattle.std.proofs.Common.{List, Option, subst, sym, ap, ◌∙◌}
 use Rattle.rv_machine.specs.declared.page.Page.{Page}
-use Rattle.rv_isa.specs.State.{updated}
+use Rattle.rv_isa.specs.Prelude.{updated}
 use Rattle.rv_machine.specs.Pages.{AllPermit, paged_byte}
 use Rattle.rv_machine.proofs.PageLemmas.{items-after}
 use Rattle.rv_machine.proofs.page_ram.PageRamRam.set.Goals as goal

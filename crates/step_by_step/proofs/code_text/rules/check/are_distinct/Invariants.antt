@@ -1,5 +1,5 @@
 use Rattle.std.proofs.Common.{◌≡◌, drop}
-use Rattle.vcode.specs.Named.{are_distinct}
+use Rattle.vcode.specs.Prelude.{are_distinct}
 use Rattle.step_by_step.proofs.code_text.rules.check.are_distinct.Given as goal
 
 abbrev pub invariant-loop-k : goal.invariant-loop-k

@@ -3,8 +3,7 @@ use Rattle.std.specs.List.{list_all, sum_by}
 use Rattle.il_ast.specs.declared.limits.TheConstants.{FUNCTION_WEIGHT}
 use Rattle.vcode.specs.declared.code.Block.{Block}
 use Rattle.vcode.specs.declared.place.Destination.{Destination}
-use Rattle.vcode.specs.Named.{are_distinct}
-use Rattle.vcode.specs.Regular.{weight_of}
+use Rattle.vcode.specs.Prelude.{are_distinct, weight_of}
 use Rattle.step_by_step.proofs.code_text.rules.check.is_function.Goals as goal
 
 pub returns : goal.returns

@@ -2,8 +2,7 @@ use Rattle.std.proofs.Common.{◌≤◌, nat_le, List, length, sym, ap, ◌∙�
 use Rattle.std.specs.List.{list_all, sum_by}
 use Rattle.il_ast.specs.declared.limits.TheConstants.{FUNCTION_WEIGHT}
 use Rattle.vcode.specs.declared.code.Block.{Block}
-use Rattle.vcode.specs.Cost.{is_paid}
-use Rattle.vcode.specs.Regular.{leads_inside, allocs_first, alloc_bytes, passes_few}
+use Rattle.vcode.specs.Prelude.{is_paid, leads_inside, allocs_first, alloc_bytes, passes_few}
 use Rattle.step_by_step.proofs.Turns.{are_paced}
 use Rattle.step_by_step.proofs.code_text.rules.check.is_regular.Goals as goal
 
