@@ -7,8 +7,7 @@ use Rattle.rv_isa.specs.declared.permission.Permission.{Permission}
 use Rattle.rv_isa.specs.declared.instruction.Instr.TheVariants.{Store}
 use Rattle.rv_isa.specs.declared.instruction.StoreOp.TheVariants.{Sb, Sh, Sw, Sd}
 use Rattle.rv_isa.proofs.MemoryLemmas.{updated_here, updated_elsewhere, each_from, stored_avoids}
-use Rattle.operation_code.specs.Fields.{reg}
-use Rattle.operation_code.specs.Fields.{store_from}
+use Rattle.operation_code.specs.Constants.{reg, store_from}
 use Rattle.operation_code.proofs.Leading.{Site, Leads, leads_by, in_register}
 use Rattle.abi_frames.proofs.StackAccesses.{UsableFrom}
 use Rattle.flat_code.proofs.Storing.{byte_later}

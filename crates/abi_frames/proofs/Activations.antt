@@ -3,9 +3,9 @@ use Rattle.std.proofs.Common.{zero, suc, ◌≡◌, ◌≢◌, ℕ, ◌+◌, ◌
 use Rattle.abi_frames.proofs.Shared.{State, Location, InRegister, Slot, Operand, At, Number, Name, Layout, list_all, and_parts, eqb-true, eqb-false, slice_get_within, same_Some, not_both, nat_tests, number_at, stored, is_place, operand_keeps}
 use Rattle.rv_isa.specs.Prelude.{Ground}
 use Rattle.rv_isa.proofs.MemoryLemmas.{stored_below, stored_above, read_below, read_above, read_back}
-use Rattle.flat_code.specs.Spots.{Spot, NoAccess, ThisByte, Spots}
+use Rattle.flat_code.specs.Flat.{Spot, NoAccess, ThisByte, Spots}
 use Rattle.flat_code.specs.Step.{Numbers, put, number_of}
-use Rattle.abi_frames.specs.Calls.{World, IsWorld, HoldsSpots, is_kept}
+use Rattle.abi_frames.specs.Performs.{World, IsWorld, HoldsSpots, is_kept}
 use Rattle.abi_frames.specs.Emission.{slot_offset}
 use Rattle.operation_code.proofs.Leading.{Site, IsReg}
 use Rattle.abi_frames.proofs.StackAccesses.{UsableFrom}

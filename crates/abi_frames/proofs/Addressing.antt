@@ -5,7 +5,7 @@ use Rattle.rv_isa.specs.declared.instruction.RegOp.TheVariants.{Add}
 use Rattle.vcode.specs.declared.place.Address.{Address}
 use Rattle.vcode.specs.declared.line.Operation.TheVariants.{Reg}
 use Rattle.vcode.specs.Prelude.{distance}
-use Rattle.flat_code.specs.Spots.{Spots}
+use Rattle.flat_code.specs.Flat.{Spots}
 use Rattle.flat_code.specs.Step.{Numbers, number_of, computed, operated, address_of}
 use Rattle.abi_frames.proofs.Activations.{Setting, IsSetting, operand_in, Framed, operand_known}
 

@@ -3,8 +3,8 @@ use Rattle.std.proofs.Common.{nat_le, ◌≡◌, ◌≢◌, ℕ, zero, suc, ◌+
 use Rattle.std.proofs.lemmas.Option.{slice_get-map}
 use Rattle.abi_frames.proofs.Shared.{State, Location, InRegister, Slot, Operand, At, Number, Name, Argument, option_map, list_all, and_parts, and_from, eqb-true, eqb-false, or_parts, both_ways, slice_get_within, same_Some, none-some, nat_tests, is_place, operand_keeps}
 use Rattle.flat_code.specs.Step.{taken}
-use Rattle.abi_frames.specs.Calls.{passed}
-use Rattle.operation_code.specs.Fields.{add_low}
+use Rattle.abi_frames.specs.Performs.{passed}
+use Rattle.operation_code.specs.Constants.{add_low}
 use Rattle.abi_frames.specs.Moves.{exchanged, operand_exchanged, argument_exchanged, exchange, is_in, is_read, settled, arrived, earlier, earlier_in, earlier_at, move_up, moves_up, moved_up, all_move_up, all_moved_up}
 use Rattle.abi_frames.specs.Emission.{passed_class, passed_items}
 use Rattle.operation_code.proofs.ConstantNumbers.{near_moves}

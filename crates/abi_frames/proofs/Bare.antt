@@ -2,9 +2,8 @@
 use Rattle.std.proofs.Common.{◌≡◌, ℕ, ◌≤◌, Bool, true, false, List, [], ◌∷◌, refl, ◌∙◌, ap, arith, not, ◌||◌, max, nat_eq, slice_get, Some}
 use Rattle.abi_frames.proofs.Shared.{Location, InRegister, Slot, Destination, Line, Block, list_all, list_any, and_parts, not-true, and_from, all_at, not_both, nat_tests, is_place, line_keeps, jump_keeps}
 use Rattle.vcode.specs.declared.line.Line.TheVariants.{Tick, Set, Operate, Load, Store, Alloc, Blit, Call}
-use Rattle.abi_frames.specs.Calls.{is_kept}
-use Rattle.abi_frames.specs.Layout.{args_on_stack, most_in_lines, is_register, writes, callee_saved, is_call}
-use Rattle.frame_ways.specs.Bare.{is_bare_place, touches_no_slot, is_bare_line, is_bare_block}
+use Rattle.abi_frames.specs.Performs.{is_kept, args_on_stack, most_in_lines, is_register, writes, callee_saved, is_call}
+use Rattle.frame_ways.specs.Plans.{is_bare_place, touches_no_slot, is_bare_line, is_bare_block}
 use Rattle.abi_frames.proofs.Activations.{place_is, MayWrite}
 use Rattle.abi_frames.proofs.Saving.{AllMayWrite}
 

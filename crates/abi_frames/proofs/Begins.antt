@@ -1,12 +1,11 @@
 -- The begin of a frame, from any state in which there is none.
 use Rattle.std.proofs.Common.{◌≡◌, ◌≢◌, ℕ, ◌+◌, ◌-◌, ◌*◌, ◌%◌, ◌^◌, ◌<◌, ◌≤◌, Bool, true, false, List, [], refl, sym, ◌∙◌, ap, subst, arith, lit<, lit≤, nat_le, nat_lt, length, Some, None}
 use Rattle.abi_frames.proofs.Shared.{Class, State, Location, InRegister, Slot, list_all, all_at, none_is_not, nat_tests, is_place}
-use Rattle.flat_code.specs.Spots.{ThisByte, Spots, Clear}
-use Rattle.flat_code.specs.Flat.{FlatGiven}
+use Rattle.flat_code.specs.Flat.{ThisByte, Spots, Clear, FlatGiven}
 use Rattle.flat_code.specs.Step.{Numbers}
-use Rattle.abi_frames.specs.Calls.{Ready}
+use Rattle.abi_frames.specs.Performs.{Ready}
 use Rattle.abi_frames.specs.Emission.{prologue}
-use Rattle.abi_frames.specs.Parts.{bare_layout, outer_layout}
+use Rattle.abi_frames.specs.Functions.{bare_layout, outer_layout}
 use Rattle.operation_code.proofs.Leading.{Leads}
 use Rattle.abi_frames.proofs.Leads.{leads_on, leads_as}
 use Rattle.abi_frames.proofs.Activations.{Setting, IsSetting, site, bottom, value_at, place_is, is_held, held_below, Framed, spots_same, byte_has_access, Fits}

@@ -8,7 +8,7 @@ use Rattle.rv_isa.specs.declared.ranges.Register.{Register}
 use Rattle.rv_isa.specs.declared.instruction.BranchOp.{BranchOp}
 use Rattle.rv_isa.specs.declared.instruction.BranchOp.TheVariants.{Beq, Bne, Blt, Bge, Bltu, Bgeu}
 use Rattle.rv_isa.specs.declared.labelled.Item.TheVariants.{Branch}
-use Rattle.operation_code.specs.Fields.{reg}
+use Rattle.operation_code.specs.Constants.{reg}
 use Rattle.rv_isa.specs.Prelude.{Fixed, Stands, Moves}
 use Rattle.vcode.specs.declared.line.Operation.TheVariants.{Compare}
 use Rattle.vcode.proofs.Comparing.{holds_extended}

@@ -8,12 +8,9 @@ use Rattle.rv_isa.proofs.RunLemmas.{comes_then}
 use Rattle.vcode.specs.declared.place.Operand.TheVariants.{At as In}
 use Rattle.vcode.specs.declared.line.Line.TheVariants.{Call}
 use Rattle.vcode.specs.Prelude.{wanted_keeps, turns_of, alloc_bytes, affords}
-use Rattle.flat_code.specs.Spots.{Spots, SameReach}
-use Rattle.flat_code.specs.Flat.{FlatGiven, FlatAsked, FlatOutcome, FlatReturned, FlatEnded}
+use Rattle.flat_code.specs.Flat.{Spots, SameReach, FlatGiven, FlatAsked, FlatOutcome, FlatReturned, FlatEnded}
 use Rattle.flat_code.specs.Step.{FlatState, Numbers, put, kept, held, number_of, read_all, calls, resumes}
-use Rattle.abi_frames.specs.Calls.{Ready, passed}
-use Rattle.abi_frames.specs.Performs.{Returns, Stops, KeepsOn, Performs, PerformsAt, ReachStays, AllPerform}
-use Rattle.abi_frames.specs.Layout.{most_in_lines}
+use Rattle.abi_frames.specs.Performs.{Ready, passed, Returns, Stops, KeepsOn, Performs, PerformsAt, ReachStays, AllPerform, most_in_lines}
 use Rattle.abi_frames.specs.Emission.{prepare_items, call_through, receive_items, lines_items, end_items}
 use Rattle.operation_code.proofs.Leading.{StandAt, Reaches, Leads, leads_nowhere}
 use Rattle.abi_frames.proofs.Leads.{leads_as}

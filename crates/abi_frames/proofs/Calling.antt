@@ -9,10 +9,10 @@ use Rattle.rv_isa.proofs.RunLemmas.{comes_by_step}
 use Rattle.vcode.specs.declared.place.Extension.{Extension}
 use Rattle.vcode.specs.declared.place.Extension.TheVariants.{Made, Claimed}
 use Rattle.vcode.specs.Prelude.{is_extended, is_callers}
-use Rattle.flat_code.specs.Spots.{NoAccess, ThisByte, Spots, SameReach}
+use Rattle.flat_code.specs.Flat.{NoAccess, ThisByte, Spots, SameReach}
 use Rattle.flat_code.specs.Step.{Numbers, kept, number_of, read_all, taken, passed as read_passed}
-use Rattle.abi_frames.specs.Calls.{Ready, Back, is_kept, passed}
-use Rattle.operation_code.specs.Fields.{reg, add_low}
+use Rattle.abi_frames.specs.Performs.{Ready, Back, is_kept, passed}
+use Rattle.operation_code.specs.Constants.{reg, add_low}
 use Rattle.abi_frames.specs.Emission.{fetch, source, passed_class, callee_items, callee_source, prepare_items, call_through}
 use Rattle.operation_code.proofs.Leading.{Site, StandAt, Leads, leads_nowhere, IsReg, register_reg, stepped, in_register, in_register_small, same_in_register}
 use Rattle.abi_frames.proofs.Leads.{leads_on, leads_as}

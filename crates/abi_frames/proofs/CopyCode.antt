@@ -6,7 +6,7 @@ use Rattle.rv_isa.specs.Prelude.{load, load_size, load_value, store_size, Ground
 use Rattle.rv_isa.specs.declared.instruction.LoadOp.TheVariants.{Ld, Lwu, Lhu, Lbu}
 use Rattle.rv_isa.specs.declared.instruction.StoreOp.TheVariants.{Sb, Sh, Sw, Sd}
 use Rattle.rv_isa.proofs.MemoryLemmas.{stored_below, stored_above}
-use Rattle.operation_code.specs.Fields.{add_low}
+use Rattle.operation_code.specs.Constants.{add_low}
 use Rattle.abi_frames.specs.Emission.{into, fetch, source, copy_at, copy_pair, copy_pairs, copy_rest, copy_bytes, copy_part, copy_parts, near_blit, far_blit, blit_items}
 use Rattle.operation_code.proofs.ConstantNumbers.{near_moves}
 use Rattle.operation_code.proofs.Leading.{Site, Leads, leads_nowhere, Sets, IsReg, register_reg, in_register, in_register_small, same_in_register}

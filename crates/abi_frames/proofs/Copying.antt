@@ -2,11 +2,9 @@
 use Rattle.std.proofs.Common.{inl, inr, ◌≡◌, ℕ, zero, suc, ◌+◌, ◌-◌, ◌<◌, ◌≤◌, Bool, true, false, List, ◌∷◌, refl, sym, ◌∙◌, ap, subst, arith, ◌&&◌, ◌||◌, nat_eq, nat_le, if◌then◌else◌, Option, Some, None}
 use Rattle.abi_frames.proofs.Shared.{State, Location, Operand, Line, Block, Code, list_all, option_and_then, and_parts, eqb-true, leb-true, nat_tests, is_place, operand_keeps, line_keeps}
 use Rattle.vcode.specs.declared.line.Line.TheVariants.{Blit}
-use Rattle.flat_code.specs.Spots.{NoAccess, ThisByte, Spots}
-use Rattle.flat_code.specs.Flat.{FlatGiven, FlatOutcome}
+use Rattle.flat_code.specs.Flat.{NoAccess, ThisByte, Spots, FlatGiven, FlatOutcome}
 use Rattle.flat_code.specs.Step.{all_there, apart_or_same, is_in, with_copy, copied, FlatState, number_of, changes, goes_on}
-use Rattle.abi_frames.specs.Calls.{HoldsSpots}
-use Rattle.abi_frames.specs.Performs.{AllPerform}
+use Rattle.abi_frames.specs.Performs.{HoldsSpots, AllPerform}
 use Rattle.abi_frames.proofs.Leads.{leads_as}
 use Rattle.abi_frames.proofs.StackAccesses.{UsableFrom}
 use Rattle.abi_frames.proofs.Activations.{Setting, operand_in, Framed, operand_known}

@@ -4,8 +4,7 @@ use Rattle.abi_frames.proofs.Shared.{State, Location, InRegister, Slot, Destinat
 use Rattle.rv_isa.proofs.MemoryLemmas.{number_same, stored_above}
 use Rattle.vcode.specs.Prelude.{same_location, located, are_distinct}
 use Rattle.flat_code.specs.Step.{Numbers, put, bound, held}
-use Rattle.operation_code.specs.Fields.{sum_to, load_8}
-use Rattle.operation_code.specs.Constants.{constant}
+use Rattle.operation_code.specs.Constants.{sum_to, load_8, constant}
 use Rattle.abi_frames.specs.Emission.{store_slot, slot_offset}
 use Rattle.abi_frames.specs.Functions.{caller_pointer, from_register, from_stack, argument_items, arguments_items, is_for_arguments, goes_away, is_on_stack, source_in, sources, pointer_items, entry_items}
 use Rattle.operation_code.proofs.Leading.{Leads, leads_nowhere, leads_again, Sets, IsReg}

@@ -6,9 +6,8 @@ use Rattle.rv_isa.specs.declared.instruction.Instr.TheVariants.{Jalr}
 use Rattle.rv_isa.proofs.MemoryLemmas.{number_same, stored_below, stored_above, read_back}
 use Rattle.rv_isa.proofs.RunLemmas.{comes_by_step, comes_then}
 use Rattle.vcode.specs.Prelude.{is_immediate}
-use Rattle.abi_frames.specs.Calls.{is_kept}
-use Rattle.operation_code.specs.Fields.{reg, add_low, sum_to}
-use Rattle.operation_code.specs.Constants.{constant}
+use Rattle.abi_frames.specs.Performs.{is_kept}
+use Rattle.operation_code.specs.Constants.{reg, add_low, sum_to, constant}
 use Rattle.abi_frames.specs.Emission.{move_pointer, lower_pointer, raise_pointer, save_all, restore_all, go_back, epilogue}
 use Rattle.operation_code.proofs.ConstantNumbers.{immediate_adds, near_moves}
 use Rattle.operation_code.proofs.Leading.{Site, StandAt, Leads, leads_nowhere, longest-append, stepped, Sets, IsReg, register_reg}

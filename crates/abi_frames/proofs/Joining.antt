@@ -2,8 +2,7 @@
 use Rattle.std.proofs.Common.{◌≡◌, ℕ, List, [], ◌∷◌, ◌++◌, ◌∙◌, ap}
 use Rattle.abi_frames.proofs.Shared.{Item, Label, Location, Destination, Block, Layout, Mark}
 use Rattle.abi_frames.specs.Emission.{rows}
-use Rattle.abi_frames.specs.Functions.{entry_items, function_items}
-use Rattle.abi_frames.specs.Parts.{outer_layout, marked_body, ends_items, marked_items}
+use Rattle.abi_frames.specs.Functions.{entry_items, function_items, outer_layout, marked_body, ends_items, marked_items}
 use Rattle.operation_code.proofs.Joining.{joined_4}
 
 pub items_are : (p o : List Item) (y z : Layout) (rs ss : List ℕ) (ps qs : List (Destination Location)) (bs cs : List (Block Location))

@@ -7,7 +7,7 @@ use Rattle.rv_isa.specs.declared.labelled.Item.TheVariants.{Goto as GoTo}
 use Rattle.rv_isa.proofs.RunLemmas.{comes_here, comes_then}
 use Rattle.vcode.specs.declared.line.Operation.TheVariants.{Compare}
 use Rattle.flat_code.specs.Step.{taken as taken_as}
-use Rattle.abi_frames.specs.Calls.{passed}
+use Rattle.abi_frames.specs.Performs.{passed}
 use Rattle.abi_frames.specs.Emission.{passed_class, operand_into, operand_source, goto_items, branch_when, inverted, ways_items, branch_items, result_items}
 use Rattle.operation_code.proofs.Leading.{Site, StandAt, Leads, longest-append, Sets, in_register, same_in_register}
 use Rattle.abi_frames.proofs.StackAccesses.{is_10, is_28, is_29}

@@ -6,10 +6,10 @@ use Rattle.rv_isa.specs.declared.instruction.Instr.TheVariants.{Ebreak}
 use Rattle.rv_isa.specs.declared.labelled.Item.TheVariants.{Branch as BranchTo, Goto as GoTo, Call as CallTo, Relocated}
 use Rattle.vcode.specs.declared.line.Jump.TheVariants.{Goto, Branch, Return, Halt}
 use Rattle.vcode.specs.Prelude.{leads_inside, is_target}
-use Rattle.abi_frames.specs.Layout.{layout, saved_registers}
+use Rattle.abi_frames.specs.Performs.{layout, saved_registers}
 use Rattle.abi_frames.specs.Emission.{lines_items, raise_pointer, restore_all, go_back, prologue, epilogue, goto_items, branch_when, inverted, ways_items, branch_items, compared_source, leave_items, left_behind, copies_end, left_by_value, jump_items, body_items, rows, blocks_items}
 use Rattle.abi_frames.specs.Functions.{entry_items, function_items}
-use Rattle.abi_frames.specs.Laws.{IsCode}
+use Rattle.abi_frames.specs.Examples.{IsCode}
 use Rattle.operation_code.proofs.Leading.{longest-append}
 use Rattle.abi_frames.proofs.Saving.{few_saved_registers}
 use Rattle.abi_frames.proofs.Outgoing.{slots_near}

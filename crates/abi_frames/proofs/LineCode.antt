@@ -5,16 +5,14 @@ use Rattle.operation_code.proofs.Comparing.{leads_compare}
 use Rattle.operation_code.proofs.FormNumbers.{same_word, word_is_small}
 use Rattle.operation_code.proofs.Forms.{made, as_read, computed_is, IsFormOf, leads_form, nothing_given, number_form_is, left_form_is}
 use Rattle.operation_code.specs.declared.immediate.Form.{Form}
-use Rattle.operation_code.specs.Immediates.{swapped, right_form, left_form, form_items}
+use Rattle.operation_code.specs.Immediates.{swapped, right_form, left_form, form_items, operation_items}
 use Rattle.rv_isa.specs.Prelude.{load_size, load_value, lower_part, Fixed}
 use Rattle.rv_isa.specs.declared.relocation.Partial.TheVariants.{Load as LoadBy}
 use Rattle.vcode.specs.declared.place.Address.{Address}
 use Rattle.vcode.specs.declared.line.Operation.TheVariants.{Reg as RegOperation, RegW as RegWOperation, Compare}
 use Rattle.flat_code.specs.Step.{computed}
-use Rattle.operation_code.specs.Fields.{reg, add_low, extend}
-use Rattle.operation_code.specs.Constants.{word, constant}
+use Rattle.operation_code.specs.Constants.{reg, add_low, extend, word, constant}
 use Rattle.abi_frames.specs.Emission.{base_items, load_by, load_items, slot_offset, load_slot, store_slot, into, fetch, source, word_into, target, deliver, set_items, operand_into, operand_source, on_registers, by_form, operate_by, operate_items}
-use Rattle.operation_code.specs.Operations.{operation_items}
 use Rattle.operation_code.proofs.ConstantNumbers.{near_moves, parts_made}
 use Rattle.operation_code.proofs.Leading.{Leads, leads_nowhere, Sets, IsReg, register_reg, in_register, same_in_register, in_register_small}
 use Rattle.abi_frames.proofs.Leads.{leads_on, leads_as, leads_where}

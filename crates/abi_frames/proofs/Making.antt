@@ -6,12 +6,10 @@ use Rattle.rv_isa.specs.Prelude.{upper_value}
 use Rattle.rv_isa.specs.declared.instruction.Instr.TheVariants.{Lui}
 use Rattle.vcode.specs.declared.line.Line.TheVariants.{Alloc}
 use Rattle.vcode.specs.Prelude.{alloc_bytes}
-use Rattle.flat_code.specs.Spots.{NoAccess, AnyByte, ThisByte, Spots}
-use Rattle.flat_code.specs.Flat.{FlatGiven, FlatOutcome}
+use Rattle.flat_code.specs.Flat.{NoAccess, AnyByte, ThisByte, Spots, FlatGiven, FlatOutcome}
 use Rattle.flat_code.specs.Step.{FlatState, Numbers, put, made_in, is_in, opened, goes_on}
-use Rattle.abi_frames.specs.Calls.{IsUsable}
-use Rattle.abi_frames.specs.Performs.{AllPerform}
-use Rattle.operation_code.specs.Fields.{reg, high, add_low, sum_to}
+use Rattle.abi_frames.specs.Performs.{IsUsable, AllPerform}
+use Rattle.operation_code.specs.Constants.{reg, high, add_low, sum_to}
 use Rattle.abi_frames.specs.Emission.{address_at, alloc_items}
 use Rattle.operation_code.proofs.Leading.{Site, Leads, leads_nowhere, leads_again, Sets, IsReg, register_reg}
 use Rattle.abi_frames.proofs.Leads.{leads_as}

@@ -4,11 +4,10 @@ use Rattle.rv_isa.specs.Prelude.{IsLabelled}
 use Rattle.abi_frames.proofs.Shared.{Label, Location, Block, Code, Layout, Mark, leb-true, longest_size, nat_tests}
 use Rattle.vcode.specs.Prelude.{leads_inside}
 use Rattle.frame_ways.specs.declared.mark.Mark.TheVariants.{Bare, Begin, Framed}
-use Rattle.frame_ways.specs.Marks.{mark_at, IsMarked}
-use Rattle.abi_frames.specs.Layout.{layout, saved_registers}
+use Rattle.frame_ways.specs.Plans.{mark_at, IsMarked}
+use Rattle.abi_frames.specs.Performs.{layout, saved_registers}
 use Rattle.abi_frames.specs.Emission.{rows, epilogue}
-use Rattle.abi_frames.specs.Functions.{entry_items}
-use Rattle.abi_frames.specs.Parts.{outer_layout, part_items, marked_body, ends_items, marked_code}
+use Rattle.abi_frames.specs.Functions.{entry_items, outer_layout, part_items, marked_body, ends_items, marked_code}
 use Rattle.abi_frames.proofs.Saving.{few_saved_registers}
 use Rattle.abi_frames.proofs.Sizes.{epilogue_size, entry_size}
 use Rattle.abi_frames.proofs.Labelling.{rows_labelled, Labelled, none, only, numbered, labelled_then, at_most, plainly, label_then, instructions_labelled, body_labelled, some_size, some_behind, prologue_labelled, epilogue_labelled}

@@ -7,18 +7,14 @@ use Rattle.rv_isa.specs.Prelude.{Stand}
 use Rattle.rv_isa.proofs.RunLemmas.{comes_then}
 use Rattle.vcode.specs.declared.limits.TheConstants.{PLACES}
 use Rattle.vcode.specs.Prelude.{affords, is_paid, block_keeps, area, turns_of, is_alloc, leads_inside}
-use Rattle.flat_code.specs.Spots.{Spots}
+use Rattle.flat_code.specs.Flat.{Spots}
 use Rattle.flat_code.specs.Step.{flat_begin, flat_step}
 use Rattle.frame_ways.specs.declared.mark.Mark.TheVariants.{Bare, Begin, Framed}
-use Rattle.frame_ways.specs.Bare.{is_bare_block}
-use Rattle.frame_ways.specs.Marks.{is_bare, is_framed, is_outside, mark_at, leads, begin_credit, suits, IsMarked}
+use Rattle.frame_ways.specs.Plans.{is_bare_block, is_bare, is_framed, is_outside, mark_at, leads, begin_credit, suits, IsMarked}
 use Rattle.frame_ways.proofs.Suiting.{no_area}
-use Rattle.abi_frames.specs.Calls.{World, IsWorld}
-use Rattle.abi_frames.specs.Performs.{KeepsFrame}
-use Rattle.abi_frames.specs.Layout.{layout, saved_registers, frame_size}
+use Rattle.abi_frames.specs.Performs.{World, IsWorld, KeepsFrame, layout, saved_registers, frame_size}
 use Rattle.abi_frames.specs.Emission.{body_items, rows, prologue, epilogue}
-use Rattle.abi_frames.specs.Functions.{entry_items}
-use Rattle.abi_frames.specs.Parts.{outer_layout, part_items, marked_body, ends_items, marked_code}
+use Rattle.abi_frames.specs.Functions.{entry_items, outer_layout, part_items, marked_body, ends_items, marked_code}
 use Rattle.operation_code.proofs.Leading.{StandAt}
 use Rattle.abi_frames.proofs.Activations.{Setting, IsSetting, site}
 use Rattle.abi_frames.proofs.Saving.{held_all, few_saved_registers}

@@ -1,8 +1,7 @@
 -- Marks of the registers that code writes.
 use Rattle.std.proofs.Common.{◌≡◌, ◌<◌, ◌∙◌, ℕ, zero, suc, Bool, true, false, List, [], ◌∷◌, if◌then◌else◌, length, replicate, refl, subst, sym, ap, arith, nat_lt, filter}
 use Rattle.abi_frames.proofs.Shared.{Location, Code, list_all, and_parts, nat_tests}
-use Rattle.abi_frames.specs.Layout.{is_written, written_of, callee_saved}
-use Rattle.abi_frames.specs.Marked.{is_marked}
+use Rattle.abi_frames.specs.Performs.{is_written, written_of, callee_saved, is_marked}
 
 below : (r : ℕ) → nat_lt r 32 ≡ true → r < 32
 below r e = grind (arith, nat_tests)

@@ -3,9 +3,9 @@ use Rattle.std.proofs.Common.{◌≡◌, ◌≢◌, ℕ, zero, suc, ◌+◌, ◌
 use Rattle.abi_frames.proofs.Shared.{State, Location, InRegister, Slot, and_parts, slice_get_within, nat_tests, number_at, is_place}
 use Rattle.rv_isa.specs.Prelude.{Ground}
 use Rattle.rv_isa.proofs.MemoryLemmas.{number_same}
-use Rattle.flat_code.specs.Spots.{Spot, NoAccess, ThisByte, Spots}
+use Rattle.flat_code.specs.Flat.{Spot, NoAccess, ThisByte, Spots}
 use Rattle.flat_code.specs.Step.{Numbers, is_there, all_there, is_in}
-use Rattle.abi_frames.specs.Calls.{HoldsSpots}
+use Rattle.abi_frames.specs.Performs.{HoldsSpots}
 use Rattle.abi_frames.proofs.Activations.{Setting, IsSetting, bottom, value_at, place_is, slot_is, Framed, held_below}
 use Rattle.abi_frames.proofs.StackAccesses.{UsableFrom}
 

@@ -3,7 +3,7 @@ use Rattle.std.proofs.Common.{◌≡◌, ℕ, zero, suc, ap, ◌<◌, ◌≤◌,
 use Rattle.abi_frames.proofs.Shared.{Location, Line, Block, Code, list_all, and_parts, same_Some, nat_tests}
 use Rattle.vcode.specs.declared.line.Line.TheVariants.{Tick, Set, Operate, Load, Store, Alloc, Blit, Call}
 use Rattle.vcode.specs.Prelude.{IsRegular, passes_few}
-use Rattle.abi_frames.specs.Layout.{outgoing, args_on_stack, most_in_lines, most_in_blocks, slots_offset}
+use Rattle.abi_frames.specs.Performs.{outgoing, args_on_stack, most_in_lines, most_in_blocks, slots_offset}
 use Rattle.abi_frames.proofs.Saving.{few_saved_registers}
 
 at_most_64 : (n : ℕ) → nat_le n 64 ≡ true → n ≤ 64

@@ -3,7 +3,7 @@ use Rattle.std.proofs.Common.{◌≡◌, ℕ, zero, suc, ◌+◌, ◌≤◌, Boo
 use Rattle.il_ast.specs.declared.limits.TheConstants.{FUNCTION_WEIGHT}
 use Rattle.abi_frames.proofs.Shared.{Location, Block, Code, sum_by, sum_by-cons, nat_tests}
 use Rattle.vcode.specs.Prelude.{turns_of}
-use Rattle.abi_frames.specs.Layout.{turns_in, falls_through}
+use Rattle.abi_frames.specs.Performs.{turns_in, falls_through}
 
 abbrev pub block_turns : Block Location → ℕ
 block_turns b = sum_by turns_of b.lines

@@ -4,8 +4,8 @@ use Rattle.bits.specs.Words.{sign_extended}
 use Rattle.abi_frames.proofs.Shared.{Class, W, L, State, Location, InRegister, Slot, Operand, At, Number, Name, Argument, list_all, and_parts, nat_tests, number_at, stored, is_place, operand_keeps}
 use Rattle.rv_isa.proofs.MemoryLemmas.{number_same, stored_below, stored_above, read_back}
 use Rattle.flat_code.specs.Step.{taken}
-use Rattle.abi_frames.specs.Calls.{passed}
-use Rattle.operation_code.specs.Fields.{store_8}
+use Rattle.abi_frames.specs.Performs.{passed}
+use Rattle.operation_code.specs.Constants.{store_8}
 use Rattle.abi_frames.specs.Emission.{word_into, passed_class, pass_into, stack_items, stack_all, register_items, register_all}
 use Rattle.operation_code.proofs.Leading.{Leads, leads_nowhere, Sets, IsReg}
 use Rattle.abi_frames.proofs.Leads.{leads_on, leads_as}

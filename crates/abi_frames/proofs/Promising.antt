@@ -9,13 +9,9 @@ use Rattle.vcode.specs.declared.function.LFunc.{LFunc}
 use Rattle.vcode.specs.Prelude.{area, code_weight, classes_in}
 use Rattle.flat_code.specs.Flat.{FlatOutcome, FlatReturned, FlatEnded, flat_after}
 use Rattle.flat_code.specs.Step.{flat_begin, flat_step}
-use Rattle.abi_frames.specs.Calls.{World, IsWorld}
-use Rattle.abi_frames.specs.Performs.{Performs, KeepsFrame}
-use Rattle.abi_frames.specs.Layout.{frame_bound, frame_size}
-use Rattle.abi_frames.specs.Frames.{IsFrameOf}
-use Rattle.abi_frames.specs.Functions.{frame_items}
-use Rattle.abi_frames.specs.Parts.{marked_code}
-use Rattle.abi_frames.specs.Laws.{IsCode, FramesAreLabelled, FramesAreSmall, FramesPerform, MarkedAreLabelled, MarkedPerform}
+use Rattle.abi_frames.specs.Performs.{World, IsWorld, Performs, KeepsFrame, frame_bound, frame_size}
+use Rattle.abi_frames.specs.Functions.{IsFrameOf, frame_items, marked_code}
+use Rattle.abi_frames.specs.Examples.{IsCode, FramesAreLabelled, FramesAreSmall, FramesPerform, MarkedAreLabelled, MarkedPerform}
 use Rattle.frame_ways.specs.Keeping.{FlatFine, KeepsBytes}
 use Rattle.abi_frames.proofs.MarkedPerforms.{marked_fits, performs_marked}
 use Rattle.abi_frames.proofs.MarkedLabelling.{marked_labelled}

@@ -2,9 +2,9 @@
 use Rattle.std.proofs.Common.{◌≡◌, ◌≢◌, ℕ, zero, suc, ◌+◌, ◌*◌, refl, subst, arith, inl, inr, eq-or-lt_of_le, Option, Some, None}
 use Rattle.abi_frames.proofs.Shared.{option_map, same_Some, none_is_not, number_at}
 use Rattle.rv_isa.specs.Prelude.{State, Ground}
-use Rattle.flat_code.specs.Spots.{Spot, NoAccess, AnyByte, ThisByte, Spots}
+use Rattle.flat_code.specs.Flat.{Spot, NoAccess, AnyByte, ThisByte, Spots}
 use Rattle.flat_code.specs.Step.{read_spot, known_number}
-use Rattle.abi_frames.specs.Calls.{IsUsable, HoldsSpots}
+use Rattle.abi_frames.specs.Performs.{IsUsable, HoldsSpots}
 use Rattle.abi_frames.proofs.StackAccesses.{UsableFrom}
 
 pub record IsRead (g : Ground) (u : State) (at n v : ℕ) : Type 0 where

@@ -1,8 +1,7 @@
 -- The registers that a function saves: those of a callee that its code writes.
 use Rattle.std.proofs.Common.{◌≡◌, ℕ, suc, ◌≤◌, Bool, true, false, List, [], ◌∷◌, ◌++◌, refl, sym, ◌∙◌, ap, arith, ◌||◌, nat_eq, if◌then◌else◌, length, slice_get, Some}
 use Rattle.abi_frames.proofs.Shared.{Location, InRegister, Slot, Destination, Line, Block, Code, list_all, list_any, and_parts, and_from, eqb-true, equals_itself, not_both, nat_tests, is_place}
-use Rattle.abi_frames.specs.Calls.{is_kept}
-use Rattle.abi_frames.specs.Layout.{is_register, writes, block_writes, is_written, written_of, callee_saved, is_call, block_calls, makes_call, saved_registers}
+use Rattle.abi_frames.specs.Performs.{is_kept, is_register, writes, block_writes, is_written, written_of, callee_saved, is_call, block_calls, makes_call, saved_registers}
 use Rattle.abi_frames.proofs.Activations.{can_save, is_held, is_among, place_is, MayWrite}
 use Rattle.il_ast.proofs.Listed.{any_at}
 

@@ -36,5 +36,5 @@ pub use Rattle.std.proofs.lemmas.List.Sums.{sum_by-cons}
 pub use Rattle.vcode.specs.Named.{is_place, operand_keeps, line_keeps, jump_keeps}
 unfoldable pub use Rattle.rv_isa.specs.Memory.{number_at, stored}
 pub use Rattle.rv_isa.specs.Arithmetic.{moved}
-pub use Rattle.rv_isa.specs.Runs.{Comes}
+pub use Rattle.rv_isa.specs.Labelled.{Comes}
 pub use Rattle.vcode.specs.Addresses.{low}

@@ -13,13 +13,10 @@ use Rattle.vcode.specs.declared.line.Line.TheVariants.{Tick, Set, Operate, Load,
 use Rattle.vcode.specs.declared.line.Operation.TheVariants.{Compare}
 use Rattle.vcode.specs.declared.line.Jump.TheVariants.{Goto, Branch, Return, Halt}
 use Rattle.vcode.specs.Prelude.{area, turns_of, alloc_bytes, is_alloc, is_target, jump_cost, weighs}
-use Rattle.flat_code.specs.Spots.{NoAccess, ThisByte, Spots}
-use Rattle.flat_code.specs.Flat.{FlatGiven, FlatOutcome, FlatReturned, FlatEnded}
+use Rattle.flat_code.specs.Flat.{NoAccess, ThisByte, Spots, FlatGiven, FlatOutcome, FlatReturned, FlatEnded}
 use Rattle.abi_frames.proofs.Reading.{read_is}
 use Rattle.flat_code.specs.Step.{known_number, FlatState, Numbers, put, number_of, taken, passed as read_passed, operated, computed, closed, is_in, sets, ticks, fails, goes_on, enters, compared, branches, returns, returns_as, flat_line, flat_jump, block_step, step_in, flat_step, address_of}
-use Rattle.abi_frames.specs.Calls.{ResultIn, passed, HoldsSpots}
-use Rattle.abi_frames.specs.Performs.{AllPerform}
-use Rattle.abi_frames.specs.Layout.{most_in_lines}
+use Rattle.abi_frames.specs.Performs.{ResultIn, passed, HoldsSpots, AllPerform, most_in_lines}
 use Rattle.abi_frames.specs.Emission.{passed_class, lines_items, goto_items, branch_items, result_items, leave_items, epilogue, end_items, left_behind, left_by_value, copies_end}
 use Rattle.operation_code.proofs.Leading.{StandAt, Leads, Sets}
 use Rattle.abi_frames.proofs.Leads.{leads_as}

@@ -7,16 +7,14 @@ use Rattle.abi_frames.proofs.Shared.{State, Item, Location, InRegister, Slot, Li
 use Rattle.rv_isa.specs.Prelude.{Fixed}
 use Rattle.rv_isa.proofs.RunLemmas.{comes_then}
 use Rattle.vcode.specs.Prelude.{area, turns_of, alloc_bytes, is_alloc, leads_inside, line_cost, jump_cost, affords}
-use Rattle.flat_code.specs.Spots.{Spots}
-use Rattle.flat_code.specs.Flat.{FlatGiven, FlatAsked, FlatOutcome, FlatEnded, flat_after}
+use Rattle.flat_code.specs.Flat.{Spots, FlatGiven, FlatAsked, FlatOutcome, FlatEnded, flat_after}
 use Rattle.flat_code.specs.Step.{FlatState, FlatEvent, Numbers, flat_step}
-use Rattle.abi_frames.specs.Performs.{Performs, AllPerform}
-use Rattle.abi_frames.specs.Layout.{args_on_stack, most_in_lines, is_register, writes, is_call, falls_through}
+use Rattle.abi_frames.specs.Performs.{Performs, AllPerform, args_on_stack, most_in_lines, is_register, writes, is_call, falls_through}
 use Rattle.abi_frames.specs.Emission.{line_items, lines_items, jump_items, epilogue, end_items}
 use Rattle.abi_frames.proofs.Pacing.{landing, standing}
 use Rattle.operation_code.proofs.Leading.{StandAt, Reaches, Leads}
 use Rattle.abi_frames.proofs.Activations.{Setting, IsSetting, site, bottom, slot_at, save_at, value_at, place_is, Framed, held_below, is_among, MayWrite, next_index}
-use Rattle.frame_ways.specs.Marks.{leads}
+use Rattle.frame_ways.specs.Plans.{leads}
 use Rattle.abi_frames.proofs.LineCode.{Scratched}
 use Rattle.abi_frames.proofs.Sizes.{line_size}
 

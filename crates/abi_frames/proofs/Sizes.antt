@@ -14,18 +14,16 @@ use Rattle.vcode.specs.declared.line.Line.TheVariants.{Tick, Set, Operate, Load,
 use Rattle.vcode.specs.declared.line.Jump.TheVariants.{Goto, Branch, Return, Halt}
 use Rattle.il_ast.specs.Prelude.{round_16}
 use Rattle.vcode.specs.Prelude.{branch_cost, is_immediate, operand_cost, operation_cost, line_cost, jump_cost, affords, is_paid, weight_of, alloc_bytes, code_weight, is_near, are_near}
-use Rattle.abi_frames.specs.Layout.{layout, saved_registers}
+use Rattle.abi_frames.specs.Performs.{layout, saved_registers}
 use Rattle.abi_frames.proofs.Saving.{few_saved_registers}
-use Rattle.abi_frames.specs.Laws.{IsCode}
-use Rattle.operation_code.specs.Fields.{reg, high, add_low, extend, sum_to, load_8, store_8}
-use Rattle.operation_code.specs.Constants.{zeros_of, left_of, is_near_number, near_constant, is_made, added, shifted_by, made_constant, long_constant, word, is_word, word_constant, constant}
-use Rattle.operation_code.specs.Immediates.{right_form, left_form, compare_number, form_items}
+use Rattle.abi_frames.specs.Examples.{IsCode}
+use Rattle.operation_code.specs.Constants.{reg, high, add_low, extend, sum_to, load_8, store_8, zeros_of, left_of, is_near_number, near_constant, is_made, added, shifted_by, made_constant, long_constant, word, is_word, word_constant, constant}
+use Rattle.operation_code.specs.Immediates.{right_form, left_form, compare_number, form_items, compare_items, operation_items}
 use Rattle.operation_code.specs.declared.immediate.Form.{Form}
 use Rattle.operation_code.specs.declared.immediate.Form.TheVariants.{Immediate as ByImmediate, AddWord, Shift as ByShift, ShiftWord, Compare as ByComparison}
 use Rattle.operation_code.proofs.FormNumbers.{word_low, word_is_small}
 use Rattle.abi_frames.proofs.Branching.{branch_size}
 use Rattle.abi_frames.specs.Emission.{far_store, load_slot, store_slot, slot_offset, into, fetch, source, word_into, word_fetch, target, deliver, set_items, operand_into, operand_source, on_registers, by_form, operate_by, operate_items, base_items, load_by, load_items, store_by, store_op, store_items, line_items, lines_items, move_pointer, lower_pointer, raise_pointer, save_all, restore_all, prologue, epilogue, result_items, goto_items, branch_when, inverted, ways_items, compared_into, compared_source, branch_items, leave_items, left_by, left_behind, raise_most, end_most, copies_end, left_by_value, jump_items, end_items, body_items, blocks_items, passed_class, pass_into, stack_items, stack_all, register_items, register_all, passed_items, callee_items, prepare_items, call_through, receive_items, call_items, copy_at, copy_pair, copy_pairs, copy_rest, copy_bytes, copy_part, copy_parts, near_blit, far_blit, blit_items, address_at, alloc_items}
-use Rattle.operation_code.specs.Operations.{compare_items, operation_items}
 use Rattle.abi_frames.specs.Moves.{operand_exchanged, argument_exchanged, exchange, is_read, settled, arrived, earlier_at, move_up, moves_up, moved_up, all_move_up, all_moved_up}
 use Rattle.abi_frames.proofs.MovingUp.{moved_length}
 use Rattle.abi_frames.proofs.Sources.{sources_length}

@@ -2,7 +2,7 @@
 use Rattle.std.proofs.Common.{◌≡◌, ◌≢◌, ℕ, zero, suc, ◌+◌, ◌-◌, ◌<◌, ◌≤◌, Bool, true, false, List, [], ◌∷◌, refl, sym, ◌∙◌, ap, arith, ◌&&◌, nat_lt, if◌then◌else◌, length, slice_get, Some}
 use Rattle.abi_frames.proofs.Shared.{L, Location, InRegister, Slot, At, Argument, Destination, list_all, and_from, same_Some, nat_tests}
 use Rattle.vcode.specs.declared.place.Extension.TheVariants.{Made}
-use Rattle.abi_frames.specs.Layout.{is_register}
+use Rattle.abi_frames.specs.Performs.{is_register}
 use Rattle.abi_frames.specs.Functions.{source_in, sources}
 use Rattle.abi_frames.proofs.Passing.{in_place}
 

@@ -7,8 +7,8 @@ use Rattle.rv_isa.specs.declared.instruction.Instr.TheVariants.{Lui, Load, Store
 use Rattle.rv_isa.specs.declared.instruction.LoadOp.TheVariants.{Lb, Lh, Lw, Ld, Lbu, Lhu, Lwu}
 use Rattle.rv_isa.specs.declared.instruction.StoreOp.TheVariants.{Sd}
 use Rattle.rv_isa.proofs.MemoryLemmas.{each_from, stored_avoids}
-use Rattle.abi_frames.specs.Calls.{IsUsable}
-use Rattle.operation_code.specs.Fields.{reg, high, sum_to, load_8, store_8}
+use Rattle.abi_frames.specs.Performs.{IsUsable}
+use Rattle.operation_code.specs.Constants.{reg, high, sum_to, load_8, store_8}
 use Rattle.abi_frames.specs.Emission.{far_load, load_slot, far_store, store_slot}
 use Rattle.operation_code.proofs.ConstantNumbers.{near_moves, far_moves}
 use Rattle.operation_code.proofs.Instructions.{leads_lui, leads_sum}

@@ -6,17 +6,14 @@ use Rattle.rv_isa.specs.Prelude.{Stand}
 use Rattle.vcode.specs.declared.line.Jump.TheVariants.{Goto, Branch, Return, Halt}
 use Rattle.vcode.specs.declared.limits.TheConstants.{PLACES}
 use Rattle.vcode.specs.Prelude.{block_keeps, affords, is_paid, area, turns_of, is_alloc, allocs_first, alloc_bytes, leads_inside}
-use Rattle.flat_code.specs.Spots.{Spots, Clear}
-use Rattle.flat_code.specs.Flat.{FlatGiven}
+use Rattle.flat_code.specs.Flat.{Spots, Clear, FlatGiven}
 use Rattle.flat_code.specs.Step.{Numbers, bound, flat_begin, flat_step}
-use Rattle.abi_frames.specs.Calls.{World, IsWorld, GoodStack, Ready, passed}
-use Rattle.abi_frames.specs.Performs.{KeepsFrame}
-use Rattle.abi_frames.specs.Layout.{layout, outgoing, saved_registers, frame_size, frame_bound}
+use Rattle.abi_frames.specs.Performs.{World, IsWorld, GoodStack, Ready, passed, KeepsFrame, layout, outgoing, saved_registers, frame_size, frame_bound}
 use Rattle.abi_frames.proofs.Saving.{can_save_all, held_all, few_saved_registers, AllMayWrite, all_params_may, line_may, call_saves}
-use Rattle.frame_ways.specs.Marks.{leads}
+use Rattle.frame_ways.specs.Plans.{leads}
 use Rattle.abi_frames.specs.Emission.{body_items, blocks_items, prologue, epilogue}
 use Rattle.abi_frames.specs.Functions.{entry_items, function_items}
-use Rattle.abi_frames.specs.Laws.{IsCode}
+use Rattle.abi_frames.specs.Examples.{IsCode}
 use Rattle.operation_code.proofs.Leading.{StandAt, Leads, longest-append}
 use Rattle.abi_frames.proofs.Leads.{leads_on}
 use Rattle.abi_frames.proofs.Activations.{Setting, IsSetting, site, bottom, is_held, is_among, MayWrite, no_more, next_index}

@@ -11,12 +11,10 @@ use Rattle.rv_isa.proofs.MemoryLemmas.{stored_below, stored_above}
 use Rattle.vcode.specs.declared.place.Address.{Address}
 use Rattle.vcode.specs.declared.place.Operand.TheVariants.{At as In}
 use Rattle.vcode.specs.declared.line.Line.TheVariants.{Store}
-use Rattle.flat_code.specs.Spots.{NoAccess, ThisByte, Spots}
-use Rattle.flat_code.specs.Flat.{FlatGiven, FlatOutcome}
+use Rattle.flat_code.specs.Flat.{NoAccess, ThisByte, Spots, FlatGiven, FlatOutcome}
 use Rattle.flat_code.specs.Step.{all_there, is_in, with_number, stored as stored_spots, FlatState, number_of, address_of, read, taken, changes, goes_on}
-use Rattle.abi_frames.specs.Calls.{HoldsSpots}
-use Rattle.abi_frames.specs.Performs.{AllPerform}
-use Rattle.operation_code.specs.Fields.{reg}
+use Rattle.abi_frames.specs.Performs.{HoldsSpots, AllPerform}
+use Rattle.operation_code.specs.Constants.{reg}
 use Rattle.abi_frames.specs.Emission.{source, store_by, store_op, store_items}
 use Rattle.operation_code.proofs.Leading.{Leads, in_register, same_in_register}
 use Rattle.abi_frames.proofs.Leads.{leads_on, leads_as}

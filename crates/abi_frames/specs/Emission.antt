@@ -40,11 +40,9 @@ use Rattle.vcode.specs.Prelude.{low, is_immediate, line_cost, alloc_bytes}
 use Rattle.abi_frames.specs.declared.layout.Layout.{Layout}
 use Rattle.abi_frames.specs.declared.price.TheConstants.{COPIED_RESTORES}
 use Rattle.operation_code.specs.declared.immediate.Form.{Form}
-use Rattle.operation_code.specs.Fields.{reg, add_low, extend, sum_to, load_8, store_8, high, load_to, store_from, store_at, with_name, name_into}
-use Rattle.operation_code.specs.Operations.{operation_items}
-use Rattle.operation_code.specs.Constants.{constant, word}
+use Rattle.operation_code.specs.Constants.{reg, add_low, extend, sum_to, load_8, store_8, high, load_to, store_from, store_at, with_name, name_into, constant, word}
+use Rattle.operation_code.specs.Immediates.{operation_items, right_form, left_form, form_items}
 use Rattle.abi_frames.specs.Moves.{all_move_up, all_moved_up}
-use Rattle.operation_code.specs.Immediates.{right_form, left_form, form_items}
 
 -- ---- the frame: eight bytes at an offset from the stack pointer
 

@@ -1,13 +1,22 @@
 -- Small codes that frames are made for.
-use Rattle.std.specs.Prelude.{◌≡◌, [], ◌∷◌, Some, true}
+use Rattle.std.specs.Prelude.{◌≡◌, ℕ, ◌+◌, ◌*◌, ◌^◌, ◌<◌, ◌≤◌, List, IsTrue, nat_le, length, [], ◌∷◌, Some, true}
+use Rattle.il_ast.specs.declared.limits.TheConstants.{FUNCTION_WEIGHT}
+use Rattle.vcode.specs.declared.limits.TheConstants.{PLACES}
+use Rattle.rv_isa.specs.Prelude.{IsLabelled, longest_size}
+use Rattle.vcode.specs.declared.place.Location.{Location}
+use Rattle.vcode.specs.declared.code.Code.{Code}
+use Rattle.vcode.specs.Prelude.{located, keeps_places, is_place, are_near, are_distinct, IsRegular, code_weight, at_once, block, code, destination, returned}
+use Rattle.abi_frames.specs.Functions.{IsFrameOf, frame_items, marked_code}
+use Rattle.abi_frames.specs.Performs.{frame_size}
+use Rattle.frame_ways.specs.declared.mark.Mark.{Mark}
+use Rattle.frame_ways.specs.Plans.{IsMarked}
+use Rattle.frame_ways.specs.Keeping.{IsMarkedOf}
 use Rattle.il_ast.specs.declared.operation.Class.{Class}
 use Rattle.il_ast.specs.declared.operation.Class.TheVariants.{W, L}
 use Rattle.il_ast.specs.declared.operation.Condition.TheVariants.{NotEqual, SignedLess}
 use Rattle.il_ast.specs.declared.operation.Size.TheVariants.{Long}
 use Rattle.rv_isa.specs.declared.instruction.LoadOp.TheVariants.{Ld}
 use Rattle.rv_isa.specs.declared.instruction.RegOp.TheVariants.{Add}
-use Rattle.rv_isa.specs.Prelude.{longest_size}
-use Rattle.vcode.specs.declared.place.Location.{Location}
 use Rattle.vcode.specs.declared.place.Location.TheVariants.{Register, Slot}
 use Rattle.vcode.specs.declared.place.Argument.{Argument}
 use Rattle.vcode.specs.declared.place.Extension.TheVariants.{Made}
@@ -16,10 +25,51 @@ use Rattle.vcode.specs.declared.place.Operand.TheVariants.{At, Number}
 use Rattle.vcode.specs.declared.line.Operation.TheVariants.{Reg, Compare}
 use Rattle.vcode.specs.declared.line.Line.TheVariants.{Tick, Set, Operate, Call, Load, Store, Alloc, Blit}
 use Rattle.vcode.specs.declared.line.Jump.TheVariants.{Goto, Branch, Return}
-use Rattle.vcode.specs.declared.code.Code.{Code}
-use Rattle.vcode.specs.Prelude.{at_once, block, code, destination, returned}
-use Rattle.abi_frames.specs.Laws.{IsCode}
-use Rattle.abi_frames.specs.Functions.{frame_items}
+
+-- ---- what is proved of the code of frames
+
+-- the code of a function, with places as location code has them
+pub record IsCode (f : Code Location) (slots : ℕ) : Type 0 where
+  pub few : slots < PLACES
+  pub regular : IsRegular f
+  pub known : IsTrue (keeps_places (is_place slots) f)
+  pub near : IsTrue (are_near f.params)
+  pub apart : IsTrue (are_distinct located f.params)
+  pub light : IsTrue (nat_le (code_weight f) FUNCTION_WEIGHT)
+
+-- its labelled code keeps the invariants of such code, within its price
+abbrev pub FramesAreLabelled : Type 0
+FramesAreLabelled =
+    (f : Code Location) (slots : ℕ) → IsCode f slots
+    → IsLabelled (record { items = frame_items f slots; labels = length f.blocks + 2 })
+
+abbrev pub FramesAreSmall : Type 0
+FramesAreSmall =
+    (f : Code Location) (slots : ℕ) → IsCode f slots →
+    longest_size (frame_items f slots) ≤ 32 * code_weight f + 256
+
+-- and performs what the code on bytes runs
+abbrev pub FramesPerform : Type 0
+FramesPerform =
+    (f : Code Location) (slots : ℕ) → IsCode f slots
+    → IsFrameOf f slots (frame_items f slots)
+
+-- ---- code with marks
+
+abbrev pub MarkedAreLabelled : Type 0
+MarkedAreLabelled =
+    (f : Code Location) (slots : ℕ) (marks : List Mark) → IsMarked f slots marks
+    → longest_size (marked_code f slots marks) < 2 ^ 28
+    → IsLabelled
+    (record { items = marked_code f slots marks; labels = length f.blocks + 2 })
+
+-- what was made of f performs what f runs, in a frame as large
+abbrev pub MarkedPerform : Type 0
+MarkedPerform =
+    (f : Code Location) (slots : ℕ) (g : Code Location) (marks : List Mark) → IsCode f slots
+    → IsMarkedOf f slots g marks
+    → frame_size g slots ≡ frame_size f slots
+    → IsFrameOf f slots (marked_code g slots marks)
 
 abbrev argument : Class → Operand Location → Argument Location
 argument k a = record { class = k; value = a; extension = Made }

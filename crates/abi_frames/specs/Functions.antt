@@ -13,12 +13,15 @@ use Rattle.vcode.specs.declared.place.Operand.TheVariants.{At}
 use Rattle.il_ast.specs.declared.operation.Class.TheVariants.{L}
 use Rattle.vcode.specs.declared.code.Block.{Block}
 use Rattle.vcode.specs.declared.code.Code.{Code}
-use Rattle.vcode.specs.Prelude.{code_weight}
-use Rattle.abi_frames.specs.Layout.{is_register, layout, saved_registers}
+use Rattle.vcode.specs.Prelude.{code_weight, classes_in, area}
+use Rattle.abi_frames.specs.Performs.{is_register, layout, saved_registers, frame_bound, frame_size, FramePromise}
 use Rattle.abi_frames.specs.declared.layout.Layout.{Layout}
-use Rattle.operation_code.specs.Fields.{add_low, sum_to, load_8}
-use Rattle.operation_code.specs.Constants.{constant}
-use Rattle.abi_frames.specs.Emission.{passed_items, store_slot, slot_offset, prologue, epilogue, blocks_items}
+use Rattle.operation_code.specs.Constants.{add_low, sum_to, load_8, constant}
+use Rattle.abi_frames.specs.Emission.{passed_items, store_slot, slot_offset, prologue, epilogue, blocks_items, body_items, rows}
+use Rattle.frame_ways.specs.declared.mark.Mark.{Mark}
+use Rattle.frame_ways.specs.declared.mark.Mark.TheVariants.{Bare, Begin, Framed}
+use Rattle.frame_ways.specs.Plans.{mark_at}
+use Rattle.flat_code.specs.Step.{flat_begin, flat_step}
 
 -- the caller's stack pointer into x30
 abbrev pub caller_pointer : Layout → List Item
@@ -101,3 +104,56 @@ frame_items f slots = function_items (layout f slots) (saved_registers f) f.para
 -- the words that the code may have
 abbrev pub price : Code Location → ℕ
 price f = 32 * code_weight f + 256
+
+-- ---- the machine code of code with marks. Bare blocks have no frame, and return where they stand; where
+-- the frame begins for a block, that stands at its head.
+
+-- there is no frame, and each return goes back
+abbrev pub bare_layout : Layout → Layout
+bare_layout y =
+    record {
+      saves = 0;
+      slots = 0;
+      area = 0;
+      size = 0;
+      result = y.result;
+      leave = y.leave;
+      falls = y.falls;
+    }
+
+-- beside a frame, whose end stands before the other end
+abbrev pub outer_layout : Layout → Layout
+outer_layout y = record (bare_layout y) { leave = y.leave + 1 }
+
+abbrev pub part_items : Layout → (saved : List ℕ) → Mark → ℕ → Block Location → List Item
+part_items y rs Bare k b = body_items (outer_layout y) [] k b
+part_items y rs Begin k b = prologue y rs ++ body_items y rs k b
+part_items y rs Framed k b = body_items y rs k b
+
+abbrev pub marked_body : Layout → (saved : List ℕ) → List Mark → ℕ → Block Location → List Item
+marked_body y rs marks k b = part_items y rs (mark_at marks k) k b
+
+-- the end of the frame, and that of ways without one
+abbrev pub ends_items : Layout → (saved : List ℕ) → List Item
+ends_items y rs = epilogue y rs ++ (Label (y.leave + 1) ∷ epilogue (outer_layout y) [])
+
+-- arguments come to the places of their parameters, and the blocks and the ends follow
+abbrev pub marked_items : Layout → (saved : List ℕ) → List (Destination Location) → List Mark →
+    List (Block Location) → List Item
+marked_items y rs params marks blocks =
+    entry_items (outer_layout y) params
+    ++ (rows (λ l. l) (marked_body y rs marks) 0 blocks ++ (Label y.leave ∷ ends_items y rs))
+
+abbrev pub marked_code : Code Location → (slots : ℕ) → List Mark → List Item
+marked_code f slots marks =
+    marked_items (layout f slots) (saved_registers f) f.params marks f.blocks
+
+-- ---- what the labelled code of a function with its frame is to location code
+
+-- It performs what the code, with so many slots, runs on bytes: in a frame of the size that the
+-- layout says, of which a call is counted for no more than the bound.
+abbrev pub IsFrameOf : Code Location → (slots : ℕ) → List Item → Type 0
+IsFrameOf f slots items =
+    FramePromise items (frame_bound f slots) (frame_size f slots) (area f) (classes_in f.params)
+    f.result (λ addresses. flat_begin f)
+    (λ addresses. flat_step f addresses)

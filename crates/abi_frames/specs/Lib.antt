@@ -1,12 +1,5 @@
-pub mod Calls
 pub mod Performs
-pub mod Promise
-pub mod Layout
 pub mod Moves
 pub mod Emission
 pub mod Functions
-pub mod Laws
 pub mod Examples
-pub mod Frames
-pub mod Parts
-pub mod Marked

@@ -10,7 +10,7 @@ use Rattle.vcode.specs.declared.place.Location.TheVariants.{Register, Slot}
 use Rattle.vcode.specs.declared.place.Operand.{Operand}
 use Rattle.vcode.specs.declared.place.Operand.TheVariants.{At, Number, Name}
 use Rattle.vcode.specs.declared.place.Argument.{Argument}
-use Rattle.operation_code.specs.Fields.{add_low}
+use Rattle.operation_code.specs.Constants.{add_low}
 
 -- ---- two registers have changed places
 

@@ -1,7 +1,7 @@
 //! The machine code of calls.
 ghost use Rattle.std.specs.Prelude.{◌≡◌, ◌-◌, ◌*◌, ◌^◌, ◌<◌, ◌≤◌, [], ◌∷◌, ◌++◌, ◌&&◌, length, nat_le, OnOk};
 ghost use Rattle.rv_isa.specs.declared.abi.TheConstants.{STACK_POINTER, FIRST_ARGUMENT, LAST_ARGUMENT, FIRST_SCRATCH};
-ghost use Rattle.operation_code.specs.Fields.{store_8};
+ghost use Rattle.operation_code.specs.Constants.{store_8};
 ghost use Rattle.abi_frames.specs.Emission.{passed_class, pass_into, stack_all, register_items, register_all, passed_items, callee_items, callee_source, call_through, receive_items, call_items};
 
 use crate::layout::Layout;

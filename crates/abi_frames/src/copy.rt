@@ -1,6 +1,6 @@
 //! The machine code that copies bytes.
 ghost use Rattle.std.specs.Prelude.{◌≡◌, ◌<◌, ◌≤◌, [], ◌∷◌, ◌++◌, OnOk};
-ghost use Rattle.operation_code.specs.Fields.{add_low};
+ghost use Rattle.operation_code.specs.Constants.{add_low};
 ghost use Rattle.abi_frames.specs.Emission.{blit_items, copy_at, copy_bytes, copy_pair, copy_pairs, copy_part, copy_parts, copy_rest, far_blit, near_blit, next_part};
 
 use crate::layout::Layout;

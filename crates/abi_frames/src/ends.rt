@@ -1,8 +1,7 @@
 //! The begin and the end of a frame.
 ghost use Rattle.std.specs.Prelude.{◌≡◌, ◌+◌, ◌-◌, ◌*◌, ◌^◌, ◌<◌, ◌≤◌, [], ◌∷◌, ◌++◌, length, OnOk};
 ghost use Rattle.rv_isa.specs.declared.abi.TheConstants.{STACK_POINTER, FIRST_SCRATCH};
-ghost use Rattle.operation_code.specs.Constants.{constant};
-ghost use Rattle.operation_code.specs.Fields.{sum_to};
+ghost use Rattle.operation_code.specs.Constants.{constant, sum_to};
 ghost use Rattle.abi_frames.specs.Emission.{move_pointer, lower_pointer, raise_pointer, save_all, restore_all, prologue, epilogue, go_back};
 
 use crate::layout::Layout;

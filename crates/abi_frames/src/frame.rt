@@ -4,16 +4,14 @@ ghost use Rattle.std.specs.Prelude.{◌≡◌, ◌+◌, ◌*◌, ◌^◌, ◌<�
 ghost use Rattle.rv_isa.specs.Prelude.{longest_size};
 ghost use Rattle.std.specs.List.{list_all, sum_by};
 ghost use Rattle.vcode.specs.Prelude.{area, alloc_bytes, turns_of, passes_few, code_weight};
-ghost use Rattle.abi_frames.specs.Layout.{layout, outgoing, saved_registers, frame_size, frame_bound};
+ghost use Rattle.abi_frames.specs.Performs.{layout, outgoing, saved_registers, frame_size, frame_bound};
 ghost use Rattle.abi_frames.specs.Emission.{left_behind, lines_items, jump_items, epilogue, block_items, blocks_items};
-ghost use Rattle.abi_frames.specs.Functions.{function_items, frame_items};
+ghost use Rattle.abi_frames.specs.Functions.{function_items, frame_items, marked_code, IsFrameOf};
 ghost use Rattle.rv_isa.specs.declared.labelled.Item.TheVariants.{Label};
 ghost use Rattle.vcode.specs.declared.limits.TheConstants.{PLACES};
 ghost use Rattle.abi_frames.specs.declared.pace.TheConstants.{TURN_BOUND};
-ghost use Rattle.abi_frames.specs.Parts.{marked_code};
-ghost use Rattle.frame_ways.specs.Marks.{IsMarked};
+ghost use Rattle.frame_ways.specs.Plans.{IsMarked};
 ghost use Rattle.frame_ways.specs.Keeping.{IsMarkedOf};
-ghost use Rattle.abi_frames.specs.Frames.{IsFrameOf};
 
 use crate::ends::{push_epilogue, push_prologue};
 use crate::entry::push_entry;

@@ -1,7 +1,7 @@
 //! The machine code of jumps.
 ghost use Rattle.std.specs.Prelude.{◌≡◌, ◌^◌, ◌<◌, ◌≤◌, ◌&&◌, nat_eq, ◌++◌, length, OnOk};
 ghost use Rattle.rv_isa.specs.declared.labelled.Item.TheVariants.{Branch};
-ghost use Rattle.operation_code.specs.Fields.{reg};
+ghost use Rattle.operation_code.specs.Constants.{reg};
 ghost use Rattle.abi_frames.specs.Emission.{result_items, goto_items, branch_when, inverted, ways_items, branch_items, left_behind, raise_most, copies_end, leave_items, left_by_value, return_items, jump_items};
 
 use crate::call::{passed_class, push_value};

@@ -1,6 +1,5 @@
 //! What is proved of the code of frames, each as the contract of a function that does nothing.
-ghost use Rattle.abi_frames.specs.Examples.{Examples};
-ghost use Rattle.abi_frames.specs.Laws.{FramesAreLabelled, FramesAreSmall, FramesPerform, MarkedAreLabelled, MarkedPerform};
+ghost use Rattle.abi_frames.specs.Examples.{Examples, FramesAreLabelled, FramesAreSmall, FramesPerform, MarkedAreLabelled, MarkedPerform};
 
 /// The labelled code of a function has at most 32 words for each unit of its weight, and 256.
 pub fn frames_are_small()

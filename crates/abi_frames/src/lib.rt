@@ -13,14 +13,14 @@
 //! the frame, behind the last block, which may fall into it. Where that end restores no more than four registers, each other return has a copy of it in place of a
 //! jump, if the ticks of its block leave enough to pay for that (`jump`).
 //!
-//! Where ways through a function need no frame, its code is made of parts with marks (crate `frame_ways`), and machine code of those (`marks`, `specs/Parts.antt`): bare parts
+//! Where ways through a function need no frame, its code is made of parts with marks (crate `frame_ways`), and machine code of those (`marks`, `specs/Functions.antt`): bare parts
 //! have no frame and return where they stand, and where one leads to a framed part the frame begins. Whether the code is then within its price is found by
 //! making it.
 //!
-//! What the code owes is `FramePromise` (`specs/Promise.antt`): in every world and wherever it stands, from every state that is ready for the call
-//! (`specs/Calls.antt`, by the integer calling convention of the RISC-V ELF psABI), the machine performs what the code on bytes runs (`specs/Performs.antt`), in
+//! What the code owes is `FramePromise` (`specs/Performs.antt`): in every world and wherever it stands, from every state that is ready for the call
+//! (`specs/Performs.antt`, by the integer calling convention of the RISC-V ELF psABI), the machine performs what the code on bytes runs (`specs/Performs.antt`), in
 //! at most 32 instructions for each unit of weight and 256 for each call, with at most 40,000 turns between two instructions; and it takes no more stack than the
-//! language counts for the function. `specs/Layout.antt` says where things stand in a frame, `specs/Emission.antt` which instructions a line becomes.
+//! language counts for the function. `specs/Performs.antt` says where things stand in a frame, `specs/Emission.antt` which instructions a line becomes.
 //!
 //! A name's address has an upper part, which `lui` makes, and a lower one, which the next instruction takes as its immediate: `addi`, or the load or the store that
 //! wanted the address, or the jump of a call. What makes it right is that names have addresses below 2^30.

@@ -4,9 +4,9 @@ ghost use Rattle.std.specs.Prelude.{◌≡◌, ◌+◌, ◌^◌, ◌<◌, ◌≤
 ghost use Rattle.std.specs.List.{list_all, sum_by};
 ghost use Rattle.rv_isa.specs.declared.labelled.Item.TheVariants.{Label};
 ghost use Rattle.vcode.specs.Prelude.{alloc_bytes, passes_few};
-ghost use Rattle.frame_ways.specs.Marks.{mark_at};
+ghost use Rattle.frame_ways.specs.Plans.{mark_at};
 ghost use Rattle.abi_frames.specs.Emission.{body_items, rows, prologue};
-ghost use Rattle.abi_frames.specs.Parts.{bare_layout, outer_layout, part_items, marked_body, ends_items, marked_items};
+ghost use Rattle.abi_frames.specs.Functions.{bare_layout, outer_layout, part_items, marked_body, ends_items, marked_items};
 
 use crate::ends::{push_epilogue, push_prologue};
 use crate::entry::push_entry;

@@ -1,7 +1,6 @@
 //! Operands of lines: numbers, eight bytes of the frame, addresses.
 ghost use Rattle.std.specs.Prelude.{◌≡◌, ◌+◌, ◌-◌, ◌*◌, ◌%◌, ◌^◌, ◌<◌, nat_eq, if◌then◌else◌, [], ◌∷◌, ◌++◌, OnOk};
-ghost use Rattle.operation_code.specs.Constants.{constant, word};
-ghost use Rattle.operation_code.specs.Fields.{add_low, extend};
+ghost use Rattle.operation_code.specs.Constants.{constant, word, add_low, extend};
 ghost use Rattle.abi_frames.specs.Emission.{load_slot, store_slot, address_at, slot_offset, into, fetch, source, word_into, word_fetch, word_source, target, deliver};
 
 use crate::layout::Layout;

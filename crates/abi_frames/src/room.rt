@@ -2,7 +2,7 @@
 ghost use Rattle.il_ast.specs.declared.limits.TheConstants.{ALLOC_BYTES};
 ghost use Rattle.std.specs.Prelude.{◌≡◌, ◌≤◌, sum_by};
 ghost use Rattle.vcode.specs.Prelude.{alloc_bytes, area};
-ghost use Rattle.abi_frames.specs.Layout.{args_on_stack, most_in_lines, most_in_blocks, outgoing};
+ghost use Rattle.abi_frames.specs.Performs.{args_on_stack, most_in_lines, most_in_blocks, outgoing};
 
 use rv_isa::abi;
 use vcode::{Block, Code, Line, Location};

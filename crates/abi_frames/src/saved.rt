@@ -1,8 +1,7 @@
 //! Which registers a function saves.
 ghost use Rattle.std.specs.Prelude.{◌≡◌, ◌++◌, ◌<◌, ◌≤◌, ◌||◌, ℕ, false, filter, length, OnOk, IfOk};
 ghost use Rattle.std.specs.List.{list_any};
-ghost use Rattle.abi_frames.specs.Layout.{is_register, writes, block_writes, is_written, written_of, callee_saved, is_call, block_calls, return_address, saved_registers};
-ghost use Rattle.abi_frames.specs.Marked.{is_marked};
+ghost use Rattle.abi_frames.specs.Performs.{is_register, writes, block_writes, is_written, written_of, callee_saved, is_call, block_calls, return_address, saved_registers, is_marked};
 
 use rv_isa::abi;
 use std::alloc::{AllocError, Global};

@@ -3,7 +3,7 @@ ghost use Rattle.std.specs.Prelude.{◌≡◌, ◌≤◌, IsTrue, nat_le};
 ghost use Rattle.std.specs.List.{list_all, sum_by};
 ghost use Rattle.vcode.specs.Prelude.{turns_of};
 ghost use Rattle.abi_frames.specs.declared.pace.TheConstants.{TURN_BOUND};
-ghost use Rattle.abi_frames.specs.Layout.{falls_through};
+ghost use Rattle.abi_frames.specs.Performs.{falls_through};
 
 use crate::pace::TURN_BOUND;
 use vcode::{Block, Code, Line, Location};

@@ -25,10 +25,7 @@ use Rattle.certificates.specs.Listed.{place_in, has, with_place, with_places, wi
 use Rattle.cfg_live.specs.declared.uses.Uses.{Uses}
 use Rattle.cfg_live.specs.declared.graph.Graph.{Graph}
 use Rattle.cfg_live.specs.Registers.{with_operand, line_reads, line_writes, jump_reads}
-use Rattle.cfg_live.specs.Points.{line_uses, jump_uses, with_line, with_lines, with_block, with_blocks, uses, with_start, jump_next, after_point, next_line, next_lines, next_block, next_blocks, graph_of}
-use Rattle.cfg_live.specs.Points.{starts_after, starts}
-use Rattle.cfg_live.specs.Paths.{writes, leads}
-use Rattle.cfg_live.specs.Rows.{holds, AreLive}
+use Rattle.cfg_live.specs.Rows.{line_uses, jump_uses, with_line, with_lines, with_block, with_blocks, uses, with_start, jump_next, after_point, next_line, next_lines, next_block, next_blocks, graph_of, starts_after, starts, writes, leads, holds, AreLive}
 use Rattle.cfg_live.proofs.Counting.{block_count, uses_count}
 use Rattle.alloc_check.specs.Prelude.{place_by, starts_at, places_at, next_point, jump_point, end_point, names_once, has_lengths, is_empty, is_own, own_at, lines_own, blocks_own, start_wanted, targets_wanted, writes_to, LinesWant, names, BlocksWant, IsSlotted}
 use Rattle.alloc_check.proofs.Certifies.{from_true}

@@ -1,10 +1,6 @@
 pub mod Placed
 pub mod Kept
-pub mod Owners
 pub mod Certified
-pub mod Accepted
-pub mod OwnerTable
 pub mod Walk
 pub mod Slotted
-pub mod Laws
 pub mod Prelude

@@ -5,11 +5,11 @@
 //! where the virtual code runs as an outcome that is not undefined, the other runs as the same one, with the same calls.
 //!
 //! A certificate of `certificates` says where each register is from point to point, with moves between. `specs/Certified` has the code that it makes and what makes
-//! it sound: each line finds what it reads, and each jump what its targets ask for, as far as the owners of places are known (`specs/Owners`). The law
+//! it sound: each line finds what it reads, and each jump what its targets ask for, as far as the owners of places are known (`specs/Certified`). The law
 //! [`laws::sound_certificates_keep`] says that the code of a sound certificate keeps the virtual code.
 //!
 //! [`accept::accept`] takes a certificate from anyone and makes its code, or answers `Refused::No`. Its contract says what the code is, that it keeps the virtual
-//! code, and that the answer is no only for certificates that `specs/Accepted` doesn't accept: those that aren't sound, name places or registers that there
+//! code, and that the answer is no only for certificates that `specs/Slotted` doesn't accept: those that aren't sound, name places or registers that there
 //! aren't, have a list that is too short or too long, have for a point a register without a place or with two, have everywhere two registers in a place or two
 //! places for a register, put two parameters into one place, or move more than the ticks pay for.
 //!

@@ -7,8 +7,7 @@ use Rattle.std.proofs.lemmas.Grind.{get_or-set_at}
 use Rattle.std.proofs.lemmas.Option.{unwrap_or-slice_get}
 use Rattle.std.proofs.lemmas.Bool.{and_parts, and_from, eqb-true, ltb-true, lt-ltb, le-ltb}
 use Rattle.vcode.proofs.Lists.{item_next}
-use Rattle.block_layout.specs.Ordered.{Order, place_in, is_named, names_once}
-use Rattle.block_layout.specs.Placed.{kept_place, AreUnset, names_blocks}
+use Rattle.block_layout.specs.Ordered.{Order, place_in, is_named, names_once, kept_place, AreUnset, names_blocks}
 
 -- ---- tests
 

@@ -9,8 +9,7 @@ use Rattle.vcode.specs.declared.place.Destination.{Destination}
 use Rattle.vcode.specs.declared.code.Block.{Block}
 use Rattle.vcode.specs.declared.code.Code.{Code}
 use Rattle.cfg_live.specs.declared.uses.Uses.{Uses}
-use Rattle.cfg_live.specs.Points.{uses}
-use Rattle.cfg_live.specs.Rows.{holds}
+use Rattle.cfg_live.specs.Rows.{uses, holds}
 use Rattle.certificates.specs.declared.certificate.Equality.{Equality}
 use Rattle.certificates.specs.declared.certificate.Transfer.{Transfer}
 use Rattle.certificates.specs.declared.certificate.Certificate.{Certificate}

@@ -1,8 +1,7 @@
 //! A certificate of a list that gives each register one place.
 ghost use Rattle.std.specs.Prelude.{◌≡◌, ◌<◌, ◌^◌, ◌++◌, [], ◌∷◌, map, length, if◌then◌else◌, slice_get, OnOk, IfOk};
 ghost use Rattle.std.specs.Option.{option_map_or};
-ghost use Rattle.cfg_live.specs.Points.{uses};
-ghost use Rattle.cfg_live.specs.Rows.{holds};
+ghost use Rattle.cfg_live.specs.Rows.{uses, holds};
 ghost use Rattle.certificates.specs.Listed.{place_in, with_place, with_places, with_written, point_places, has, live_places, listed_params, end_point, listed_starts, no_moves, nothing_listed, listed};
 
 use crate::certificate::{Certificate, Equality, Transfer};

@@ -7,8 +7,7 @@ use Rattle.std.proofs.lemmas.Bool.Decides.{nat_tests}
 use Rattle.std.proofs.lemmas.Bool.{and_parts}
 use Rattle.bitset.specs.Bits.{Bits}
 use Rattle.cfg_live.specs.declared.graph.Graph.{Graph}
-use Rattle.cfg_live.specs.Paths.{reads, writes}
-use Rattle.cfg_live.specs.Rows.{holds, any_holds, next_of, flows, goes_on, Stable, SameMarks, Went}
+use Rattle.cfg_live.specs.Rows.{reads, writes, holds, any_holds, next_of, flows, goes_on, Stable, SameMarks, Went}
 use Rattle.cfg_live.proofs.Marks.{stable_same}
 
 past : (p q point : ℕ) → nat_lt p q ≡ true → point ≤ p → nat_eq q point ≡ false

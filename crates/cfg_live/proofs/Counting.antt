@@ -4,7 +4,7 @@ use Rattle.vcode.specs.declared.line.Line.{Line}
 use Rattle.vcode.specs.declared.line.Line.TheVariants.{Tick, Set, Operate, Load, Store, Alloc, Blit, Call}
 use Rattle.vcode.specs.declared.code.Block.{Block}
 use Rattle.cfg_live.specs.declared.uses.Uses.{Uses}
-use Rattle.cfg_live.specs.Points.{line_uses, jump_uses, with_line, with_lines, with_block, with_blocks, uses}
+use Rattle.cfg_live.specs.Rows.{line_uses, jump_uses, with_line, with_lines, with_block, with_blocks, uses}
 use Rattle.cfg_live.specs.Numbering.{next_point, jump_point, end_point}
 use Rattle.vcode.proofs.Lists.{item_next, one_more}
 

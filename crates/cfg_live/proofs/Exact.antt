@@ -2,9 +2,7 @@
 use Rattle.std.proofs.Common.{◌≡◌, ℕ, zero, suc, ◌<◌, true, List}
 use Rattle.bitset.specs.Bits.{Bits}
 use Rattle.cfg_live.specs.declared.graph.Graph.{Graph}
-use Rattle.cfg_live.specs.Paths.{LivePath, IsLive}
-use Rattle.cfg_live.specs.Rows.{holds, Closed}
-use Rattle.cfg_live.specs.Laws.{ClosedIsExact}
+use Rattle.cfg_live.specs.Rows.{LivePath, IsLive, holds, Closed, ClosedIsExact}
 
 on_path : (g : Graph) (registers : ℕ) (rows : List Bits) → Closed g registers rows → (r : ℕ) → r < registers → (n p : ℕ) → LivePath g r n p → holds rows p r ≡ true
 on_path g registers rows c r below zero p h = c.read p r below h

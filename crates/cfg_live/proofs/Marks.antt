@@ -7,8 +7,7 @@ use Rattle.std.proofs.lemmas.Bool.Decides.{nat_tests}
 use Rattle.std.proofs.lemmas.Bool.{or_cases, and_parts, not-true, or_left, or_right}
 use Rattle.bitset.specs.Bits.{Bits, is_member}
 use Rattle.cfg_live.specs.declared.graph.Graph.{Graph}
-use Rattle.cfg_live.specs.Paths.{reads, writes, leads, IsLive}
-use Rattle.cfg_live.specs.Rows.{holds, Justified, any_holds, next_of, flows, Stable, AreSized, Went, SameMarks, Changed}
+use Rattle.cfg_live.specs.Rows.{reads, writes, leads, IsLive, holds, Justified, any_holds, next_of, flows, Stable, AreSized, Went, SameMarks, Changed}
 
 -- ---- one set written
 

@@ -7,8 +7,7 @@ use Rattle.std.proofs.lemmas.Option.{slice_get_past}
 use Rattle.bitset.specs.Bits.{Bits, is_member}
 use Rattle.cfg_live.specs.declared.uses.Uses.{Uses}
 use Rattle.cfg_live.specs.declared.graph.Graph.{Graph}
-use Rattle.cfg_live.specs.Paths.{reads, writes, leads}
-use Rattle.cfg_live.specs.Rows.{holds, Closed, AreLive, any_holds, next_of, Stable, AreSized, AreBlank, Went}
+use Rattle.cfg_live.specs.Rows.{reads, writes, leads, holds, Closed, AreLive, any_holds, next_of, Stable, AreSized, AreBlank, Went}
 use Rattle.cfg_live.proofs.Marks.{any_of, leads-is}
 use Rattle.cfg_live.proofs.Exact.{each}
 

@@ -7,7 +7,7 @@ use Rattle.vcode.specs.declared.line.Line.{Line}
 use Rattle.vcode.specs.declared.line.Line.TheVariants.{Tick, Set, Operate, Load, Store, Alloc, Blit, Call}
 use Rattle.vcode.specs.declared.line.Jump.{Jump}
 use Rattle.vcode.specs.declared.line.Jump.TheVariants.{Goto, Branch, Return, Halt}
-pub use Rattle.vcode.specs.Writes.{line_writes}
+pub use Rattle.vcode.specs.Rewrites.{line_writes}
 
 abbrev pub with_operand : List ℕ → Operand ℕ → List ℕ
 with_operand rs (At r) = rs ++ r ∷ []

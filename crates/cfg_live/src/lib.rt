@@ -3,8 +3,8 @@
 //! Which virtual registers of a function still have a use at each of its points. Right before a point a register is live where some path of the graph from
 //! there reads it before it is written.
 //!
-//! The points are instructions and jumps, numbered from 0 in the order of the text; ticks are none. `specs/Points.antt` has them with what they read and
-//! write and which may come next, `specs/Paths.antt` what live means. [`points::graph`] makes them of a function.
+//! The points are instructions and jumps, numbered from 0 in the order of the text; ticks are none. `specs/Rows.antt` has them with what they read and
+//! write and which may come next, `specs/Rows.antt` what live means. [`points::graph`] makes them of a function.
 //!
 //! [`live::live`] answers a [`sets::Live`], whose `holds` says whether a register is live right before a point, both ways exactly; [`live::live_in`] does so
 //! of any graph. It has a set for each point, a bit for each register. The sets grow from empty ones: of few points in a few sweeps from the last point to the first,

@@ -1,7 +1,6 @@
 //! Live registers.
 ghost use Rattle.std.specs.Prelude.{◌≡◌, ◌≤◌, ◌+◌, length, OnOk, IfOk};
-ghost use Rattle.cfg_live.specs.Points.{graph_of};
-ghost use Rattle.cfg_live.specs.Rows.{AreBlank, AreLive};
+ghost use Rattle.cfg_live.specs.Rows.{graph_of, AreBlank, AreLive};
 
 use crate::graph::Graph;
 use crate::points::graph;

@@ -1,6 +1,6 @@
 //! The points of a function: its instructions and jumps.
 ghost use Rattle.std.specs.Prelude.{◌≡◌, ◌++◌, [], ◌∷◌, drop, length, slice_get, OnOk, IfOk};
-ghost use Rattle.cfg_live.specs.Points.{with_line, with_lines, with_block, with_blocks, jump_uses, next_line, next_lines, next_block, next_blocks, with_start, jump_next, uses, starts, starts_after, graph_of};
+ghost use Rattle.cfg_live.specs.Rows.{with_line, with_lines, with_block, with_blocks, jump_uses, next_line, next_lines, next_block, next_blocks, with_start, jump_next, uses, starts, starts_after, graph_of};
 
 use crate::graph::Graph;
 use crate::uses::{Uses, jump_reads, line_reads, line_writes};

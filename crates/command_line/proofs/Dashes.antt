@@ -5,9 +5,8 @@ use Rattle.std.proofs.Math.ListN.{drop_of_length-le}
 use Rattle.clap.specs.Faults.{fault_of}
 use Rattle.clap.specs.Simple.{subcommand_of}
 use Rattle.clap.specs.Walk.{Row}
-use Rattle.command_line.specs.Asked.{AsksIn, HandsOn}
+use Rattle.command_line.specs.Asked.{AsksIn, HandsOn, AskFor, dashes_at, handed_words, is_dashes, is_trace, read_words}
 use Rattle.command_line.specs.Grammar.{qbec_app}
-use Rattle.command_line.specs.Words.{AskFor, dashes_at, handed_words, is_dashes, is_trace, read_words}
 use Rattle.command_line.specs.declared.Command.{Command}
 
 abbrev text : Bor (List ℕ) → List ℕ

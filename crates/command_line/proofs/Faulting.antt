@@ -11,7 +11,7 @@ use Rattle.clap.specs.declared.error.kind.ErrorKind.TheVariants as kind
 use Rattle.clap.proofs.OnLiterals.{clap_on_literals}
 use Rattle.command_line.specs.Grammar.{qbec_app}
 use Rattle.command_line.specs.Refused.{refusal_by, refusal_of}
-use Rattle.command_line.specs.Words.{HaveFault, SaysOf, is_help}
+use Rattle.command_line.specs.Asked.{HaveFault, SaysOf, is_help}
 use Rattle.command_line.specs.declared.refusal.Refusal.{Refusal}
 
 is_free : is_simple_and_free qbec_app ≡ true

@@ -1,5 +1,4 @@
 pub mod Grammar
 pub mod Asked
 pub mod Refused
-pub mod Words
 pub mod Examples

@@ -1,7 +1,7 @@
 //! # The command line of qbec
 //!
 //! [`command_of`] takes the words after the program's name and answers what they ask for, [`Command`], or the text to show instead, [`Refusal`].
-//! Which words ask for what is its contract (`specs/Words.antt`), by the grammar in `specs/Grammar.antt`: what words mean by a grammar is `clap`'s definition. What
+//! Which words ask for what is its contract (`specs/Asked.antt`), by the grammar in `specs/Grammar.antt`: what words mean by a grammar is `clap`'s definition. What
 //! the texts say is `clap`'s too, and shown by tests alone.
 #![tactic(auto)]
 
@@ -13,9 +13,8 @@ pub mod refusal;
 ghost use Rattle.std.specs.Prelude.{◌≡◌, ◌≤◌, [], IfOk, IfErr, OnOk, length, map};
 ghost use Rattle.clap.specs.Faults.{fault_of};
 ghost use Rattle.clap.specs.Simple.{subcommand_of, subcommand_rows_of};
-ghost use Rattle.command_line.specs.Asked.{AsksIn, MayHandOn};
+ghost use Rattle.command_line.specs.Asked.{AsksIn, MayHandOn, AskFor, SaysOf, SaysWhy, dashes_at, handed_words, is_trace, read_words};
 ghost use Rattle.command_line.specs.Grammar.{qbec_app};
-ghost use Rattle.command_line.specs.Words.{AskFor, SaysOf, SaysWhy, dashes_at, handed_words, is_trace, read_words};
 
 use crate::asked::asked;
 use crate::grammar::grammar;

@@ -5,21 +5,17 @@ use Rattle.il_ast.specs.declared.value.End.{End}
 use Rattle.il_ast.specs.Prelude.{Behaviour, meaning}
 use Rattle.obj_link.specs.Prelude.{are_arguments}
 use Rattle.rv_isa.specs.Prelude.{State}
-use Rattle.elf_file.specs.Conditions.{Loads}
-use Rattle.elf_file.specs.Loaded.{Executable}
+use Rattle.elf_file.specs.Conditions.{Loads, Executable}
 use Rattle.rv_machine.specs.declared.stop.Stop.{Stop}
-use Rattle.rv_machine.specs.Runs.{RunEnds}
-use Rattle.rv_machine.specs.Start.{start_state}
-use Rattle.qbec.specs.Texts.{AreProgram}
+use Rattle.rv_machine.specs.Steps.{RunEnds, start_state}
+use Rattle.qbec.specs.Refusals.{AreProgram}
 use Rattle.shell.specs.Disk.{DiskState, Holds}
 use Rattle.shell.specs.Sink.{SinkState}
 use Rattle.commands.specs.declared.failure.Failure.{Failure}
 use Rattle.commands.specs.declared.failure.Failure.TheVariants.{Output}
 use Rattle.commands.specs.Parts.{RunsTo, RunFails, MeansTo, InterpretFails, IsTraced, IsTold, TraceFails, AllHold}
-use Rattle.commands.specs.Pieces.{RunSends, RunBreaks, FileSends, FileFails, Sent, SendingFails, LinkedFails, TextsSend, TextsFail}
+use Rattle.commands.specs.Pieces.{RunSends, RunBreaks, FileSends, FileFails, Sent, SendingFails, LinkedFails, TextsSend, TextsFail, RunsFile, TextsMean, stop_status, end_status}
 use Rattle.commands.specs.Refusals.{FileIsRefused, TextsAreRefused}
-use Rattle.commands.specs.Runs.{RunsFile, TextsMean}
-use Rattle.commands.specs.Statuses.{stop_status, end_status}
 use Rattle.commands.proofs.Refusing.{as_run}
 
 -- ---- runs of files

@@ -8,9 +8,7 @@ use Rattle.il_types.specs.declared.checked.Checked.{Checked}
 use Rattle.diagnostics.specs.declared.note.Note.{Note}
 use Rattle.qbec.specs.declared.error.CompileError.{CompileError}
 use Rattle.qbec.specs.declared.error.CompileError.TheVariants.{Syntax, Rule, UnknownName, ExportedTwice, NoMain, Limit, Memory}
-use Rattle.qbec.specs.Refusals.{Refuses}
-use Rattle.qbec.specs.Reasons.{RefusesText}
-use Rattle.qbec.specs.Texts.{AreProgram, AreTexts}
+use Rattle.qbec.specs.Refusals.{Refuses, AreProgram, AreTexts, RefusesText}
 use Rattle.qbec.proofs.ProgramLemmas.{no_refusal}
 use Rattle.qbec.proofs.TextLemmas.{bytes_of, text_refused}
 use Rattle.commands.specs.declared.verdict.Finding.{Finding}

@@ -2,8 +2,7 @@
 use Rattle.std.proofs.Common.{◌≡◌, ℕ, List, Bor, Vec, Global, Result, Ok, Err, IfOk, IfErr, OnOk, OnErr, subst, inl, inr}
 use Rattle.shell.specs.Disk.{DiskState}
 use Rattle.qbec.specs.declared.error.CompileError.{CompileError}
-use Rattle.qbec.specs.Compile.{IsCompiled}
-use Rattle.qbec.specs.Refusals.{Refuses as RefusesTexts}
+use Rattle.qbec.specs.Refusals.{IsCompiled, Refuses as RefusesTexts}
 use Rattle.commands.specs.declared.failure.Failure.{Failure}
 use Rattle.commands.specs.declared.failure.Failure.TheVariants.{Refused}
 use Rattle.commands.specs.Refusals.{compile_refusal}

@@ -4,8 +4,7 @@ use Rattle.il_ast.specs.declared.program.Program.{Program}
 use Rattle.il_interp.specs.declared.error.RunError.{RunError}
 use Rattle.il_interp.specs.Begun.{Refuses as RefusesWords}
 use Rattle.qbec.specs.declared.error.CompileError.{CompileError}
-use Rattle.qbec.specs.Texts.{AreProgram}
-use Rattle.qbec.specs.Refusals.{Refuses as RefusesTexts}
+use Rattle.qbec.specs.Refusals.{AreProgram, Refuses as RefusesTexts}
 use Rattle.commands.specs.declared.refusal.Refusal.{Refusal}
 use Rattle.commands.specs.declared.failure.Failure.{Failure}
 use Rattle.commands.specs.declared.failure.Failure.TheVariants.{Refused}

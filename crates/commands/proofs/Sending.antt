@@ -3,13 +3,13 @@ use Rattle.std.proofs.Common.{◌≡◌, ◌≢◌, ℕ, ◌+◌, ◌-◌, ◌�
 use Rattle.rv_isa.specs.Prelude.{State}
 use Rattle.rv_machine.specs.declared.stop.Stop.{Stop}
 use Rattle.rv_machine.specs.declared.stop.Stop.TheVariants.{Limit}
-use Rattle.rv_machine.specs.Pieces.{IsPiece, emptied}
+use Rattle.rv_machine.specs.Steps.{IsPiece, emptied}
 use Rattle.rv_machine.proofs.PieceLaws.{Leads, begins, leads_here, leads_on, leads_to_end, leads_to_stop}
 use Rattle.il_ast.specs.declared.value.End.{End}
 use Rattle.il_ast.specs.declared.value.End.TheVariants.{Turns}
 use Rattle.il_ast.specs.Prelude.{Behaviour}
 use Rattle.il_interp.specs.declared.pieces.Running.{Running}
-use Rattle.il_interp.specs.Pieces.{comes_to, ending_of, held, left_of, put_before}
+use Rattle.il_interp.specs.Machine.{comes_to, ending_of, held, left_of, put_before}
 use Rattle.il_interp.proofs.PieceLaws.{left_begins, left_goes, left_over, no_turns, whole_piece}
 use Rattle.shell.specs.Sink.{SinkState, Went, Sends, Breaks, one_more}
 use Rattle.shell.proofs.SinkLemmas.{went_more}

@@ -5,7 +5,7 @@ use Rattle.il_ast.specs.declared.value.End.TheVariants.{Exit, Undefined}
 use Rattle.il_ast.specs.Prelude.{meaning}
 use Rattle.rv_isa.specs.Prelude.{State, Exited, Broken}
 use Rattle.headline.specs.Headline.{Executes, StopsSo, GoesOnSo}
-use Rattle.stack_bound.specs.Laws.{StaysInStack}
+use Rattle.stack_bound.specs.Bounds.{StaysInStack}
 
 -- at so many turns the machine exits, halts or goes on as the program does
 abbrev pub DoesAsMuch : Program → (words : List (List ℕ)) → (turns : ℕ) → State → Type 0

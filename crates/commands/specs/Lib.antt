@@ -1,13 +1,9 @@
-pub mod Statuses
 pub mod Messages
-pub mod Examples
-pub mod Runs
 pub mod Refusals
 pub mod Verdicts
 pub mod Pieces
 pub mod StackLines
 pub mod Bounded
 pub mod Parts
-pub mod Listings
 pub mod Commands
 pub mod Exits

@@ -6,25 +6,20 @@ use Rattle.std.specs.Borrow.{Bor}
 use Rattle.il_ast.specs.declared.value.End.{End}
 use Rattle.rv_machine.specs.declared.stop.Stop.{Stop}
 use Rattle.elf_file.specs.declared.error.LoadError.{LoadError}
-use Rattle.elf_file.specs.Loaded.{Executable}
-use Rattle.elf_file.specs.Conditions.{Loads}
-use Rattle.elf_file.specs.Refusals.{Refuses as RefusesFile}
+use Rattle.elf_file.specs.Conditions.{Executable, Loads, Refuses as RefusesFile}
 use Rattle.shell.specs.declared.disk.Access.TheVariants.{Read, Write}
 use Rattle.shell.specs.declared.disk.FileFault.TheVariants.{Device, Memory as NoRoom}
 use Rattle.shell.specs.Disk.{DiskState, Files, Holds, Spares, failed, with_fault}
 use Rattle.shell.specs.Sink.{SinkState, Sends, Breaks, Tells}
 use Rattle.shell.specs.Lines.{dis_lines}
 use Rattle.qbec.specs.declared.error.CompileError.{CompileError}
-use Rattle.qbec.specs.Compile.{IsCompiled}
-use Rattle.qbec.specs.Refusals.{Refuses as RefusesTexts}
+use Rattle.qbec.specs.Refusals.{IsCompiled, Refuses as RefusesTexts}
 use Rattle.commands.specs.declared.refusal.Refusal.TheVariants.{File}
 use Rattle.commands.specs.declared.failure.Failure.{Failure}
 use Rattle.commands.specs.declared.failure.Failure.TheVariants.{Memory, Refused, Unread, Unwritten, Output}
-use Rattle.commands.specs.Pieces.{TextsBreak, TextsCutOff, not_run}
-use Rattle.commands.specs.Runs.{RunsFile, TextsMean}
+use Rattle.commands.specs.Pieces.{TextsBreak, TextsCutOff, not_run, RunsFile, TextsMean, stop_status, end_status, status_of}
 use Rattle.commands.specs.Refusals.{compile_refusal, FileIsRefused, TextsAreRefused}
 use Rattle.commands.specs.Messages.{line_of}
-use Rattle.commands.specs.Statuses.{stop_status, end_status, status_of}
 use Rattle.commands.specs.declared.verdict.Verdict.{Verdict}
 use Rattle.commands.specs.Verdicts.{IsVerdict, verdict_status, verdict_lines}
 

@@ -1,20 +1,44 @@
 -- What runs put out, while they run: all of it went out, or a beginning of it.
-use Rattle.std.specs.Prelude.{◌≡◌, ◌≤◌, ◌⊎◌, ℕ, Bool, true, List}
-use Rattle.rv_isa.specs.Prelude.{State}
-use Rattle.rv_machine.specs.declared.stop.Stop.{Stop}
-use Rattle.rv_machine.specs.Runs.{RunEnds}
+use Rattle.std.specs.Prelude.{◌≡◌, ℕ, true, List, ◌≤◌, ◌⊎◌, Bool, Result, Ok, Err}
+use Rattle.il_ast.specs.declared.program.Program.{Program}
 use Rattle.il_ast.specs.declared.value.End.{End}
-use Rattle.il_ast.specs.declared.value.End.TheVariants.{Turns}
-use Rattle.il_ast.specs.Prelude.{Behaviour}
+use Rattle.il_ast.specs.Prelude.{meaning, Behaviour}
+use Rattle.elf_file.specs.Conditions.{Loads, Executable}
+use Rattle.obj_link.specs.Prelude.{are_arguments}
+use Rattle.rv_machine.specs.declared.stop.Stop.{Stop}
+use Rattle.rv_machine.specs.Steps.{RunEnds, start_state}
+use Rattle.qbec.specs.Refusals.{AreProgram}
+use Rattle.rv_isa.specs.Prelude.{State}
+use Rattle.il_ast.specs.declared.value.End.TheVariants.{Turns, Exit as Ends, Halt as Halts, Undefined as IsUndefined, Stack as NoRoom}
 use Rattle.il_interp.specs.declared.error.RunError.{RunError}
 use Rattle.il_interp.specs.declared.error.RunError.TheVariants.{Memory as NotRun}
 use Rattle.il_interp.specs.Begun.{Refuses as RefusesWords}
-use Rattle.obj_link.specs.Prelude.{are_arguments}
 use Rattle.shell.specs.Sink.{SinkState, Sends, Breaks}
 use Rattle.commands.specs.declared.failure.Failure.{Failure}
-use Rattle.commands.specs.declared.failure.Failure.TheVariants.{Refused, Output}
+use Rattle.commands.specs.declared.failure.Failure.TheVariants.{Refused, Output, Halt, Limit, Fault, Undefined, Stack, Memory}
 use Rattle.commands.specs.Refusals.{run_refusal, FileIsRefused, TextsAreRefused}
-use Rattle.commands.specs.Runs.{RunsFile, TextsMean}
+use Rattle.rv_isa.specs.declared.fault.Fault.{Fault as MachineFault}
+use Rattle.rv_isa.specs.declared.fault.Fault.TheVariants.{UnknownInstruction, Fetch, Load, Store, SystemCall}
+use Rattle.rv_machine.specs.declared.stop.Stop.TheVariants.{Exit as Exits, Break, Limit as NotStopped, Memory as NoMemory, Fault as Faults}
+
+-- ---- what runs of files and of texts answer
+
+-- the bytes load as a file, which the machine runs so, from its start with these words, which are
+-- within their limits; or it stops for want of memory
+pub record RunsFile (bytes : List ℕ) (words : List (List ℕ)) (limit : ℕ) (output : List ℕ)
+    (stop : Stop) : Type 0 where
+  pub file : Executable
+  pub loads : Loads bytes file
+  pub fit : are_arguments words ≡ true
+  pub ends : RunEnds true limit (start_state file words) output stop
+
+-- the texts are a program, which with these words, within their limits, means this output and this
+-- end
+pub record TextsMean (texts words : List (List ℕ)) (turns : ℕ) (output : List ℕ) (ending : End) : Type 0 where
+  pub program : Program
+  pub is : AreProgram texts program
+  pub fit : are_arguments words ≡ true
+  pub means : meaning program words turns ≡ record { output = output; ending = ending }
 
 -- ---- the machine
 
@@ -114,3 +138,38 @@ unfoldable pub TextsFail : (texts words : List (List ℕ)) (turns : ℕ) (old ne
 TextsFail texts words turns old new f =
     (TextsAreRefused texts words f × (new ≡ old)) ⊎ (TextsBreak texts words turns old new × (f ≡ Output))
     ⊎ (TextsCutOff texts words turns old new × (f ≡ not_run))
+
+-- ---- exit statuses
+
+-- 128 and SIGABRT for a halt, 124 as timeout(1) answers, 125 for what the program did wrong, and
+-- 126 for what was not run
+abbrev pub status_of : Failure → ℕ
+status_of Halt = 134
+status_of Limit = 124
+status_of (Fault number pc) = 125
+status_of Undefined = 125
+status_of Stack = 125
+status_of _ = 126
+
+abbrev pub fault_number : MachineFault → ℕ
+fault_number UnknownInstruction = 1
+fault_number Fetch = 2
+fault_number Load = 3
+fault_number Store = 4
+fault_number SystemCall = 5
+
+-- how a run of the machine ended: its exit status, or a failure
+abbrev pub stop_status : Stop → Result ℕ Failure
+stop_status (Exits status) = Ok status
+stop_status Break = Err Halt
+stop_status NotStopped = Err Limit
+stop_status NoMemory = Err Memory
+stop_status (Faults fault pc) = Err (Fault (fault_number fault) pc)
+
+-- how a run of the interpreter ended
+abbrev pub end_status : End → Result ℕ Failure
+end_status (Ends status) = Ok status
+end_status Halts = Err Halt
+end_status IsUndefined = Err Undefined
+end_status NoRoom = Err Stack
+end_status Turns = Err Limit

@@ -5,16 +5,13 @@ use Rattle.il_types.specs.Prelude.{rule_number}
 use Rattle.il_interp.specs.declared.error.RunError.{RunError}
 use Rattle.il_interp.specs.declared.error.RunError.TheVariants.{Words as WordsRefused, Memory as NotRun}
 use Rattle.il_interp.specs.Begun.{Refuses as RefusesWords}
-use Rattle.elf_file.specs.Conditions.{Loads}
-use Rattle.elf_file.specs.Refusals.{Refuses as RefusesFile}
-use Rattle.elf_file.specs.Loaded.{Executable}
+use Rattle.elf_file.specs.Conditions.{Loads, Executable, Refuses as RefusesFile}
 use Rattle.obj_link.specs.Prelude.{are_arguments}
 use Rattle.rv_machine.specs.declared.start.StartError.{StartError}
 use Rattle.rv_machine.specs.declared.start.StartError.TheVariants.{Arguments, Memory as NotStarted}
 use Rattle.qbec.specs.declared.error.CompileError.{CompileError}
 use Rattle.qbec.specs.declared.error.CompileError.TheVariants.{Syntax as NoText, Rule as Broken, UnknownName as Unknown, ExportedTwice as Twice, NoMain as NotMain, Limit as TooMuch, Memory as NotCompiled}
-use Rattle.qbec.specs.Texts.{AreProgram}
-use Rattle.qbec.specs.Refusals.{Refuses as RefusesTexts}
+use Rattle.qbec.specs.Refusals.{AreProgram, Refuses as RefusesTexts}
 use Rattle.commands.specs.declared.refusal.Refusal.{Refusal}
 use Rattle.commands.specs.declared.refusal.Refusal.TheVariants.{Syntax, Rule, UnknownName, ExportedTwice, NoMain, Limit, Memory, Words, File}
 use Rattle.commands.specs.declared.failure.Failure.{Failure}

@@ -10,9 +10,8 @@ use Rattle.il_types.specs.declared.checked.Checked.{Checked}
 use Rattle.il_types.specs.Prelude.{capped}
 use Rattle.obj_link.specs.Prelude.{symbol_name, IsProgram}
 use Rattle.stack_bound.specs.declared.bounds.Bounds.{Bounds}
-use Rattle.stack_bound.specs.Bounds.{AreBounds, bound_of}
-use Rattle.stack_bound.specs.Laws.{IsEnough, StaysInStack}
-use Rattle.qbec.specs.Texts.{AreTexts}
+use Rattle.stack_bound.specs.Bounds.{AreBounds, bound_of, IsEnough, StaysInStack}
+use Rattle.qbec.specs.Refusals.{AreTexts}
 
 -- a bound, or a dash where there is none
 abbrev pub bound_text : Option ℕ → List ℕ

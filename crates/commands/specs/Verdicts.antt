@@ -7,8 +7,7 @@ use Rattle.obj_link.specs.Prelude.{within_limits, functions_of, objects_of}
 use Rattle.diagnostics.specs.declared.note.Note.{Note}
 use Rattle.qbec.specs.declared.error.CompileError.{CompileError}
 use Rattle.qbec.specs.declared.error.CompileError.TheVariants.{Syntax, Rule, UnknownName, ExportedTwice, NoMain, Limit, Memory}
-use Rattle.qbec.specs.Texts.{AreProgram, AreTexts}
-use Rattle.qbec.specs.Refusals.{OfAll, OfText, PassesLimit, Refuses}
+use Rattle.qbec.specs.Refusals.{AreProgram, AreTexts, OfAll, OfText, PassesLimit, Refuses}
 use Rattle.commands.specs.declared.verdict.Finding.{Finding}
 use Rattle.commands.specs.declared.verdict.Verdict.{Verdict}
 use Rattle.commands.specs.declared.verdict.Verdict.TheVariants.{Sound, Refused}

@@ -3,7 +3,7 @@ ghost use Rattle.std.specs.Prelude.{◌≡◌, true, false, map, IfOk, IfErr, On
 ghost use Rattle.shell.specs.Sink.{Tells};
 ghost use Rattle.commands.specs.Commands.{Done, Fails, Ends, IsExplained, IsHelp, IsMistake, IsShown, is_explained};
 ghost use Rattle.commands.specs.Messages.{line_of};
-ghost use Rattle.commands.specs.Statuses.{status_of};
+ghost use Rattle.commands.specs.Pieces.{status_of};
 
 use crate::build::build;
 use crate::check::{check, tell_lines};

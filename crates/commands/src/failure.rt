@@ -1,6 +1,6 @@
 //! Why a command did not end well.
 ghost use Rattle.std.specs.Prelude.{◌≡◌};
-ghost use Rattle.commands.specs.Statuses.{fault_number, status_of, stop_status, end_status};
+ghost use Rattle.commands.specs.Pieces.{fault_number, status_of, stop_status, end_status};
 
 use crate::refusal::Refusal;
 use elf_file::LoadError;

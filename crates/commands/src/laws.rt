@@ -1,6 +1,6 @@
 //! What is proved of the definitions, as the contract of a function that does nothing.
 ghost use Rattle.commands.specs.Bounded.{StayingIsExecuted};
-ghost use Rattle.commands.specs.Examples.{Examples};
+ghost use Rattle.commands.specs.Messages.{Examples};
 ghost use Rattle.commands.specs.Verdicts.{ProgramsAreSound};
 
 /// The lines of some failures.

@@ -5,7 +5,7 @@
 //!
 //! - [`runs::run_file`] runs the executable file of some bytes, exactly as the machine of the definitions does, and puts out what it puts out while it runs.
 //! - [`runs::interpret_texts`] interprets texts, exactly as their program means.
-//! - [`failure::Failure`] says why a command did not end well; its status is that of `specs/Statuses.antt`, and which failure a refusal becomes, and what
+//! - [`failure::Failure`] says why a command did not end well; its status is that of `specs/Pieces.antt`, and which failure a refusal becomes, and what
 //!   it says of the file or of the text, is that of `specs/Refusals.antt`.
 //! - [`verdict::judge`] finds what is wrong with texts, and where; what it says of them, and the lines that show it, is that of `specs/Verdicts.antt`.
 //! - [`invoke::invoke`] does what the words of a process ask for, and answers the process's status; how it ends is that of `specs/Exits.antt`.

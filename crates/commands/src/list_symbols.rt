@@ -1,6 +1,6 @@
 //! `qbec symbols`.
 ghost use Rattle.std.specs.Prelude.{◌≡◌, map, IfOk, OnOk, IfErr};
-ghost use Rattle.commands.specs.Listings.{AreListed, ListingFails, IsPut, IsUnput, SymbolsAreShown, SymbolsFail};
+ghost use Rattle.commands.specs.Commands.{AreListed, ListingFails, IsPut, IsUnput, SymbolsAreShown, SymbolsFail};
 
 use crate::explanation::Explanation;
 use crate::failure::Failure;

@@ -1,8 +1,7 @@
 //! Programs that are run piece by piece, so that what they put out goes out while they run.
 ghost use Rattle.std.specs.Prelude.{◌≡◌, ◌<◌, ◌≤◌, [], IfOk, IfErr, OnErr};
-ghost use Rattle.rv_machine.specs.Decoded.{IsDecoded};
-ghost use Rattle.rv_machine.specs.Machine.{view};
-ghost use Rattle.il_interp.specs.Pieces.{comes_to, held};
+ghost use Rattle.rv_machine.specs.Entries.{IsDecoded, view};
+ghost use Rattle.il_interp.specs.Machine.{comes_to, held};
 ghost use Rattle.commands.specs.declared.failure.Failure.TheVariants.{Output};
 ghost use Rattle.commands.specs.declared.pieces.TheConstants.{PIECE};
 ghost use Rattle.commands.specs.Pieces.{RunBreaks, RunSends, SendingFails, Sent};

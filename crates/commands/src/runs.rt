@@ -3,9 +3,9 @@ ghost use Rattle.std.specs.Prelude.{◌≡◌, ◌↔◌, ℕ, List, map, true, 
 ghost use Rattle.il_ast.specs.Prelude.{meaning};
 ghost use Rattle.obj_link.specs.Prelude.{are_arguments, program};
 ghost use Rattle.rv_machine.specs.declared.start.StartError.TheVariants.{Arguments};
-ghost use Rattle.rv_machine.specs.Machine.{view};
-ghost use Rattle.rv_machine.specs.Start.{start_state};
-ghost use Rattle.qbec.specs.Texts.{AreTexts};
+ghost use Rattle.rv_machine.specs.Entries.{view};
+ghost use Rattle.rv_machine.specs.Steps.{start_state};
+ghost use Rattle.qbec.specs.Refusals.{AreTexts};
 ghost use Rattle.commands.specs.Pieces.{FileFails, FileSends, LinkedFails, Sent, TextsFail, TextsSend};
 
 use crate::failure::Failure;

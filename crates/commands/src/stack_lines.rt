@@ -3,8 +3,7 @@ ghost use Rattle.std.specs.Prelude.{◌≡◌, ◌++◌, map, IfOk, IfErr, OnOk,
 ghost use Rattle.il_ast.specs.declared.program.Program.{Program};
 ghost use Rattle.obj_link.specs.Prelude.{IsProgram, program, shown};
 ghost use Rattle.qbec.specs.declared.error.CompileError.TheVariants.{Memory};
-ghost use Rattle.qbec.specs.Refusals.{Refuses};
-ghost use Rattle.qbec.specs.Texts.{AreProgram};
+ghost use Rattle.qbec.specs.Refusals.{Refuses, AreProgram};
 ghost use Rattle.stack_bound.specs.Bounds.{AreBounds, bound_of};
 ghost use Rattle.il_ast.specs.declared.value.Callee.TheVariants.{Defined};
 ghost use Rattle.commands.specs.StackLines.{IsLastLine, ShowsProgram, ShowsStack, bound_text, place_words, stack_line, stack_lines, use_line};

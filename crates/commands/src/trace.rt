@@ -1,7 +1,7 @@
 //! `qbec trace`.
 ghost use Rattle.std.specs.Prelude.{◌≡◌, map, IfOk, OnOk, OnErr, IfErr};
 ghost use Rattle.commands.specs.Parts.{IsTold, IsTraced, TraceFails};
-ghost use Rattle.commands.specs.Statuses.{end_status};
+ghost use Rattle.commands.specs.Pieces.{end_status};
 
 use crate::explanation::Explanation;
 use crate::failure::{Failure, end_status};

@@ -1,9 +1,9 @@
 //! Texts that are interpreted, with where and why that ended.
 ghost use Rattle.std.specs.Prelude.{◌≡◌, [], map, true, IfOk, OnOk, IfErr};
 ghost use Rattle.il_ast.specs.Prelude.{meaning};
-ghost use Rattle.il_interp.specs.Pieces.{comes_to, held};
+ghost use Rattle.il_interp.specs.Machine.{comes_to, held};
 ghost use Rattle.obj_link.specs.Prelude.{are_arguments, program};
-ghost use Rattle.qbec.specs.Texts.{AreTexts};
+ghost use Rattle.qbec.specs.Refusals.{AreTexts};
 ghost use Rattle.commands.specs.Pieces.{LinkedFails, SendingFails, Sent, TextsFail, TextsSend};
 
 use crate::failure::Failure;

@@ -2,9 +2,7 @@
 ghost use Rattle.std.specs.Prelude.{◌≡◌, ◌≢◌, ◌+◌, ◌++◌, ◌∷◌, [], ℕ, List, map, IfOk, OnOk};
 ghost use Rattle.obj_link.specs.Prelude.{Refuses as RefusesLinking};
 ghost use Rattle.qbec.specs.declared.error.CompileError.TheVariants.{Memory};
-ghost use Rattle.qbec.specs.Refusals.{Refuses};
-ghost use Rattle.qbec.specs.Reasons.{RefusesText};
-ghost use Rattle.qbec.specs.Texts.{AreTexts};
+ghost use Rattle.qbec.specs.Refusals.{Refuses, AreTexts, RefusesText};
 ghost use Rattle.commands.specs.Verdicts.{AreTrue, IsFinding, IsTrue, IsVerdict, StandsAt, verdict_status};
 
 use crate::other_lines::{OtherLines, other_lines};

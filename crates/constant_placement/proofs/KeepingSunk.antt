@@ -12,8 +12,7 @@ use Rattle.vcode.proofs.Measuring.{Measured, Empty, Put, SetIn, within_tested, E
 use Rattle.vcode.proofs.Results.{Serves, Owed, owed_each}
 use Rattle.constant_placement.specs.declared.sinking.known.Known.{Known}
 use Rattle.constant_placement.specs.declared.sinking.known.Plan.{Plan}
-use Rattle.constant_placement.specs.Known.{plan_at}
-use Rattle.constant_placement.specs.Sunk.{set_line, with_sets, is_low, Sinks, Sets, Stays, AllSunk}
+use Rattle.constant_placement.specs.Known.{plan_at, set_line, with_sets, is_low, Sinks, Sets, Stays, AllSunk}
 use Rattle.constant_placement.proofs.RunningSunk.{runs}
 
 -- ---- what lines take

@@ -24,8 +24,7 @@ use Rattle.vcode.proofs.Leading.{LeadsTo, Arriving, jump_itself_alike}
 use Rattle.vcode.proofs.Rewriting.{rewrites_keep}
 use Rattle.constant_placement.specs.declared.sinking.known.Known.{Known}
 use Rattle.constant_placement.specs.declared.sinking.known.Plan.{Plan}
-use Rattle.constant_placement.specs.Known.{same, is_planned, sets, known_behind, known_at_end, stay_known, plan_at, are_known, leads_well}
-use Rattle.constant_placement.specs.Sunk.{set_line, with_sets, Sinks, Sets, Stays, IsSunk, AllSunk}
+use Rattle.constant_placement.specs.Known.{same, is_planned, sets, known_behind, known_at_end, stay_known, plan_at, are_known, leads_well, set_line, with_sets, Sinks, Sets, Stays, IsSunk, AllSunk}
 use Rattle.il_ast.proofs.Truth.{equal_turned}
 
 -- ---- what is claimed

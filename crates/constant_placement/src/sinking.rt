@@ -1,4 +1,4 @@
-//! A pass on virtual code, the sinking of partially dead assignments of numbers. [`sink::sink_constants`] sets registers that hold numbers again in blocks that want them (`specs/Sunk`): a text sets ten variables to 0 in
+//! A pass on virtual code, the sinking of partially dead assignments of numbers. [`sink::sink_constants`] sets registers that hold numbers again in blocks that want them (`specs/Known`): a text sets ten variables to 0 in
 //! front of a branch though one way behind it reads none of them. Each such line sets a register to what it holds already. `dead_code`, which goes behind
 //! this pass, then drops the lines in front of the branch, whose values nobody reads any more.
 //!

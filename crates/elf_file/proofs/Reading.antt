@@ -7,10 +7,7 @@ use Rattle.elf_file.specs.declared.flags.Flags.{Flags}
 use Rattle.elf_file.specs.declared.headers.ProgramHeader.{ProgramHeader}
 use Rattle.elf_file.specs.declared.error.LoadError.{LoadError}
 use Rattle.elf_file.specs.declared.error.LoadError.TheVariants.{CutOff, OtherKind, OutOfRange, Misplaced, BadEntry, Memory}
-use Rattle.elf_file.specs.Headers.{file_header, program_header}
-use Rattle.elf_file.specs.Loaded.{Mapping, Executable, IsMapping, IsExecutable, has_entry}
-use Rattle.elf_file.specs.Conditions.{HasHeaders, Maps, MapsAll, Loads, lowest, is_loadable, is_placed}
-use Rattle.elf_file.specs.Refusals.{Refuses, RefusesSegment}
+use Rattle.elf_file.specs.Conditions.{file_header, program_header, Mapping, Executable, IsMapping, IsExecutable, has_entry, HasHeaders, Maps, MapsAll, Loads, lowest, is_loadable, is_placed, Refuses, RefusesSegment}
 
 -- no segment before the first
 pub MapsAll-none : (file : List ℕ) → MapsAll file 0 []

@@ -6,9 +6,8 @@ use Rattle.std.proofs.lemmas.Bool.Decides.{nat_tests}
 use Rattle.obj_link.specs.Prelude.{Contents, code_start, code_size, data_start}
 use Rattle.elf_file.specs.declared.flags.Flags.{Flags}
 use Rattle.elf_file.specs.declared.flags.Flags.TheVariants.{Execute, ReadWrite}
-use Rattle.elf_file.specs.Loaded.{Mapping, holds, byte_of, byte_in, flags_in, mapping_at}
+use Rattle.elf_file.specs.Conditions.{Mapping, holds, byte_of, byte_in, flags_in, mapping_at, Stands}
 use Rattle.elf_file.specs.File.{code_bytes, code_mapping, data_mappings, executable_of}
-use Rattle.elf_file.specs.Stands.{Stands}
 use Rattle.elf_file.proofs.Writing.{round_to_page-above}
 
 -- byte j of word k

@@ -15,9 +15,7 @@ use Rattle.elf_file.specs.declared.fields.Field.{Field}
 use Rattle.elf_file.specs.declared.fields.Field.TheVariants.{Half, Word, Xword}
 use Rattle.elf_file.specs.declared.headers.FileHeader.{FileHeader}
 use Rattle.elf_file.specs.declared.headers.ProgramHeader.{ProgramHeader}
-use Rattle.elf_file.specs.Headers.{field, file_header, program_header, program_header_at}
-use Rattle.elf_file.specs.Loaded.{Mapping, Executable, has_entry, holds_instruction}
-use Rattle.elf_file.specs.Conditions.{e_ident, HasHeaders, Maps, Loads, lowest, is_loadable}
+use Rattle.elf_file.specs.Conditions.{field, file_header, program_header, program_header_at, Mapping, Executable, has_entry, holds_instruction, e_ident, HasHeaders, Maps, Loads, lowest, is_loadable}
 
 -- the width of a field, and its number
 abbrev width : Field → ℕ

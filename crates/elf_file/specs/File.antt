@@ -11,8 +11,7 @@ use Rattle.elf_file.specs.declared.fields.Field.{Field}
 use Rattle.elf_file.specs.declared.fields.Field.TheVariants.{Half, Word, Xword}
 use Rattle.elf_file.specs.declared.headers.FileHeader.{FileHeader}
 use Rattle.elf_file.specs.declared.headers.ProgramHeader.{ProgramHeader}
-use Rattle.elf_file.specs.Conditions.{e_ident}
-use Rattle.elf_file.specs.Loaded.{Mapping, Executable}
+use Rattle.elf_file.specs.Conditions.{e_ident, Mapping, Executable}
 
 -- the bytes of a field, lowest first (ELFDATA2LSB)
 abbrev pub field_bytes : Field → List ℕ

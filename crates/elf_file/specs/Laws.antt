@@ -1,7 +1,6 @@
 -- A law of what files load as.
 use Rattle.std.specs.Prelude.{◌≡◌, ℕ, List}
-use Rattle.elf_file.specs.Loaded.{Executable}
-use Rattle.elf_file.specs.Conditions.{Loads}
+use Rattle.elf_file.specs.Conditions.{Executable, Loads}
 
 -- a file loads as one executable at most
 abbrev pub LoadsOnce : Type 0

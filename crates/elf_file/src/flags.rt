@@ -14,7 +14,7 @@ pub enum Flags {
 }
 
 impl Flags {
-    ghost use Rattle.elf_file.specs.Flags.{flags_of, is_executable, is_readable, is_writable};
+    ghost use Rattle.elf_file.specs.Conditions.{flags_of, is_executable, is_readable, is_writable};
     ghost use Rattle.elf_file.specs.File.{flags_number};
 
     /// The flags of a `p_flags`; `None` for a number that is none of the four.

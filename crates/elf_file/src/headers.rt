@@ -1,5 +1,5 @@
 ghost use Rattle.std.specs.Prelude.{◌≡◌, ◌+◌, ◌≤◌, length};
-ghost use Rattle.elf_file.specs.Headers.{field, file_header, program_header_at};
+ghost use Rattle.elf_file.specs.Conditions.{field, file_header, program_header_at};
 
 use byteorder::{ByteOrder, LittleEndian};
 

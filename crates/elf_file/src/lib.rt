@@ -4,14 +4,14 @@
 //! starts from, or refuses it by a number.
 //!
 //! - `write_image` gives exactly `file_of` of `specs/File.antt`: the file's header, a program header for the code and one for the data if there is
-//!   any, the code's words on the second page, the data on the page after them. That file loads as the image, and `Stands` of `specs/Stands.antt` says
+//!   any, the code's words on the second page, the data on the page after them. That file loads as the image, and `Stands` of `specs/Conditions.antt` says
 //!   by address what that is: each word of the code, which can be executed and neither read nor written, each byte of the data, which can be read
 //!   and written, and nothing else.
 //! - `read_image` accepts exactly the files that keep `Loads` of `specs/Conditions.antt`, a record of conditions by the names of ELF's fields, and
 //!   gives exactly the entry, addresses, flags and bytes that `Loads` tells of. What it refuses does not keep a condition that the refusal names
-//!   (`specs/Refusals.antt`), but for want of memory. Bytes of the file that no header speaks of do not count. The law [`laws::loads_once`] says that a file loads as one
+//!   (`specs/Conditions.antt`), but for want of memory. Bytes of the file that no header speaks of do not count. The law [`laws::loads_once`] says that a file loads as one
 //!   executable at most.
-//! - [`Loaded`] holds what was read. Each keeps `IsExecutable` of `specs/Loaded.antt`: segments rise without overlap between
+//! - [`Loaded`] holds what was read. Each keeps `IsExecutable` of `specs/Conditions.antt`: segments rise without overlap between
 //!   [`CODE_START`](obj_link::CODE_START) and [`IMAGE_END`](obj_link::IMAGE_END), and the program starts at an instruction's address in code.
 //!   `byte_in` and `flags_in` there say, by address, which byte stands where and what it may be used for; past the file's bytes of a segment stand
 //!   zeros.

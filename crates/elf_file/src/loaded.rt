@@ -13,7 +13,7 @@ pub struct Segment {
 }
 
 impl Model for Segment {
-    ghost use Rattle.elf_file.specs.Loaded.{IsMapping, Mapping};
+    ghost use Rattle.elf_file.specs.Conditions.{IsMapping, Mapping};
 
     ghost Value = { Mapping };
 
@@ -23,7 +23,7 @@ impl Model for Segment {
 }
 
 impl Segment {
-    ghost use Rattle.elf_file.specs.Loaded.{IsMapping};
+    ghost use Rattle.elf_file.specs.Conditions.{IsMapping};
 
     /// The segment of these values.
     pub(crate) fn new(address: u64, flags: Flags, size: u64, file_bytes: Vec<u8>) -> Segment
@@ -79,7 +79,7 @@ pub struct Loaded {
 }
 
 impl Model for Loaded {
-    ghost use Rattle.elf_file.specs.Loaded.{Executable, IsExecutable};
+    ghost use Rattle.elf_file.specs.Conditions.{Executable, IsExecutable};
 
     ghost Value = { Executable };
 
@@ -89,7 +89,7 @@ impl Model for Loaded {
 }
 
 impl Loaded {
-    ghost use Rattle.elf_file.specs.Loaded.{IsExecutable};
+    ghost use Rattle.elf_file.specs.Conditions.{IsExecutable};
 
     /// The loaded file of this entry and these segments.
     pub(crate) fn new(entry: u64, segments: Vec<Segment>) -> Loaded

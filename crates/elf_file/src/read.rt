@@ -1,9 +1,6 @@
 ghost use Rattle.std.specs.Prelude.{◌≡◌, ◌+◌, ◌*◌, ◌≤◌, ◌^◌, ◌<◌, length, IfErr, IfOk, MatchResult};
 ghost use Rattle.obj_link.specs.Prelude.{code_start};
-ghost use Rattle.elf_file.specs.Headers.{file_header};
-ghost use Rattle.elf_file.specs.Loaded.{Executable, has_entry, holds_instruction};
-ghost use Rattle.elf_file.specs.Conditions.{HasHeaders, Loads, Maps, MapsAll, has_one_table, is_kind, is_loadable, is_placed, is_whole};
-ghost use Rattle.elf_file.specs.Refusals.{Refuses, RefusesSegment};
+ghost use Rattle.elf_file.specs.Conditions.{file_header, Executable, has_entry, holds_instruction, HasHeaders, Loads, Maps, MapsAll, has_one_table, is_kind, is_loadable, is_placed, is_whole, Refuses, RefusesSegment};
 
 use crate::error::LoadError;
 use crate::flags::Flags;

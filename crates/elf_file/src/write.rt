@@ -1,7 +1,6 @@
 ghost use Rattle.std.specs.Prelude.{◌≡◌, ◌++◌, ◌*◌, ◌<◌, ◌≤◌, ◌^◌, List, length, IfOk, OnOk, vec_len, flat_map};
 ghost use Rattle.obj_link.specs.Prelude.{IsImage};
-ghost use Rattle.elf_file.specs.Stands.{Stands};
-ghost use Rattle.elf_file.specs.Conditions.{Loads, e_ident};
+ghost use Rattle.elf_file.specs.Conditions.{Stands, Loads, e_ident};
 ghost use Rattle.elf_file.specs.File.{data_offset, executable_of, fields_bytes, file_header_fields, file_of, header_for, headers_bytes, padded, program_header_fields, segment_header, with_code};
 
 use crate::fields::Field;

@@ -7,8 +7,7 @@ use Rattle.vcode.specs.declared.place.Location.{Location}
 use Rattle.vcode.specs.declared.place.Destination.{Destination}
 use Rattle.vcode.specs.declared.place.Argument.{Argument}
 use Rattle.vcode.specs.Prelude.{held as value_held, located, kept as values_kept, State, resumes, calls}
-use Rattle.flat_code.specs.Spots.{Bases, Grown, Clear}
-use Rattle.flat_code.specs.Flat.{FlatOutcome, FlatReturned, FlatEnded, ShowsOutcome}
+use Rattle.flat_code.specs.Flat.{Bases, Grown, Clear, FlatOutcome, FlatReturned, FlatEnded, ShowsOutcome}
 use Rattle.flat_code.specs.Step.{FlatState, put, kept, held, resumes as flat_resumes, calls as flat_calls}
 use Rattle.flat_code.proofs.Playing.{BesideNext}
 use Rattle.flat_code.proofs.Shown.{Follows, ArgsFollow, some_follows, follow_grown, kept_follows, put_follows, held_shown}

@@ -6,7 +6,7 @@ use Rattle.std.proofs.lemmas.Option.{slice_get_within, same_Some, none-some}
 use Rattle.std.proofs.lemmas.Bool.{eqb-true, eqb-false}
 use Rattle.il_ast.specs.declared.value.Cell.{Cell}
 use Rattle.il_ast.specs.Prelude.{Memory, block_at, size_at, put, write_at}
-use Rattle.flat_code.specs.Spots.{NoAccess, ThisByte, Spots, Bases, Entries, ShowsCell, ShowsMemory, IsPlaced, SameBlocks, SameReach}
+use Rattle.flat_code.specs.Flat.{NoAccess, ThisByte, Spots, Bases, Entries, ShowsCell, ShowsMemory, IsPlaced, SameBlocks, SameReach}
 use Rattle.flat_code.specs.Step.{is_there, all_there, is_in}
 use Rattle.flat_code.proofs.Standing.{two_addresses}
 use Rattle.flat_code.proofs.Runs.{cell_there, not_away, taken_get, dropped_get}

@@ -7,7 +7,7 @@ use Rattle.il_ast.specs.declared.value.Value.{Value}
 use Rattle.il_ast.specs.declared.value.Value.TheVariants.{Integer, Pointer, Function}
 use Rattle.il_ast.specs.declared.value.Cell.{Cell}
 use Rattle.il_ast.specs.Prelude.{Memory, block_at, cells_at, write_at, copy, apart_or_same as cells_apart}
-use Rattle.flat_code.specs.Spots.{Spot, ThisByte, Spots, Bases, Entries, Shows, ShowsCell, ShowsMemory}
+use Rattle.flat_code.specs.Flat.{Spot, ThisByte, Spots, Bases, Entries, Shows, ShowsCell, ShowsMemory}
 use Rattle.flat_code.specs.Step.{is_in, all_there, apart_or_same, with_copy, copied}
 use Rattle.flat_code.proofs.Standing.{Stands, stands}
 use Rattle.flat_code.proofs.Runs.{IsSpan, is_span, span_shown}

@@ -11,7 +11,7 @@ use Rattle.vcode.specs.declared.line.Line.{Line}
 use Rattle.vcode.specs.declared.line.Line.TheVariants.{Tick, Set, Operate, Load, Store, Alloc, Blit, Call}
 use Rattle.vcode.specs.declared.code.Block.{Block}
 use Rattle.vcode.specs.Prelude.{loaded, Values, located, is_alloc, allocs_first, alloc_bytes, area, State, value_of, read as value_read, read_all as values_read, operated as values_operated, address_of as value_address, made_in as value_made, line_step}
-use Rattle.flat_code.specs.Spots.{Bases, Entries, Shows}
+use Rattle.flat_code.specs.Flat.{Bases, Entries, Shows}
 use Rattle.flat_code.specs.Step.{Numbers, FlatState, number_of, read, read_all, operated, address_of, made_in, known_number, stored, copied, opened, flat_line}
 use Rattle.flat_code.proofs.Shown.{AllFollow, some_follows, follows_then, put_follows, follow_grown, read_follows, all_follow}
 use Rattle.flat_code.proofs.Loading.{loaded_follows}

@@ -3,7 +3,7 @@ use Rattle.std.proofs.Common.{◌≡◌, ℕ, ◌+◌, ◌<◌, ◌≤◌, ◌�
 use Rattle.std.proofs.lemmas.Option.{slice_get_within, same_Some, none-some}
 use Rattle.il_ast.specs.declared.value.Cell.{Cell}
 use Rattle.il_ast.specs.Prelude.{Memory, block_at, size_at, free_all}
-use Rattle.flat_code.specs.Spots.{Spot, NoAccess, ThisByte, Spots, Bases, ShowsCell, ShowsMemory, SameReach, SameBlocks}
+use Rattle.flat_code.specs.Flat.{Spot, NoAccess, ThisByte, Spots, Bases, ShowsCell, ShowsMemory, SameReach, SameBlocks}
 use Rattle.flat_code.specs.Step.{is_in, closed}
 use Rattle.flat_code.proofs.Runs.{not_away}
 use Rattle.flat_code.proofs.Changing.{in_range, out_of_range, outside_or_in}

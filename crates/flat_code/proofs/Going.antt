@@ -7,8 +7,7 @@ use Rattle.vcode.specs.declared.place.Location.{Location}
 use Rattle.vcode.specs.declared.code.Block.{Block}
 use Rattle.vcode.specs.declared.code.Code.{Code}
 use Rattle.vcode.specs.Prelude.{located, IsRegular, alloc_bytes, area, State, weighs, goes_on, sets, takes, changes, ticks}
-use Rattle.flat_code.specs.Spots.{Spots, Bases, Entries, Grown, Shows, AllShow}
-use Rattle.flat_code.specs.Flat.{FlatGiven, FlatAsked, FlatOutcome, FlatEnded, ShowsGiven, Frame, Names}
+use Rattle.flat_code.specs.Flat.{Spots, Bases, Entries, Grown, Shows, AllShow, FlatGiven, FlatAsked, FlatOutcome, FlatEnded, ShowsGiven, Frame, Names}
 use Rattle.flat_code.specs.Step.{put, FlatState, goes_on as flat_goes_on, sets as flat_sets, changes as flat_changes, ticks as flat_ticks}
 use Rattle.flat_code.proofs.Playing.{Beside}
 use Rattle.flat_code.proofs.Shown.{Follows, AllFollow, put_follows, all_grown}

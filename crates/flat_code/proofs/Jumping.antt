@@ -11,8 +11,7 @@ use Rattle.vcode.specs.declared.line.Operation.TheVariants.{Compare}
 use Rattle.vcode.specs.declared.line.Jump.{Jump}
 use Rattle.vcode.specs.declared.line.Jump.TheVariants.{Goto, Branch, Return, Halt}
 use Rattle.vcode.specs.Prelude.{is_target, leads_inside, area, State, value_of, read_result as value_result, enters, compared as values_compared, branches, returns, jump_step}
-use Rattle.flat_code.specs.Spots.{Bases, ShowsResult}
-use Rattle.flat_code.specs.Flat.{FlatReturned, FlatEnded}
+use Rattle.flat_code.specs.Flat.{Bases, ShowsResult, FlatReturned, FlatEnded}
 use Rattle.flat_code.specs.Step.{FlatState, read_result, closed, enters as flat_enters, compared, branches as flat_branches, leaves, returns as flat_returns, returns_as, flat_jump}
 use Rattle.flat_code.proofs.Shown.{Follows, passed_follows, option_passes}
 use Rattle.flat_code.proofs.Freeing.{IsLeft, left_by}

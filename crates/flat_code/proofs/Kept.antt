@@ -6,7 +6,7 @@ use Rattle.vcode.specs.declared.place.Location.{Location}
 use Rattle.vcode.specs.declared.line.Line.{Line}
 use Rattle.vcode.specs.declared.code.Block.{Block}
 use Rattle.vcode.specs.Prelude.{located, unknown, leads_inside, alloc_bytes, State, begin, block_step as values_block_step, step_in as values_step_in, step}
-use Rattle.flat_code.specs.Spots.{Bases}
+use Rattle.flat_code.specs.Flat.{Bases}
 use Rattle.flat_code.specs.Step.{FlatState, flat_begin, block_step, step_in, flat_step}
 use Rattle.flat_code.specs.Laws.{RegularIsKept}
 use Rattle.flat_code.proofs.Playing.{plays_by}

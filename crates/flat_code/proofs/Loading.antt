@@ -8,7 +8,7 @@ use Rattle.rv_isa.specs.declared.instruction.LoadOp.{LoadOp}
 use Rattle.rv_isa.specs.declared.instruction.LoadOp.TheVariants.{Lb, Lh, Lw, Ld, Lbu, Lhu, Lwu}
 use Rattle.rv_isa.specs.Prelude.{load_size, load_value}
 use Rattle.vcode.specs.Prelude.{narrowed, extended, loaded}
-use Rattle.flat_code.specs.Spots.{Bases, Entries, Spots, Shows, ShowsMemory}
+use Rattle.flat_code.specs.Flat.{Bases, Entries, Spots, Shows, ShowsMemory}
 use Rattle.flat_code.specs.Step.{known_number}
 use Rattle.flat_code.proofs.Shown.{Follows, none_follows}
 use Rattle.flat_code.proofs.Standing.{Stands, stands}

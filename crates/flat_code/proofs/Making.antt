@@ -8,7 +8,7 @@ use Rattle.std.proofs.lemmas.Bool.{eqb-true, eqb-false}
 use Rattle.il_ast.specs.declared.value.Cell.{Cell}
 use Rattle.il_ast.specs.declared.value.Cell.TheVariants.{Plain, Part, Blank}
 use Rattle.il_ast.specs.Prelude.{Memory, block_at, size_at, fresh, round_16}
-use Rattle.flat_code.specs.Spots.{Spot, NoAccess, AnyByte, ThisByte, Spots, Bases, Entries, Grown, ShowsCell, ShowsMemory, IsPlaced}
+use Rattle.flat_code.specs.Flat.{Spot, NoAccess, AnyByte, ThisByte, Spots, Bases, Entries, Grown, ShowsCell, ShowsMemory, IsPlaced}
 use Rattle.flat_code.specs.Step.{is_in, opened}
 use Rattle.flat_code.proofs.Shown.{shows_grown}
 use Rattle.flat_code.proofs.Runs.{not_away}

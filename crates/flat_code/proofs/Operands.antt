@@ -9,7 +9,7 @@ use Rattle.vcode.specs.declared.place.Operand.TheVariants.{Number}
 use Rattle.vcode.specs.declared.line.Operation.{Operation}
 use Rattle.vcode.specs.declared.line.Operation.TheVariants.{Reg}
 use Rattle.vcode.specs.Prelude.{distance, operate, State, value_of, operated as values_operated, address_of as value_address}
-use Rattle.flat_code.specs.Spots.{Bases}
+use Rattle.flat_code.specs.Flat.{Bases}
 use Rattle.flat_code.specs.Step.{FlatState, number_of, computed, operated as numbers_operated, address_of}
 use Rattle.flat_code.proofs.Shown.{Follows, follows_map, follows_then, operand_follows}
 use Rattle.flat_code.proofs.Operating.{operated}

@@ -18,7 +18,7 @@ use Rattle.rv_isa.specs.Prelude.{reg_value, regw_value}
 use Rattle.vcode.specs.declared.line.Operation.{Operation}
 use Rattle.vcode.specs.declared.line.Operation.TheVariants.{Reg, RegW, Compare}
 use Rattle.vcode.specs.Prelude.{reg_on_places, operate}
-use Rattle.flat_code.specs.Spots.{Bases, Entries, Spots, Shows, ShowsMemory, AreEntries}
+use Rattle.flat_code.specs.Flat.{Bases, Entries, Spots, Shows, ShowsMemory, AreEntries}
 use Rattle.flat_code.specs.Step.{taken, computed}
 use Rattle.flat_code.proofs.Shown.{taken_shown}
 use Rattle.flat_code.proofs.Standing.{Stands, stands, reached, inside, two_addresses}

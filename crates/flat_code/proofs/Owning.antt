@@ -5,7 +5,7 @@ use Rattle.std.proofs.lemmas.Option.{slice_get_past, none-some}
 use Rattle.std.proofs.lemmas.Bool.{eqb-true, eqb-false}
 use Rattle.il_ast.specs.declared.value.Cell.{Cell}
 use Rattle.il_ast.specs.Prelude.{Memory, block_at, size_at, free, free_all}
-use Rattle.flat_code.specs.Spots.{NoAccess, Spots, Bases, Entries, Grown, ShowsMemory, AreEntries, Clear, SameReach, SameBlocks}
+use Rattle.flat_code.specs.Flat.{NoAccess, Spots, Bases, Entries, Grown, ShowsMemory, AreEntries, Clear, SameReach, SameBlocks}
 use Rattle.flat_code.proofs.Changing.{block_other}
 
 -- what stays during the run: functions' addresses, the bytes for blocks, and the addresses, blocks and bytes that the body found

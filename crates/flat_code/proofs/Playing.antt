@@ -1,8 +1,7 @@
 -- A code on bytes that goes beside a code on blocks, one step for one, plays it.
 use Rattle.std.proofs.Common.{◌≡◌, ℕ, zero, suc, [], ◌∷◌, sym, subst}
 use Rattle.il_ast.specs.Prelude.{Outcome, Next, On, Over, Event, Does, Calls, LoggedNext, LoggedEvent, Logged, Asked, Log, Fine}
-use Rattle.flat_code.specs.Spots.{Bases, Grown}
-use Rattle.flat_code.specs.Flat.{FlatAsked, FlatOutcome, ShowsAsked, ShowsOutcome, Frame, PlaysNext, PlaysEvent, Plays}
+use Rattle.flat_code.specs.Flat.{Bases, Grown, FlatAsked, FlatOutcome, ShowsAsked, ShowsOutcome, Frame, PlaysNext, PlaysEvent, Plays}
 
 -- the code on bytes comes to a related state, or to an end that shows the other's; nothing is owed for an end that isn't fine
 abbrev pub BesideNext : {S T : Type 0} → Frame → (Bases → S → T → Type 0) → Bases → Next S Outcome → Next T FlatOutcome → Type 0

@@ -10,7 +10,7 @@ use Rattle.il_ast.specs.declared.value.Value.TheVariants.{Integer, Pointer, Func
 use Rattle.il_ast.specs.declared.value.Cell.{Cell}
 use Rattle.il_ast.specs.declared.value.Cell.TheVariants.{Plain, Part, Blank}
 use Rattle.il_ast.specs.Prelude.{number_of, same_value, Memory, block_at, cells_at, span, plain_bytes, are_parts_from, value_of}
-use Rattle.flat_code.specs.Spots.{Spot, NoAccess, AnyByte, ThisByte, Spots, Bases, Entries, Shows, ShowsCell, ShowsMemory}
+use Rattle.flat_code.specs.Flat.{Spot, NoAccess, AnyByte, ThisByte, Spots, Bases, Entries, Shows, ShowsCell, ShowsMemory}
 use Rattle.flat_code.specs.Step.{read_spot, known_number, is_there, all_there}
 use Rattle.flat_code.proofs.Shown.{shown_by_one}
 use Rattle.flat_code.proofs.Operating.{callee_is}

@@ -15,7 +15,7 @@ use Rattle.vcode.specs.declared.place.Extension.{Extension}
 use Rattle.vcode.specs.declared.place.Extension.TheVariants.{Made, Claimed}
 use Rattle.vcode.specs.declared.place.Argument.{Argument}
 use Rattle.vcode.specs.Prelude.{held as value_held, is_extended, stands_extended, passed as value_passed, Values, assign, put as put_value, kept as values_kept, same_location, is_callers, located, bound as values_bound, value_of, read as value_read, read_argument as value_argument, read_all as values_read}
-use Rattle.flat_code.specs.Spots.{Bases, Entries, Grown, Shows, AllShow}
+use Rattle.flat_code.specs.Flat.{Bases, Entries, Grown, Shows, AllShow}
 use Rattle.flat_code.specs.Step.{Numbers, put, kept, held, taken, passed, bound, number_of, read, read_argument, read_all}
 
 -- ---- one value

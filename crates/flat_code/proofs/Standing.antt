@@ -5,7 +5,7 @@ use Rattle.std.specs.Option.{option_map, option_map_or}
 use Rattle.il_ast.specs.declared.value.Value.TheVariants.{Pointer}
 use Rattle.il_ast.specs.declared.value.Cell.{Cell}
 use Rattle.il_ast.specs.Prelude.{Memory, block_at, reaches, lies_in}
-use Rattle.flat_code.specs.Spots.{Bases, Entries, Spots, Shows, ShowsMemory, IsPlaced}
+use Rattle.flat_code.specs.Flat.{Bases, Entries, Spots, Shows, ShowsMemory, IsPlaced}
 use Rattle.std.proofs.lemmas.Option.{same_Some}
 
 -- a pointer to offset o of a live block is shown by the address of its first byte and the offset

@@ -8,7 +8,7 @@ use Rattle.il_ast.specs.declared.value.Value.TheVariants.{Integer, Pointer, Func
 use Rattle.il_ast.specs.declared.value.Cell.{Cell}
 use Rattle.il_ast.specs.declared.value.Cell.TheVariants.{Plain, Part}
 use Rattle.il_ast.specs.Prelude.{bytes_of, Memory, parts, cells_for, write_at, store}
-use Rattle.flat_code.specs.Spots.{Spot, ThisByte, Spots, Bases, Entries, Shows, ShowsCell, ShowsMemory, AreEntries}
+use Rattle.flat_code.specs.Flat.{Spot, ThisByte, Spots, Bases, Entries, Shows, ShowsCell, ShowsMemory, AreEntries}
 use Rattle.flat_code.specs.Step.{is_in, all_there, with_number, stored}
 use Rattle.flat_code.proofs.Standing.{Stands, stands}
 use Rattle.flat_code.proofs.Changing.{Changed, MemoryFollows, IsWritten, is_written, IsCovered, written_shown, written_there, in_range, out_of_range}

@@ -15,8 +15,7 @@ use Rattle.vcode.specs.declared.line.Operation.TheVariants.{Reg}
 use Rattle.vcode.specs.Prelude.{at_once, destination, straight, located, IsRegular, area, begin, step}
 use Rattle.vcode.specs.declared.line.Line.TheVariants.{Tick, Operate, Load, Store, Alloc, Blit}
 use Rattle.vcode.specs.declared.code.Code.{Code}
-use Rattle.flat_code.specs.Spots.{NoAccess, Spots, Bases, Entries, AreEntries, AllShow}
-use Rattle.flat_code.specs.Flat.{FlatGiven, FlatReturned, FlatEnded, ShowsGiven}
+use Rattle.flat_code.specs.Flat.{NoAccess, Spots, Bases, Entries, AreEntries, AllShow, FlatGiven, FlatReturned, FlatEnded, ShowsGiven}
 use Rattle.flat_code.specs.Step.{FlatState, FlatEvent, flat_begin, flat_step}
 
 -- ---- what a code without calls returns

@@ -1,4 +1,3 @@
-pub mod Spots
 pub mod Flat
 pub mod Step
 pub mod Laws

@@ -1,6 +1,6 @@
 //! # Code on flat bytes
 //!
-//! The memory of the language is made of blocks without addresses; that of the machine is bytes by address. `specs/Spots.antt` says which bytes stand for
+//! The memory of the language is made of blocks without addresses; that of the machine is bytes by address. `specs/Flat.antt` says which bytes stand for
 //! which blocks, and `specs/Flat.antt` what it means that a code on bytes keeps a code on blocks (`KeepsFlat`). No other crate gives a block an address.
 //!
 //! Location code needs no change to run on bytes: `specs/Step.antt` says what its lines and jumps do there, with numbers for values. The law

@@ -13,9 +13,7 @@ use Rattle.frame_ways.specs.declared.mark.Mark.{Mark}
 use Rattle.frame_ways.specs.declared.mark.Mark.TheVariants.{Bare, Begin, Framed}
 use Rattle.frame_ways.specs.declared.plan.Part.{Part}
 use Rattle.frame_ways.specs.declared.plan.Plan.{Plan}
-use Rattle.frame_ways.specs.Bare.{is_bare_place}
-use Rattle.frame_ways.specs.Marks.{is_bare}
-use Rattle.frame_ways.specs.Plans.{part_for, with_targets, copy_of, copied, part_block, planned, passes, is_of, stands_for, is_copy_right, is_part_right, is_plan}
+use Rattle.frame_ways.specs.Plans.{is_bare_place, is_bare, part_for, with_targets, copy_of, copied, part_block, planned, passes, is_of, stands_for, is_copy_right, is_part_right, is_plan}
 
 -- ---- what is there and passes a test
 

@@ -17,16 +17,13 @@ use Rattle.vcode.specs.declared.line.Jump.TheVariants.{Goto, Branch, Return, Hal
 use Rattle.vcode.specs.declared.code.Block.{Block}
 use Rattle.vcode.specs.declared.code.Code.{Code}
 use Rattle.vcode.specs.Prelude.{area}
-use Rattle.flat_code.specs.Spots.{Spots}
-use Rattle.flat_code.specs.Flat.{FlatGiven, FlatAsked, FlatOutcome, FlatReturned, FlatEnded}
+use Rattle.flat_code.specs.Flat.{Spots, FlatGiven, FlatAsked, FlatOutcome, FlatReturned, FlatEnded}
 use Rattle.flat_code.specs.Step.{FlatState, FlatEvent, kept, number_of, read_all, read_result, closed, sets, changes, calls, receives, resumes, enters, compared, branches, leaves, returns, returns_as, flat_begin, flat_line, flat_jump, block_step, step_in, flat_step}
 use Rattle.frame_ways.specs.declared.mark.Mark.{Mark}
 use Rattle.frame_ways.specs.declared.mark.Mark.TheVariants.{Bare, Begin, Framed}
 use Rattle.frame_ways.specs.declared.plan.Part.{Part}
 use Rattle.frame_ways.specs.declared.plan.Plan.{Plan}
-use Rattle.frame_ways.specs.Bare.{is_bare_block}
-use Rattle.frame_ways.specs.Marks.{is_bare, is_framed, is_outside, leads}
-use Rattle.frame_ways.specs.Plans.{part_for, renamed, with_targets, copy_of, part_block, planned, stands_for, is_copy_right}
+use Rattle.frame_ways.specs.Plans.{is_bare_block, is_bare, is_framed, is_outside, leads, part_for, renamed, with_targets, copy_of, part_block, planned, stands_for, is_copy_right}
 use Rattle.frame_ways.specs.Keeping.{FlatFine}
 use Rattle.frame_ways.proofs.Parts.{RightPlan, it_stands, Origin, is_copy, part_origin}
 

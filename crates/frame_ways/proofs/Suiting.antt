@@ -20,10 +20,7 @@ use Rattle.frame_ways.specs.declared.mark.Mark.{Mark}
 use Rattle.frame_ways.specs.declared.mark.Mark.TheVariants.{Bare, Begin, Framed}
 use Rattle.frame_ways.specs.declared.plan.Part.{Part}
 use Rattle.frame_ways.specs.declared.plan.Plan.{Plan}
-use Rattle.frame_ways.specs.Written.{writes, callee_saved}
-use Rattle.frame_ways.specs.Bare.{touches_no_slot, is_bare_line, is_bare_block}
-use Rattle.frame_ways.specs.Marks.{is_bare, is_framed, is_outside, mark_of, mark_at, leads, suits, IsMarked}
-use Rattle.frame_ways.specs.Plans.{part_for, renamed, with_targets, copy_of, part_block, planned, marks_of, stands_for, is_copy_right}
+use Rattle.frame_ways.specs.Plans.{writes, callee_saved, touches_no_slot, is_bare_line, is_bare_block, is_bare, is_framed, is_outside, mark_of, mark_at, leads, suits, IsMarked, part_for, renamed, with_targets, copy_of, part_block, planned, marks_of, stands_for, is_copy_right}
 use Rattle.frame_ways.proofs.Parts.{made_of, RightPlan, it_stands, Origin, is_copy, part_origin, all_parts, copies_pass}
 
 -- ---- other targets

@@ -9,7 +9,7 @@ use Rattle.vcode.specs.Prelude.{area}
 use Rattle.flat_code.specs.Flat.{FlatGiven, FlatAsked, FlatOutcome, FlatReturned, FlatEnded}
 use Rattle.flat_code.specs.Step.{flat_begin, flat_step}
 use Rattle.frame_ways.specs.declared.mark.Mark.{Mark}
-use Rattle.frame_ways.specs.Marks.{IsMarked}
+use Rattle.frame_ways.specs.Plans.{IsMarked}
 
 -- it doesn't become undefined
 abbrev pub FlatFine : FlatOutcome → Type 0

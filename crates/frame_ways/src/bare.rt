@@ -2,8 +2,7 @@
 ghost use Rattle.std.specs.Prelude.{◌≡◌, not};
 ghost use Rattle.std.specs.List.{list_all, list_any};
 ghost use Rattle.vcode.specs.Prelude.{is_place, operand_keeps, jump_keeps};
-ghost use Rattle.frame_ways.specs.Written.{is_register, receives, makes_in, writes, callee_saved};
-ghost use Rattle.frame_ways.specs.Bare.{is_bare_place, touches_no_slot, is_bare_line, is_bare_block};
+ghost use Rattle.frame_ways.specs.Plans.{is_register, receives, makes_in, writes, callee_saved, is_bare_place, touches_no_slot, is_bare_line, is_bare_block};
 
 use rv_isa::abi;
 use vcode::{Block, Destination, Jump, Line, Location, Operand};

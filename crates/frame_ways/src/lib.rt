@@ -1,6 +1,6 @@
 //! # Ways without a frame: code with marks
 //!
-//! Where ways through a function need no frame, its code on bytes is made once more, of *parts* with marks (`mark`, `specs/Marks.antt`). A bare part is a copy of a block
+//! Where ways through a function need no frame, its code on bytes is made once more, of *parts* with marks (`mark`, `specs/Plans.antt`). A bare part is a copy of a block
 //! that touches no slot, writes no register that a callee keeps, and makes no call and no block of memory (`bare`); a framed part is one that may do all of it. Where a
 //! bare one leads to a framed one, a begin stands between: a block on the edge, at whose head the frame is to be made. Framed parts lead to framed ones alone,
 //! so a frame is made once in a call.

@@ -1,8 +1,7 @@
 //! Code in parts, by a plan.
 ghost use Rattle.std.specs.Prelude.{◌≡◌, ◌∷◌, ◌++◌, map, slice_get, IsTrue, OnOk, IfOk, IfSome};
 ghost use Rattle.std.specs.List.{list_all};
-ghost use Rattle.frame_ways.specs.Marks.{is_bare, is_framed, is_outside, leads};
-ghost use Rattle.frame_ways.specs.Plans.{number_of, part_for, renamed, with_targets, begin_for, copy_of, copied, part_block, planned, marks_of, passes, is_of, stands_for, is_copy_right, is_part_right, is_plan};
+ghost use Rattle.frame_ways.specs.Plans.{is_bare, is_framed, is_outside, leads, number_of, part_for, renamed, with_targets, begin_for, copy_of, copied, part_block, planned, marks_of, passes, is_of, stands_for, is_copy_right, is_part_right, is_plan};
 ghost use Rattle.frame_ways.specs.Keeping.{IsMarkedOf};
 
 use crate::bare::{are_bare_params, is_bare_block};

@@ -2,10 +2,8 @@
 use Rattle.std.proofs.Common.{◌≡◌, ℕ, zero, suc, List, [], ◌∷◌, refl, sym, subst, Option}
 use Rattle.il_ast.specs.declared.operation.Class.{Class}
 use Rattle.il_ast.specs.Prelude.{Memory, Outcome, Returned, Ended, Callees, Next, On, Over, Event, Does, Calls, Entry, LoggedNext, LoggedEvent, Logged, Log, AllGo}
-use Rattle.flat_code.specs.Spots.{Spots, Bases, Entries, Grown}
-use Rattle.flat_code.specs.Flat.{FlatAsked, FlatOutcome, FlatReturned, FlatEnded, ShowsAsked, ShowsOutcome, Frame, PlaysNext, PlaysEvent, Plays}
-use Rattle.abi_frames.specs.Calls.{GoodStack}
-use Rattle.abi_frames.specs.Performs.{AllPerform, ReachStays}
+use Rattle.flat_code.specs.Flat.{Spots, Bases, Entries, Grown, FlatAsked, FlatOutcome, FlatReturned, FlatEnded, ShowsAsked, ShowsOutcome, Frame, PlaysNext, PlaysEvent, Plays}
+use Rattle.abi_frames.specs.Performs.{GoodStack, AllPerform, ReachStays}
 use Rattle.headline.specs.Knot.{Setting, IsSetting, KeepsCall, AllKept}
 
 pub grown_same : (p : Bases) → Grown p p

@@ -7,11 +7,10 @@ use Rattle.il_ast.specs.Prelude.{meaning}
 use Rattle.rv_isa.specs.Prelude.{State, Stop as Ending, Exited, Broken, Faulted, step, Run, Going, Stopped, then_run, runs}
 use Rattle.rv_machine.specs.declared.stop.Stop.{Stop}
 use Rattle.rv_machine.specs.declared.stop.Stop.TheVariants.{Exit as ExitStop, Break, Limit, Memory, Fault}
-use Rattle.rv_machine.specs.Runs.{RunEnds, StopsWith, GoesOn, WantsMemory}
+use Rattle.rv_machine.specs.Steps.{RunEnds, StopsWith, GoesOn, WantsMemory}
 use Rattle.rv_machine.proofs.OutputLaws.{after_output, run_after, runs_after}
 use Rattle.headline.specs.Headline.{Executes, StopsSo, GoesOnSo}
-use Rattle.headline.specs.Endless.{IsBeginning}
-use Rattle.headline.specs.Answered.{StopsAs, IsCut, IsDefined, Shows, Answers, RunsAnswer}
+use Rattle.headline.specs.Answered.{IsBeginning, StopsAs, IsCut, IsDefined, Shows, Answers, RunsAnswer}
 use Rattle.headline.proofs.Endless.{goes_before, output_grows, silent}
 
 -- ---- a run beside a longer one

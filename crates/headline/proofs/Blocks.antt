@@ -2,7 +2,7 @@
 use Rattle.std.proofs.Common.{◌≡◌, ◌≢◌, ◌⊎◌, inl, inr, ℕ, zero, suc, ◌+◌, ◌^◌, ◌<◌, ◌≤◌, List, [], ◌∷◌, ◌++◌, length, refl, sym, ◌∙◌, subst, ap, arith, slice_get, Some, None}
 use Rattle.il_ast.specs.declared.value.Cell.{Cell}
 use Rattle.il_ast.specs.Prelude.{Memory, block_at}
-use Rattle.flat_code.specs.Spots.{ThisByte, Spots, Bases, Entries, ShowsCell, ShowsMemory}
+use Rattle.flat_code.specs.Flat.{ThisByte, Spots, Bases, Entries, ShowsCell, ShowsMemory}
 
 -- ---- one block
 

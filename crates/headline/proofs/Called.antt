@@ -11,13 +11,10 @@ use Rattle.il_ast.specs.declared.value.Value.{Value}
 use Rattle.il_ast.specs.declared.value.End.TheVariants.{Exit, Halt, Undefined, Stack, Turns}
 use Rattle.il_ast.specs.Prelude.{Memory, need, nothing, one_call, both, Outcome, Returned, Ended, after, same_classes, result_fits, call_fits, call_function, callees, Asked, Given, AreArgs, Suits}
 use Rattle.rv_isa.specs.Prelude.{State}
-use Rattle.flat_code.specs.Spots.{Spots, Bases, Entries}
-use Rattle.flat_code.specs.Flat.{FlatGiven, FlatOutcome, FlatReturned, FlatEnded, flat_after, ShowsGiven, ShowsOutcome}
-use Rattle.abi_frames.specs.Calls.{World, GoodStack, Ready, ResultIn}
-use Rattle.abi_frames.specs.Performs.{Performs}
-use Rattle.headline.specs.InPlace.{calls_in}
+use Rattle.flat_code.specs.Flat.{Spots, Bases, Entries, FlatGiven, FlatOutcome, FlatReturned, FlatEnded, flat_after, ShowsGiven, ShowsOutcome}
+use Rattle.abi_frames.specs.Performs.{World, GoodStack, Ready, ResultIn, Performs}
+use Rattle.headline.specs.Executables.{calls_in, body_of}
 use Rattle.headline.specs.Knot.{Setting, KeepsCall, AllKept, KeptBody, KeepsBody}
-use Rattle.headline.specs.Functions.{body_of}
 use Rattle.headline.proofs.InPlace.{same_body}
 use Rattle.headline.proofs.Trivial.{undefined_kept, stack_kept, by_test}
 use Rattle.il_ast.proofs.Alike.{same_class_is, same_classes_are}

@@ -9,21 +9,17 @@ use Rattle.il_ast.specs.declared.program.Target.TheVariants.{Code, Object}
 use Rattle.il_ast.specs.declared.value.Callee.TheVariants.{Defined, SystemWrite, SystemExit}
 use Rattle.il_ast.specs.Prelude.{need, round_16, target_value, values_of, globals_of, classes_of}
 use Rattle.vcode.specs.Prelude.{located, area, coded, begin, step}
-use Rattle.flat_code.specs.Spots.{AllShow}
+use Rattle.flat_code.specs.Flat.{AllShow}
 use Rattle.flat_code.specs.Step.{flat_begin, flat_step}
-use Rattle.abi_frames.specs.Layout.{frame_size}
+use Rattle.abi_frames.specs.Performs.{frame_size}
 use Rattle.rv_isa.specs.Prelude.{Words, State}
 use Rattle.obj_link.specs.declared.placing.addresses.Addresses.{Addresses}
 use Rattle.obj_link.specs.Prelude.{IsImage, functions_start, object_size, objects_start, objects_end, addresses_of, target_address, name_address, contents_of, calls_reach, FitsBelow, EveryCode, object_addresses, IsThere}
 use Rattle.obj_link.proofs.AddressLemmas.{objects_rise}
-use Rattle.elf_file.specs.Loaded.{Executable}
-use Rattle.elf_file.specs.Stands.{Stands}
+use Rattle.elf_file.specs.Conditions.{Executable, Stands}
 use Rattle.rv_machine.specs.Starts.{Starts}
-use Rattle.headline.specs.Functions.{FunctionsKept, body_of}
-use Rattle.headline.specs.Places.{setting_of, start_places}
-use Rattle.headline.specs.Executables.{entries_of, places_of, NamesAreThere}
+use Rattle.headline.specs.Executables.{FunctionsKept, body_of, setting_of, start_places, entries_of, places_of, NamesAreThere, calls_in}
 use Rattle.headline.specs.Compiled.{StandIn, EachStands, EachStandsIn, StandsIn, ReplacedRuns, CompiledRuns}
-use Rattle.headline.specs.InPlace.{calls_in}
 use Rattle.headline.proofs.InPlace.{code_is_in}
 use Rattle.headline.proofs.InNeed.{bytes_in_need, frame_in_need}
 use Rattle.headline.proofs.LayersKeep.{layers_keep}

@@ -29,12 +29,10 @@ use Rattle.obj_link.specs.Prelude.{IsImage, code_start, image_end, round_to_page
 use Rattle.obj_link.proofs.AddressLemmas.{objects_rise, functions_rise}
 use Rattle.obj_link.proofs.ThereLemmas.{what_names_mean}
 use Rattle.elf_file.specs.declared.flags.Flags.TheVariants.{ReadWrite}
-use Rattle.elf_file.specs.Loaded.{Executable, byte_in, flags_in}
-use Rattle.elf_file.specs.Stands.{Stands}
+use Rattle.elf_file.specs.Conditions.{Executable, byte_in, flags_in, Stands}
 use Rattle.rv_machine.specs.Starts.{Starts}
-use Rattle.flat_code.specs.Spots.{Bases, AreEntries}
-use Rattle.headline.specs.Places.{CellStands, CellsStand, BlocksStand, DataStands}
-use Rattle.headline.specs.Executables.{entries_of, places_of, NamesAreThere, ProgramsHaveNames, PlacedStands}
+use Rattle.flat_code.specs.Flat.{Bases, AreEntries}
+use Rattle.headline.specs.Executables.{CellStands, CellsStand, BlocksStand, DataStands, entries_of, places_of, NamesAreThere, ProgramsHaveNames, PlacedStands}
 use Rattle.headline.proofs.PlacedWords.{ground_of, words_stand}
 use Rattle.il_ast.proofs.Measured.{length_bytes}
 use Rattle.obj_link.proofs.ImageLemmas.{slots_count}

@@ -5,7 +5,7 @@ use Rattle.il_ast.specs.Prelude.{meaning}
 use Rattle.rv_isa.specs.Prelude.{State, Stop, step, Run, Going, Stopped, then_run, runs}
 use Rattle.rv_machine.proofs.OutputLaws.{after_output, run_after, runs_after}
 use Rattle.headline.specs.Headline.{GoesOnSo, Executes}
-use Rattle.headline.specs.Endless.{NeverEnds, IsBeginning, RunsOn, EndlessProgramsRunOn}
+use Rattle.headline.specs.Answered.{NeverEnds, IsBeginning, RunsOn, EndlessProgramsRunOn}
 
 -- ---- a run that goes on has gone on before
 

@@ -7,10 +7,8 @@ use Rattle.il_ast.specs.declared.value.Value.TheVariants.{Integer}
 use Rattle.il_ast.specs.Prelude.{Outcome, start_memory, callees, main_call, main_classes, main_args, params_of, stack_room, outcome, Asked, AreArgs}
 use Rattle.rv_isa.specs.Prelude.{State}
 use Rattle.flat_code.specs.Flat.{FlatGiven, FlatAsked}
-use Rattle.headline.specs.Knot.{Setting, IsSetting, KeptCall}
-use Rattle.headline.specs.Natives.{NativesPerform}
-use Rattle.headline.specs.Functions.{FunctionsKept}
-use Rattle.headline.specs.Start.{CallsMain}
+use Rattle.headline.specs.Knot.{Setting, IsSetting, KeptCall, NativesPerform}
+use Rattle.headline.specs.Executables.{FunctionsKept, CallsMain}
 use Rattle.headline.proofs.Answer.{grown_same}
 use Rattle.headline.proofs.InPlace.{below_same}
 use Rattle.headline.proofs.Tied.{calls_are_kept}

@@ -11,13 +11,11 @@ use Rattle.rv_isa.specs.declared.instruction.Instr.TheVariants.{Ebreak}
 use Rattle.rv_isa.specs.Prelude.{State, number_at, each_of, instruction_of, candidate_at, Broken, Stopped, runs, then_run, Fixed, InstrAt}
 use Rattle.rv_isa.proofs.StepLemmas.{step_at}
 use Rattle.rv_isa.proofs.RunLemmas.{comes_here}
-use Rattle.flat_code.specs.Spots.{Spots, Bases}
-use Rattle.flat_code.specs.Flat.{FlatGiven, FlatAsked, FlatOutcome, FlatEnded, flat_after, ShowsOutcome, KeepsFlat, Plays}
+use Rattle.flat_code.specs.Flat.{Spots, Bases, FlatGiven, FlatAsked, FlatOutcome, FlatEnded, flat_after, ShowsOutcome, KeepsFlat, Plays}
 use Rattle.abi_frames.specs.Performs.{Performs, KeepsFrame}
 use Rattle.vcode.proofs.InPlace.{meaning_runs}
-use Rattle.headline.specs.InPlace.{calls_in}
+use Rattle.headline.specs.Executables.{calls_in, body_of, FunctionsKept}
 use Rattle.headline.specs.Knot.{IsSetting, KeepsBody, Layers}
-use Rattle.headline.specs.Functions.{body_of, FunctionsKept}
 use Rattle.headline.specs.Example.{setting, halting, flat_halting, begin, step, flat_begin, flat_step}
 use Rattle.headline.proofs.Answer.{grown_same}
 use Rattle.headline.proofs.LayersKeep.{layers_keep}

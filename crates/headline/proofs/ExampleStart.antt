@@ -18,11 +18,10 @@ use Rattle.rv_isa.proofs.StepLemmas.{step_at}
 use Rattle.rv_isa.proofs.DecodingLaws.{instruction_of-word}
 use Rattle.rv_machine.specs.Mapped.{read_and_write}
 use Rattle.rv_isa.proofs.RunLemmas.{comes_here}
-use Rattle.flat_code.specs.Spots.{NoAccess, ThisByte, IsPlaced, ShowsCell, ShowsMemory}
-use Rattle.abi_frames.specs.Calls.{IsUsable, IsWorld, HoldsSpots, Ready, passed}
-use Rattle.headline.specs.Knot.{IsSetting}
-use Rattle.headline.specs.Natives.{NativesPerform}
-use Rattle.headline.specs.Start.{ExitsWith, CallsMain}
+use Rattle.flat_code.specs.Flat.{NoAccess, ThisByte, IsPlaced, ShowsCell, ShowsMemory}
+use Rattle.abi_frames.specs.Performs.{IsUsable, IsWorld, HoldsSpots, Ready, passed}
+use Rattle.headline.specs.Knot.{IsSetting, NativesPerform}
+use Rattle.headline.specs.Executables.{ExitsWith, CallsMain}
 use Rattle.headline.specs.Headline.{Executes}
 use Rattle.headline.proofs.Executed.{program_is_executed}
 use Rattle.headline.proofs.ExampleLayers.{functions_kept}

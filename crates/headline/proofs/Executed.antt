@@ -9,14 +9,12 @@ use Rattle.il_ast.specs.declared.value.End.TheVariants.{Exit, Halt, Undefined, S
 use Rattle.il_ast.specs.Prelude.{Memory, Spent, Outcome, Returned, Ended, price, outcome, meaning, behaviour_of, spent_of, start_memory, StillGoes, IsFailure}
 use Rattle.il_ast.proofs.Pacing.{turns_are_spent, output_comes_first}
 use Rattle.rv_isa.specs.Prelude.{State, Stop, Exited, Broken, Going, Stopped, runs}
-use Rattle.flat_code.specs.Spots.{Spots, Bases}
-use Rattle.flat_code.specs.Flat.{FlatOutcome, FlatReturned, FlatEnded, ShowsOutcome}
-use Rattle.abi_frames.specs.Calls.{ResultIn, passed}
-use Rattle.abi_frames.specs.Performs.{Performs, Returns, Stops, KeepsOn, allowance}
+use Rattle.flat_code.specs.Flat.{Spots, Bases, FlatOutcome, FlatReturned, FlatEnded, ShowsOutcome}
+use Rattle.abi_frames.specs.Performs.{ResultIn, passed, Performs, Returns, Stops, KeepsOn, allowance}
 use Rattle.headline.specs.Knot.{Setting, KeptCall}
-use Rattle.headline.specs.Start.{CallsMain}
+use Rattle.headline.specs.Executables.{CallsMain}
 use Rattle.headline.specs.Headline.{GoesOnSo, PutsOut}
-use Rattle.headline.specs.Whole.{ProgramIsExecuted}
+use Rattle.headline.specs.Answered.{ProgramIsExecuted}
 use Rattle.headline.proofs.Entered.{main_asked, main_flat, main_kept}
 use Rattle.rv_machine.proofs.PieceLaws.{joined}
 use Rattle.rv_machine.proofs.RunEnding.{came_to}

@@ -9,10 +9,8 @@ use Rattle.vcode.specs.Prelude.{classes_in, located, area, begin, step}
 use Rattle.flat_code.specs.Flat.{Names, FlatGiven, FlatAsked, FlatOutcome, KeepsFlat}
 use Rattle.flat_code.specs.Laws.{FlatKept}
 use Rattle.flat_code.specs.Step.{flat_begin, flat_step}
-use Rattle.abi_frames.specs.Calls.{World, GoodStack}
-use Rattle.abi_frames.specs.Frames.{IsFrameOf}
-use Rattle.abi_frames.specs.Layout.{frame_bound, frame_size}
-use Rattle.abi_frames.specs.Promise.{FramePromise}
+use Rattle.abi_frames.specs.Performs.{World, GoodStack, frame_bound, frame_size, FramePromise}
+use Rattle.abi_frames.specs.Functions.{IsFrameOf}
 use Rattle.rv_isa.specs.declared.labelled.Item.{Item}
 
 -- with more stack, of which less was asked

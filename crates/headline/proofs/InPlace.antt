@@ -11,14 +11,11 @@ use Rattle.il_ast.specs.declared.value.End.TheVariants.{Exit, Halt, Undefined, S
 use Rattle.il_ast.specs.Prelude.{Memory, Spent, nothing, one_call, both, Outcome, Returned, Ended, Callees, begun, globals_of, callees, Given, Suits, KeepsCode, Coded, Keeps, IsCodeOf, classes_of}
 use Rattle.il_ast.proofs.SameDepth.{SameBelow, same_run}
 use Rattle.rv_isa.specs.Prelude.{State, Stop}
-use Rattle.flat_code.specs.Spots.{Spots, Bases, Entries, ShowsResult, ShowsMemory, SameBlocks}
-use Rattle.flat_code.specs.Flat.{FlatOutcome, FlatReturned, FlatEnded, flat_after, ShowsOutcome}
-use Rattle.abi_frames.specs.Calls.{World}
-use Rattle.abi_frames.specs.Performs.{Performs, Returns, Stops, KeepsOn}
-use Rattle.headline.specs.Functions.{body_of, IsCodeIn}
+use Rattle.flat_code.specs.Flat.{Spots, Bases, Entries, ShowsResult, ShowsMemory, SameBlocks, FlatOutcome, FlatReturned, FlatEnded, flat_after, ShowsOutcome}
+use Rattle.abi_frames.specs.Performs.{World, Performs, Returns, Stops, KeepsOn}
+use Rattle.headline.specs.Executables.{body_of, IsCodeIn, below, calls_in}
 use Rattle.vcode.specs.Prelude.{IsCheaper, GoesSo}
 use Rattle.vcode.proofs.InPlace.{runs_stay, code_keeps_in, meaning_runs}
-use Rattle.headline.specs.InPlace.{below, calls_in}
 
 -- ---- the calls of a run
 

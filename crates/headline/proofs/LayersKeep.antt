@@ -7,9 +7,8 @@ use Rattle.il_ast.specs.declared.value.End.TheVariants.{Exit, Halt, Undefined, S
 use Rattle.il_ast.specs.Prelude.{Outcome, Returned, Ended, Callees, Event, Asked, Given, Body}
 use Rattle.vcode.specs.Prelude.{HasRoom}
 use Rattle.vcode.proofs.InPlace.{room_fine, goes_room}
-use Rattle.flat_code.specs.Spots.{Bases, Entries, Grown, Shows, AllShow}
-use Rattle.flat_code.specs.Flat.{Frame, FlatGiven, FlatAsked, FlatOutcome, FlatEnded, ShowsGiven}
-use Rattle.abi_frames.specs.Calls.{World, GoodStack}
+use Rattle.flat_code.specs.Flat.{Bases, Entries, Grown, Shows, AllShow, Frame, FlatGiven, FlatAsked, FlatOutcome, FlatEnded, ShowsGiven}
+use Rattle.abi_frames.specs.Performs.{World, GoodStack}
 use Rattle.headline.specs.Knot.{Setting, IsSetting, KeptBody, KeepsBody, Layers}
 use Rattle.headline.proofs.Answer.{grown_same, answer}
 use Rattle.headline.proofs.InPlace.{shown_so}

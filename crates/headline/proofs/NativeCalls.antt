@@ -12,12 +12,9 @@ use Rattle.il_ast.specs.declared.value.Cell.{Cell}
 use Rattle.il_ast.specs.declared.value.Cell.TheVariants.{Plain, Part, Blank}
 use Rattle.il_ast.specs.declared.value.End.TheVariants.{Exit, Undefined}
 use Rattle.il_ast.specs.Prelude.{Memory, block_at, span, cells_at, plain_bytes, nothing, Outcome, Ended, Callees, same_classes, result_fits, call_fits, answered, put_out, write_bytes, write_integer, write_call, exit_call, call_named, Asked, Passes, AreArgs}
-use Rattle.flat_code.specs.Spots.{ThisByte, Spots, Bases, Entries, AllShow, ShowsCell, ShowsMemory}
-use Rattle.flat_code.specs.Flat.{FlatGiven, FlatOutcome, FlatEnded, ShowsOutcome}
-use Rattle.abi_frames.specs.Calls.{GoodStack, Ready}
-use Rattle.abi_frames.specs.Performs.{Performs, PerformsAt}
-use Rattle.headline.specs.Knot.{Setting, KeepsCall}
-use Rattle.headline.specs.Natives.{known_byte, known_bytes, flat_answered, flat_put_out, flat_write, flat_exit, NativesPerform}
+use Rattle.flat_code.specs.Flat.{ThisByte, Spots, Bases, Entries, AllShow, ShowsCell, ShowsMemory, FlatGiven, FlatOutcome, FlatEnded, ShowsOutcome}
+use Rattle.abi_frames.specs.Performs.{GoodStack, Ready, Performs, PerformsAt}
+use Rattle.headline.specs.Knot.{Setting, KeepsCall, known_byte, known_bytes, flat_answered, flat_put_out, flat_write, flat_exit, NativesPerform}
 use Rattle.headline.proofs.Answer.{grown_same}
 use Rattle.headline.proofs.Trivial.{undefined_kept, by_test}
 use Rattle.headline.proofs.Called.{suits_wanted, performs_wanted}

@@ -16,16 +16,12 @@ use Rattle.rv_isa.proofs.StepLemmas.{step_at}
 use Rattle.rv_isa.proofs.RunLemmas.{comes_then, comes_by_step}
 use Rattle.asm_layout.proofs.Running.{instr_at, put_fits}
 use Rattle.obj_link.specs.Prelude.{IsImage, write_address, exit_address, functions_start, start_words, write_words, exit_words, functions_words, addresses_of, contents_of, callee_address}
-use Rattle.elf_file.specs.Loaded.{Executable}
-use Rattle.elf_file.specs.Stands.{Stands}
+use Rattle.elf_file.specs.Conditions.{Executable, Stands}
 use Rattle.rv_machine.specs.Starts.{Starts}
-use Rattle.flat_code.specs.Spots.{Spot, NoAccess, AnyByte, ThisByte, Spots}
-use Rattle.flat_code.specs.Flat.{FlatGiven}
-use Rattle.abi_frames.specs.Calls.{World, HoldsSpots, Ready, is_kept}
-use Rattle.abi_frames.specs.Performs.{Returns, Performs}
-use Rattle.headline.specs.Places.{setting_of}
-use Rattle.headline.specs.Natives.{known_byte, known_bytes, flat_answered, flat_put_out, flat_write, flat_exit}
-use Rattle.headline.specs.Executables.{places_of, PlacedNatives}
+use Rattle.flat_code.specs.Flat.{Spot, NoAccess, AnyByte, ThisByte, Spots, FlatGiven}
+use Rattle.abi_frames.specs.Performs.{World, HoldsSpots, Ready, is_kept, Returns, Performs}
+use Rattle.headline.specs.Executables.{setting_of, places_of, PlacedNatives}
+use Rattle.headline.specs.Knot.{known_byte, known_bytes, flat_answered, flat_put_out, flat_write, flat_exit}
 use Rattle.headline.proofs.PlacedWords.{ground_of, words_stand}
 use Rattle.headline.proofs.StartMemory.{not_away}
 

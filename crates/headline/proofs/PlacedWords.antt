@@ -7,8 +7,7 @@ use Rattle.rv_isa.specs.Prelude.{State, number_at, each_of, allowed, is_code, Gr
 use Rattle.rv_isa.proofs.MemoryLemmas.{each_from}
 use Rattle.obj_link.specs.Prelude.{Contents, IsImage, code_start}
 use Rattle.elf_file.specs.declared.flags.Flags.TheVariants.{Execute}
-use Rattle.elf_file.specs.Loaded.{Executable}
-use Rattle.elf_file.specs.Stands.{Stands}
+use Rattle.elf_file.specs.Conditions.{Executable, Stands}
 use Rattle.rv_machine.specs.Starts.{Starts}
 use Rattle.il_ast.proofs.Listed.{get_before, get_behind}
 

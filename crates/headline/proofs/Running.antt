@@ -5,13 +5,12 @@ use Rattle.il_ast.specs.declared.program.Program.{Program}
 use Rattle.il_ast.specs.declared.value.Callee.{Callee}
 use Rattle.il_ast.specs.Prelude.{main_args, params_of}
 use Rattle.rv_isa.specs.Prelude.{State, stack_top, stack_bottom}
-use Rattle.elf_file.specs.Loaded.{Executable}
+use Rattle.elf_file.specs.Conditions.{Executable}
 use Rattle.rv_machine.specs.Starts.{Starts}
-use Rattle.flat_code.specs.Spots.{AreEntries, AllShow}
-use Rattle.abi_frames.specs.Calls.{IsUsable}
+use Rattle.flat_code.specs.Flat.{AreEntries, AllShow}
+use Rattle.abi_frames.specs.Performs.{IsUsable}
 use Rattle.headline.specs.Knot.{IsSetting}
-use Rattle.headline.specs.Places.{Places, DataStands, word_places, first_word, start_places, setting_of, start_spots}
-use Rattle.headline.specs.Executable.{main_numbers, ExecutableRuns}
+use Rattle.headline.specs.Executables.{Places, DataStands, word_places, first_word, start_places, setting_of, start_spots, main_numbers, ExecutableRuns}
 use Rattle.headline.proofs.StartMemory.{objects_count, start_shown, stack_clear}
 use Rattle.headline.proofs.Executed.{program_is_executed}
 use Rattle.il_ast.proofs.Listed.{get_behind}

@@ -5,8 +5,8 @@ use Rattle.il_ast.specs.declared.value.Cell.TheVariants.{Plain}
 use Rattle.il_ast.specs.declared.value.Value.TheVariants.{Pointer}
 use Rattle.il_ast.specs.Prelude.{parts, word_cells, pointers_from}
 use Rattle.rv_isa.specs.Prelude.{pointer_bytes, word_bytes}
-use Rattle.flat_code.specs.Spots.{ThisByte, Spots, Bases, Entries}
-use Rattle.headline.specs.Places.{word_places}
+use Rattle.flat_code.specs.Flat.{ThisByte, Spots, Bases, Entries}
+use Rattle.headline.specs.Executables.{word_places}
 use Rattle.headline.proofs.Blocks.{SpotsShow, spots_append, AllShow, AllApart, Between, apart_from}
 
 -- these bytes are known from an address upward

@@ -24,16 +24,12 @@ use Rattle.asm_layout.proofs.Running.{instr_at, put_fits}
 use Rattle.headline.proofs.MadeAddress.{Gets, address_gets}
 use Rattle.obj_link.specs.Prelude.{IsImage, code_start, start_words, write_words, exit_words, contents_of, addresses_of}
 use Rattle.elf_file.specs.declared.flags.Flags.TheVariants.{ReadWrite}
-use Rattle.elf_file.specs.Loaded.{Executable}
-use Rattle.elf_file.specs.Stands.{Stands}
+use Rattle.elf_file.specs.Conditions.{Executable, Stands}
 use Rattle.rv_machine.specs.Starts.{Starts}
 use Rattle.rv_machine.proofs.Arguments.{arguments_length}
-use Rattle.flat_code.specs.Spots.{NoAccess, ThisByte}
-use Rattle.abi_frames.specs.Calls.{IsUsable, passed}
-use Rattle.headline.specs.Places.{Places, DataStands, start_spots}
-use Rattle.headline.specs.Start.{ExitsWith}
-use Rattle.headline.specs.Executable.{main_numbers, StartRuns}
-use Rattle.headline.specs.Executables.{places_of}
+use Rattle.flat_code.specs.Flat.{NoAccess, ThisByte}
+use Rattle.abi_frames.specs.Performs.{IsUsable, passed}
+use Rattle.headline.specs.Executables.{Places, DataStands, start_spots, main_numbers, StartRuns, places_of, ExitsWith}
 use Rattle.headline.proofs.PlacedWords.{ground_of, words_stand}
 use Rattle.headline.proofs.NativeCode.{number_of_exit, numbered, numbered_fixed, even_is, ends, low_status, main_of, behind_start}
 use Rattle.headline.proofs.StartMemory.{spot_byte}

@@ -7,10 +7,10 @@ use Rattle.il_ast.specs.declared.value.Cell.{Cell}
 use Rattle.il_ast.specs.declared.value.Cell.TheVariants.{Plain, Part, Blank}
 use Rattle.il_ast.specs.Prelude.{Memory, object_cells, word_cells, pointers_from, list_cells, start_memory}
 use Rattle.rv_isa.specs.Prelude.{State, stack_top, stack_bottom, argument_bytes, pointer_bytes, word_bytes}
-use Rattle.elf_file.specs.Loaded.{Executable, byte_in}
+use Rattle.elf_file.specs.Conditions.{Executable, byte_in}
 use Rattle.rv_machine.specs.Starts.{Starts}
-use Rattle.flat_code.specs.Spots.{Spot, NoAccess, ThisByte, Spots, Bases, Entries, Grown, ShowsCell, ShowsMemory}
-use Rattle.headline.specs.Places.{Places, CellStands, CellsStand, BlocksStand, DataStands, word_places, first_word, start_places, setting_of, start_spots}
+use Rattle.flat_code.specs.Flat.{Spot, NoAccess, ThisByte, Spots, Bases, Entries, Grown, ShowsCell, ShowsMemory}
+use Rattle.headline.specs.Executables.{Places, CellStands, CellsStand, BlocksStand, DataStands, word_places, first_word, start_places, setting_of, start_spots}
 use Rattle.headline.proofs.LayersKeep.{shows_grown}
 use Rattle.headline.proofs.Blocks.{SpotsShow, spots_append, BlockShows, AllShow, all_append, AllApart, Between, apart_from, apart_append, shows_all}
 use Rattle.headline.proofs.StartBytes.{BytesKnown, known_split, plain_shown, words_shown, words_between, words_apart, StandFrom, pointers_shown}

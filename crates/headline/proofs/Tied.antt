@@ -6,10 +6,8 @@ use Rattle.il_ast.specs.declared.value.Callee.{Callee}
 use Rattle.il_ast.specs.declared.value.Callee.TheVariants.{Defined, SystemWrite, SystemExit}
 use Rattle.il_ast.specs.declared.value.End.TheVariants.{Turns}
 use Rattle.il_ast.specs.Prelude.{nothing, Ended, call_named, callees, Asked}
-use Rattle.headline.specs.InPlace.{calls_in}
-use Rattle.headline.specs.Knot.{Setting, KeepsCall, AllKept}
-use Rattle.headline.specs.Natives.{NativesPerform}
-use Rattle.headline.specs.Functions.{FunctionsKept, CallsAreKept}
+use Rattle.headline.specs.Executables.{calls_in, FunctionsKept, CallsAreKept}
+use Rattle.headline.specs.Knot.{Setting, KeepsCall, AllKept, NativesPerform}
 use Rattle.headline.proofs.Trivial.{nothing_kept, by_test}
 use Rattle.headline.proofs.Called.{function_call_kept}
 use Rattle.headline.proofs.NativeCalls.{write_kept, exit_kept}

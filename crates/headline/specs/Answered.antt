@@ -1,14 +1,38 @@
 -- What a run of the machine answers, beside the program that it executes.
-use Rattle.std.specs.Prelude.{◌≡◌, ◌⊎◌, ℕ, ◌+◌, ◌*◌, ◌<◌, ◌≤◌, Bool, List}
+use Rattle.std.specs.Prelude.{◌≡◌, ℕ, List, ◌++◌, ◌⊎◌, ◌+◌, ◌*◌, ◌<◌, ◌≤◌, Bool, ◌^◌, [], length}
 use Rattle.il_ast.specs.declared.program.Program.{Program}
-use Rattle.il_ast.specs.declared.value.End.TheVariants.{Exit, Halt, Undefined, Stack, Turns}
+use Rattle.il_ast.specs.declared.value.End.TheVariants.{Turns, Exit, Halt, Undefined, Stack}
 use Rattle.il_ast.specs.Prelude.{meaning}
-use Rattle.rv_isa.specs.Prelude.{State}
+use Rattle.rv_isa.specs.Prelude.{State, Going, runs}
+use Rattle.headline.specs.Headline.{PutsOut, Executes, price_at}
 use Rattle.rv_machine.specs.declared.stop.Stop.{Stop}
 use Rattle.rv_machine.specs.declared.stop.Stop.TheVariants.{Exit as Exited, Break, Limit, Memory, Fault}
-use Rattle.rv_machine.specs.Runs.{RunEnds}
-use Rattle.headline.specs.Headline.{price_at, Executes}
-use Rattle.headline.specs.Endless.{IsBeginning}
+use Rattle.rv_machine.specs.Steps.{RunEnds}
+use Rattle.headline.specs.Knot.{Setting, IsSetting, NativesPerform}
+use Rattle.headline.specs.Executables.{FunctionsKept, CallsMain}
+
+-- ---- programs that never end, beside a machine that executes them
+
+-- it is out of turns, however many it gets
+abbrev pub NeverEnds : Program → (words : List (List ℕ)) → Type 0
+NeverEnds p words = (n : ℕ) → (meaning p words n).ending ≡ Turns
+
+pub record IsBeginning (first whole : List ℕ) : Type 0 where
+  pub rest : List ℕ
+  pub is : whole ≡ first ++ rest
+
+-- the machine never stops; it puts out, in time, all that the program puts out; and at each moment
+-- it has put out no more than a beginning of that
+pub record RunsOn (p : Program) (words : List (List ℕ)) (s : State) : Type 0 where
+  pub never_stops : (m : ℕ) → (t : State) × (runs m s ≡ Going t)
+  pub puts_all : (n : ℕ) → PutsOut s (meaning p words n).output
+  pub puts_no_more : (m : ℕ) (t : State) → runs m s ≡ Going t →
+      (n : ℕ) × IsBeginning t.output (meaning p words n).output
+
+abbrev pub EndlessProgramsRunOn : Type 0
+EndlessProgramsRunOn =
+    (p : Program) (words : List (List ℕ)) (s : State) → Executes p words s → NeverEnds p words →
+    RunsOn p words s
 
 -- the run stopped so, with all of this output; or for want of memory, behind a beginning of it
 abbrev pub StopsAs : (wanted : Stop) → (whole output : List ℕ) → Stop → Type 0
@@ -55,3 +79,16 @@ RunsAnswer =
     (p : Program) (words : List (List ℕ)) (s : State) (refuses : Bool) (limit : ℕ)
     (output : List ℕ) (stop : Stop) → Executes p words s → RunEnds refuses limit s output stop →
     Answers p words limit output stop
+
+-- ---- the theorem of the whole: where all calls are kept and the start code calls `main`, the machine
+-- executes the program.
+abbrev pub ProgramIsExecuted : Type 0
+ProgramIsExecuted =
+    (c : Setting) (p : Program) (words : List (List ℕ)) (s : State)
+    → IsSetting c
+    → FunctionsKept c p
+    → NativesPerform c
+    → length words < 2 ^ 32
+    → s.output ≡ []
+    → CallsMain c p words s
+    → Executes p words s

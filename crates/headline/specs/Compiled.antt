@@ -10,17 +10,15 @@ use Rattle.vcode.specs.declared.place.Location.{Location}
 use Rattle.vcode.specs.declared.code.Code.{Code}
 use Rattle.vcode.specs.Prelude.{coded, located}
 use Rattle.flat_code.specs.Laws.{FlatKept}
-use Rattle.abi_frames.specs.Frames.{IsFrameOf}
-use Rattle.abi_frames.specs.Layout.{frame_bound}
+use Rattle.abi_frames.specs.Functions.{IsFrameOf}
+use Rattle.abi_frames.specs.Performs.{frame_bound}
 use Rattle.rv_isa.specs.declared.labelled.Item.{Item}
 use Rattle.rv_isa.specs.Prelude.{LaysOut, Words, State, word_bytes}
 use Rattle.obj_link.specs.Prelude.{IsImage, contents_of, calls_reach, FitsBelow, EveryCode}
-use Rattle.elf_file.specs.Loaded.{Executable}
-use Rattle.elf_file.specs.Stands.{Stands}
+use Rattle.elf_file.specs.Conditions.{Executable, Stands}
 use Rattle.rv_machine.specs.Starts.{Starts}
-use Rattle.headline.specs.Functions.{IsCodeIn}
+use Rattle.headline.specs.Executables.{IsCodeIn, NamesAreThere}
 use Rattle.headline.specs.Headline.{Executes}
-use Rattle.headline.specs.Executables.{NamesAreThere}
 
 -- Words that stand for a function: they are the layout of labelled code that performs what location
 -- code, which is the function's, runs on bytes; and its frame takes at most the stack that a call of

@@ -7,8 +7,7 @@ use Rattle.il_ast.specs.Prelude.{nothing, one_turn, Outcome, Ended, Event, Does,
 use Rattle.rv_isa.specs.declared.permission.Permission.{Permission}
 use Rattle.rv_isa.specs.Prelude.{State, stack_top, stack_bottom}
 use Rattle.rv_machine.specs.Mapped.{read_and_write}
-use Rattle.flat_code.specs.Spots.{Spot, NoAccess, ThisByte}
-use Rattle.flat_code.specs.Flat.{FlatGiven, FlatAsked, FlatOutcome, FlatEnded}
+use Rattle.flat_code.specs.Flat.{Spot, NoAccess, ThisByte, FlatGiven, FlatAsked, FlatOutcome, FlatEnded}
 use Rattle.headline.specs.Knot.{Setting}
 
 -- `main` at 0x10000: ebreak; behind its return: addi x17, x0, 93 and ecall

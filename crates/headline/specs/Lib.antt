@@ -1,15 +1,7 @@
-pub mod InPlace
 pub mod Knot
-pub mod Natives
-pub mod Functions
-pub mod Start
 pub mod Headline
-pub mod Endless
 pub mod Answered
-pub mod Whole
 pub mod Example
-pub mod Places
-pub mod Executable
 pub mod Executables
 pub mod Read
 pub mod Compiled

@@ -1,14 +1,10 @@
 //! The theorem that joins the layers, and what the compiler's first steps give the next, each part as the contract of a function that does nothing.
-ghost use Rattle.headline.specs.Functions.{CallsAreKept};
-ghost use Rattle.headline.specs.Endless.{EndlessProgramsRunOn};
-ghost use Rattle.headline.specs.Answered.{RunsAnswer};
+ghost use Rattle.headline.specs.Executables.{CallsAreKept, ExecutableRuns, PlacedNatives, PlacedStands, PlacedStart, ProgramsHaveNames};
+ghost use Rattle.headline.specs.Answered.{EndlessProgramsRunOn, RunsAnswer, ProgramIsExecuted};
 ghost use Rattle.headline.specs.Headline.{Executes};
 ghost use Rattle.headline.specs.Read.{FunctionsAreGood};
-ghost use Rattle.headline.specs.Whole.{ProgramIsExecuted};
-ghost use Rattle.headline.specs.Executable.{ExecutableRuns};
 ghost use Rattle.headline.specs.Example.{state};
 ghost use Rattle.headline.specs.Compiled.{CompiledRuns, ReplacedRuns, StandsIn};
-ghost use Rattle.headline.specs.Executables.{PlacedNatives, PlacedStands, PlacedStart, ProgramsHaveNames};
 ghost use Rattle.il_ast.specs.Prelude.{halts};
 ghost use Rattle.std.specs.Prelude.{[]};
 

@@ -4,7 +4,7 @@ use Rattle.il_ast.specs.declared.function.Func.{Func}
 use Rattle.il_ast.specs.declared.program.InText.{InText}
 use Rattle.il_ast.specs.Prelude.{need}
 use Rattle.il_types.specs.Prelude.{capped}
-use Rattle.il_interp.specs.Room.{LeavesRoom}
+use Rattle.il_interp.specs.Machine.{LeavesRoom}
 
 fits_below : (room n : ℕ) → room < 2 ^ 32 → capped n ≤ room → n ≤ room
 fits_below room n small le = omega (arith, le)

@@ -15,8 +15,7 @@ use Rattle.il_ast.specs.declared.value.Value.TheVariants.{Integer}
 use Rattle.il_ast.specs.Prelude.{Memory, phi_value, Env, phi_values, with_phis, place_of, enter, enter_place, enter_at, entered, effect, turn_of, turn_in, end_effect, jump_effect}
 use Rattle.il_interp.specs.declared.state.Frame.{Frame}
 use Rattle.il_interp.specs.declared.state.State.{State}
-use Rattle.il_interp.specs.Machine.{On, Over, act_of, env_of, locals_of, react, stepped, turn_in_function, step, go_on, machine}
-use Rattle.il_interp.specs.Pieces.{rest_of}
+use Rattle.il_interp.specs.Machine.{On, Over, act_of, env_of, locals_of, react, stepped, turn_in_function, step, go_on, machine, rest_of}
 use Rattle.il_interp.specs.Rows.{GoesOn, held}
 use Rattle.il_interp.specs.Hops.{Ends, Enters, GoesAlong, held_in, standing_in, standing_with}
 use Rattle.il_interp.proofs.RowLemmas.{one_turn}

@@ -13,8 +13,7 @@ use Rattle.il_ast.specs.Prelude.{Memory, need, Call, Effect, Goes, Returns, Ends
 use Rattle.il_ast.specs.Effect.{Calls}
 use Rattle.il_interp.specs.declared.state.Frame.{Frame}
 use Rattle.il_interp.specs.declared.state.State.{State}
-use Rattle.il_interp.specs.Machine.{Next, On, Over, act_of, standing, env_of, received, return_to, function_step, native_step, named_step, react, turn_in_function, step, go_on, machine}
-use Rattle.il_interp.specs.Pieces.{put_before}
+use Rattle.il_interp.specs.Machine.{Next, On, Over, act_of, standing, env_of, received, return_to, function_step, native_step, named_step, react, turn_in_function, step, go_on, machine, put_before}
 
 -- the state, with these bytes put out before
 abbrev pub after_output : List ℕ → State → State

@@ -11,9 +11,7 @@ use Rattle.obj_link.specs.declared.linking.linked.Linked.{Linked}
 use Rattle.obj_link.specs.Prelude.{program}
 use Rattle.il_interp.specs.declared.pieces.Running.{Running}
 use Rattle.il_interp.specs.declared.state.State.{State}
-use Rattle.il_interp.specs.Prepared.{program_of}
-use Rattle.il_interp.specs.Machine.{Next, On, Over, machine, main_frame, started}
-use Rattle.il_interp.specs.Pieces.{comes_to, ending_of, held, left_of, put_before, rest_of}
+use Rattle.il_interp.specs.Machine.{program_of, Next, On, Over, machine, main_frame, started, comes_to, ending_of, held, left_of, put_before, rest_of}
 use Rattle.il_interp.proofs.OutputLaws.{emptied, machine_emptied}
 use Rattle.il_interp.proofs.RunLemmas.{run_means}
 

@@ -17,8 +17,7 @@ use Rattle.il_ast.specs.declared.value.Value.TheVariants.{Integer}
 use Rattle.il_ast.specs.declared.value.End.{End}
 use Rattle.il_ast.specs.Prelude.{globals_of, Behaviour, modulus, in_place, Memory, left_class, right_class, on_integers, operate_two, effect, turn_of, turn_in, inst_effect, after_inst, assigned, operand, value_at, Done}
 use Rattle.il_interp.specs.declared.state.State.{State}
-use Rattle.il_interp.specs.Pieces.{rest_of}
-use Rattle.il_interp.specs.Machine.{On, stepped, act_of, env_of, react, turn_in_function, step, go_on, machine}
+use Rattle.il_interp.specs.Machine.{rest_of, On, stepped, act_of, env_of, react, turn_in_function, step, go_on, machine}
 use Rattle.il_interp.specs.Rows.{Held, held, in_class, Does, further_on, GoesOn}
 
 -- ---- one operation

@@ -7,8 +7,7 @@ use Rattle.obj_link.specs.declared.linking.linked.Linked.{Linked}
 use Rattle.obj_link.specs.Prelude.{program}
 use Rattle.il_interp.proofs.Unwinding.{machine_means}
 use Rattle.il_interp.specs.declared.state.State.{State}
-use Rattle.il_interp.specs.Machine.{Next, On, Over, step, go_on, machine, started}
-use Rattle.il_interp.specs.Pieces.{rest_of, ending_of}
+use Rattle.il_interp.specs.Machine.{Next, On, Over, step, go_on, machine, started, rest_of, ending_of}
 
 abbrev pub behaves : List ℕ → End → Behaviour
 behaves out e = record { output = out; ending = e }

@@ -4,11 +4,7 @@ pub mod Negated
 pub mod Popped
 pub mod Machine
 pub mod Places
-pub mod Prepared
-pub mod Room
 pub mod Begun
-pub mod Pieces
 pub mod Slots
 pub mod Rows
 pub mod Hops
-pub mod Targets

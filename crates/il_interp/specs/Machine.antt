@@ -1,13 +1,15 @@
 -- A machine that runs a program turn by turn, with a list of the activations that wait for a
 -- result.
-use Rattle.std.specs.Prelude.{ℕ, zero, suc, ◌-◌, nat_lt, if◌then◌else◌, List, [], ◌∷◌, ◌++◌, map, length, replicate, slice_get, slice_set, Option, Some, None, option_map}
+use Rattle.il_ast.specs.declared.program.Program.{Program}
+use Rattle.obj_link.specs.Prelude.{program}
+use Rattle.il_interp.specs.declared.prepared.Prepared.{Prepared}
+use Rattle.std.specs.Prelude.{ℕ, zero, suc, ◌-◌, nat_lt, if◌then◌else◌, List, [], ◌∷◌, ◌++◌, map, length, replicate, slice_get, slice_set, Option, Some, None, option_map, unwrap_or, Result, Ok, Err, ◌≡◌, true, false, Bool}
 use Rattle.il_ast.specs.declared.operation.Class.TheVariants.{W, L}
 use Rattle.il_ast.specs.declared.operand.Arg.{Arg}
 use Rattle.il_ast.specs.declared.operand.Dest.{Dest}
 use Rattle.il_ast.specs.declared.function.Param.{Param}
 use Rattle.il_ast.specs.declared.function.Func.{Func}
 use Rattle.il_ast.specs.declared.program.InText.{InText}
-use Rattle.il_ast.specs.declared.program.Program.{Program}
 use Rattle.il_ast.specs.declared.value.Callee.{Callee}
 use Rattle.il_ast.specs.declared.value.Callee.TheVariants.{Defined, SystemWrite, SystemExit}
 use Rattle.il_ast.specs.declared.value.Value.{Value}
@@ -17,6 +19,14 @@ use Rattle.il_ast.specs.Prelude.{Memory, need, Env, Activation, Locals, Call, In
 use Rattle.il_ast.specs.Effect.{Calls}
 use Rattle.il_interp.specs.declared.state.Frame.{Frame}
 use Rattle.il_interp.specs.declared.state.State.{State}
+use Rattle.std.specs.Option.{option_flatten}
+use Rattle.il_interp.specs.declared.pieces.Running.{Running}
+use Rattle.il_ast.specs.declared.instruction.Jump.{Jump}
+use Rattle.il_ast.specs.declared.instruction.Jump.TheVariants.{Return, Halt}
+
+-- ---- a program that is prepared to be run, as the program itself
+abbrev pub program_of : Prepared → Program
+program_of p = program p.linked.now
 
 -- what a turn leads to: the run goes on, or it is over, with its output
 pub data Next : Type 0 where
@@ -167,3 +177,63 @@ call_of f to args values =
       wants = option_map (λ (d : Dest). d.class) to;
       args = values;
     }
+
+-- ---- runs in pieces: what a piece puts out is taken away before the next one
+
+-- what is left to come in n turns of a run that did some: it goes on from a state, or was over there
+abbrev pub rest_of : Program → State → Option End → (n : ℕ) → Behaviour
+rest_of p st None n = machine p n st
+rest_of p st (Some e) n = record { output = st.output; ending = e }
+
+-- how it ended, if its turns are used up where it wasn't over
+abbrev pub ending_of : Option End → End
+ending_of end = unwrap_or end Turns
+
+-- the same with these bytes put out before
+abbrev pub put_before : List ℕ → Behaviour → Behaviour
+put_before out b = record { output = out ++ b.output; ending = b.ending }
+
+-- ---- a run in hand
+
+-- what it puts out in n turns from here on, with what it holds of its output, and how it ends
+unfoldable pub comes_to : Running → (n : ℕ) → Behaviour
+comes_to r n = machine (program_of r.prepared) n r.state
+
+-- the memory that it has
+abbrev pub memory_of : Running → Memory
+memory_of r = r.state.memory
+
+-- what a temporary of its activation holds
+abbrev pub value_of : Running → (temp : ℕ) → Option Value
+value_of r temp = option_flatten (slice_get r.state.frame.temps temp)
+
+-- the output that it holds
+abbrev pub held : Running → List ℕ
+held r = r.state.output
+
+-- the same of one that may be over
+unfoldable pub left_of : Running → Option End → (n : ℕ) → Behaviour
+left_of r end n = rest_of (program_of r.prepared) r.state end n
+
+-- the same of one that was begun, or was over at once
+abbrev pub begun_as : Result Running End → (n : ℕ) → Behaviour
+begun_as (Ok r) n = comes_to r n
+begun_as (Err e) n = record { output = []; ending = e }
+
+-- ---- the room that a called function leaves to its own calls
+
+-- the room less what the function needs, or none where it needs more
+abbrev pub LeavesRoom : Option (InText Func) → ℕ → Option ℕ → Type 0
+LeavesRoom None room left = Unit {0}
+LeavesRoom (Some f) room None = nat_lt room (need f.item) ≡ true
+LeavesRoom (Some f) room (Some left) =
+    (nat_lt room (need f.item) ≡ false) × (left ≡ room - need f.item)
+
+-- ---- where jumps lead
+
+-- what a jump to a label does is what it does to enter this one, or it is undefined
+abbrev pub Leads : Jump → (jumps : Effect) → (enters : ℕ → Effect) → Option (ℕ × Bool) → Type 0
+Leads (Return v) jumps enters found = Unit {0}
+Leads Halt jumps enters found = Unit {0}
+Leads j jumps enters None = jumps ≡ Ends Undefined
+Leads j jumps enters (Some found) = jumps ≡ enters found.0

@@ -6,9 +6,7 @@ ghost use Rattle.il_ast.specs.declared.operand.Arg.{Arg as ArgOf};
 ghost use Rattle.il_ast.specs.declared.operand.Dest.{Dest as DestOf};
 ghost use Rattle.il_ast.specs.declared.value.Callee.TheVariants.{Defined, SystemWrite, SystemExit};
 ghost use Rattle.il_ast.specs.Prelude.{globals_of, with_args, inst_effect, same_classes, result_fits};
-ghost use Rattle.il_interp.specs.Prepared.{program_of};
-ghost use Rattle.il_interp.specs.Room.{LeavesRoom};
-ghost use Rattle.il_interp.specs.Machine.{locals_of, inst_next, stepped, call_of, function_step, named_step};
+ghost use Rattle.il_interp.specs.Machine.{program_of, locals_of, inst_next, stepped, call_of, function_step, named_step, LeavesRoom};
 
 use crate::native::{exit, write};
 use crate::operand::{all_operands, function_at, operand};

@@ -2,7 +2,7 @@
 ghost use Rattle.std.specs.Prelude.{◌≡◌, ◌<◌, ◌≤◌, ℕ, List, Some, true, slice_get, IfOk, IfSome, MatchBool};
 ghost use Rattle.il_ast.specs.Prelude.{Memory, Env, enter, jump_effect};
 ghost use Rattle.obj_link.specs.Prelude.{shown};
-ghost use Rattle.il_interp.specs.Prepared.{program_of};
+ghost use Rattle.il_interp.specs.Machine.{program_of};
 ghost use Rattle.il_interp.specs.Hops.{Ends, Enters, GoesAlong, held_in};
 
 use crate::jump::{landing, places_to};

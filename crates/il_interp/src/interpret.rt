@@ -5,8 +5,7 @@ ghost use Rattle.il_ast.specs.declared.function.Param.{Param as ParamOf};
 ghost use Rattle.il_ast.specs.Prelude.{main_args, main_classes, same_classes, result_fits, meaning};
 ghost use Rattle.obj_link.specs.Prelude.{program, are_arguments};
 ghost use Rattle.il_interp.specs.declared.error.RunError.TheVariants.{Words};
-ghost use Rattle.il_interp.specs.Prepared.{program_of};
-ghost use Rattle.il_interp.specs.Machine.{started};
+ghost use Rattle.il_interp.specs.Machine.{program_of, started};
 ghost use Rattle.il_interp.specs.Begun.{begun_next, Refuses};
 
 use crate::call::{first_frame, room_left};

@@ -5,9 +5,7 @@ ghost use Rattle.il_ast.specs.declared.instruction.Jump.TheVariants.{Return};
 ghost use Rattle.il_ast.specs.Prelude.{globals_of, Memory, free_all, branch_to, phi_value, phi_values, place_of, with_phis, enter, jump_effect, end_of};
 ghost use Rattle.obj_link.specs.Prelude.{shown, program};
 ghost use Rattle.il_types.specs.Prelude.{are_distinct, are_all_distinct};
-ghost use Rattle.il_interp.specs.Prepared.{program_of};
-ghost use Rattle.il_interp.specs.Targets.{Leads};
-ghost use Rattle.il_interp.specs.Machine.{env_of, locals_of, received, return_to, react, stepped};
+ghost use Rattle.il_interp.specs.Machine.{program_of, env_of, locals_of, received, return_to, react, stepped, Leads};
 
 use crate::operand::{block_at, operand};
 use crate::phi_numbers::phi_number;

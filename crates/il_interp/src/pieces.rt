@@ -5,7 +5,7 @@ ghost use Rattle.il_ast.specs.Prelude.{meaning, load, size_at};
 ghost use Rattle.obj_link.specs.Prelude.{program, are_arguments};
 ghost use Rattle.il_interp.specs.declared.error.RunError.TheVariants.{Words};
 ghost use Rattle.il_interp.specs.Begun.{Refuses};
-ghost use Rattle.il_interp.specs.Pieces.{begun_as, comes_to, held, left_of, memory_of, put_before, value_of};
+ghost use Rattle.il_interp.specs.Machine.{begun_as, comes_to, held, left_of, memory_of, put_before, value_of};
 
 use crate::error::RunError;
 use crate::interpret::begin;

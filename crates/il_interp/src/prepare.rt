@@ -4,7 +4,7 @@ ghost use Rattle.il_ast.specs.Prelude.{need};
 ghost use Rattle.il_types.specs.Prelude.{capped};
 ghost use Rattle.obj_link.specs.Prelude.{shown};
 ghost use Rattle.il_interp.specs.Places.{needs_of, placed, places_of};
-ghost use Rattle.il_interp.specs.Prepared.{program_of};
+ghost use Rattle.il_interp.specs.Machine.{program_of};
 ghost use Rattle.il_ast.specs.declared.function.Func.{Func as FuncOf};
 ghost use Rattle.il_ast.specs.declared.program.InText.{InText as InTextOf};
 

@@ -1,8 +1,6 @@
 //! Runs that are watched: where each turn is due, the last ones, and where blocks of memory were made.
 ghost use Rattle.std.specs.Prelude.{◌≡◌, ◌+◌, ℕ, IfOk};
-ghost use Rattle.il_interp.specs.Pieces.{rest_of};
-ghost use Rattle.il_interp.specs.Prepared.{program_of};
-ghost use Rattle.il_interp.specs.Machine.{machine};
+ghost use Rattle.il_interp.specs.Machine.{rest_of, machine, program_of};
 
 use crate::prepared::Prepared;
 use crate::state::{Frame, State};

@@ -2,8 +2,7 @@
 ghost use Rattle.std.specs.Prelude.{◌≡◌, ◌+◌, ◌<◌, ◌^◌, Some, slice_get, IfOk};
 ghost use Rattle.il_ast.specs.Prelude.{globals_of, inst_effect, turn_of};
 ghost use Rattle.obj_link.specs.Prelude.{shown};
-ghost use Rattle.il_interp.specs.Prepared.{program_of};
-ghost use Rattle.il_interp.specs.Machine.{act_of, env_of, locals_of, inst_next, react, stepped, step};
+ghost use Rattle.il_interp.specs.Machine.{program_of, act_of, env_of, locals_of, inst_next, react, stepped, step};
 
 use crate::call::call;
 use crate::instruction::{allocate, blit, in_row};

@@ -4,8 +4,7 @@ use Rattle.std.proofs.Math.Nat.{suc-add}
 use Rattle.std.specs.Option.{option_map, option_map_or}
 use Rattle.std.proofs.lemmas.Bool.{and_parts, and_from}
 use Rattle.std.proofs.lemmas.Bool.Decides.{nat_tests, Decides-eqb}
-use Rattle.il_lex.specs.Bytes.{is_octal}
-use Rattle.il_lex.specs.Quoted.{is_plain, escaped, begins_octal, IsOctal, IsItem, Spells}
+use Rattle.il_lex.specs.Quoted.{is_octal, is_plain, escaped, begins_octal, IsOctal, IsItem, Spells}
 use Rattle.il_lex.specs.Scan.{octal_third, octal_second, escape, item, items_len, items}
 use Rattle.il_lex.proofs.Runs.{cond_cases}
 

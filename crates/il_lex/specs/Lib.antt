@@ -1,9 +1,4 @@
-pub mod Bytes
-pub mod Number
 pub mod Quoted
-pub mod Next
-pub mod Line
 pub mod Place
 pub mod Token
 pub mod Scan
-pub mod Laws

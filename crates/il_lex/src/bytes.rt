@@ -2,7 +2,7 @@
 
 ghost use Rattle.std.specs.Prelude.{◌≡◌, ◌≤◌, length};
 ghost use Rattle.std.specs.List.{prefix_len};
-ghost use Rattle.il_lex.specs.Bytes.{is_spacing, is_digit, is_octal, is_word_start, is_word_part, is_in_comment, ends_token, is_symbol};
+ghost use Rattle.il_lex.specs.Quoted.{is_spacing, is_digit, is_octal, is_word_start, is_word_part, is_in_comment, ends_token, is_symbol};
 ghost use Rattle.il_lex.specs.Scan.{is_ended, begins_word, begins_quote};
 
 use memchr::memchr2;

@@ -17,7 +17,7 @@
 //!
 //! # What it promises
 //!
-//! `specs/Next.antt` says what the next token of a list of bytes is, as a relation (`IsNext`), and
+//! `specs/Scan.antt` says what the next token of a list of bytes is, as a relation (`IsNext`), and
 //! `scan` answers just that, both ways: a token where one stands next, the end where nothing but
 //! spacing and a comment is left, an error nowhere else. The law that at most one token stands next
 //! is in `laws`. `Tokens` goes along a text: each token is the slice of its span, nothing but spacing

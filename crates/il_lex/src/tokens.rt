@@ -1,7 +1,7 @@
 //! The tokens of a text, one after another.
 
 ghost use Rattle.std.specs.Prelude.{◌≡◌};
-ghost use Rattle.il_lex.specs.Line.{line_ends};
+ghost use Rattle.il_lex.specs.Scan.{line_ends};
 
 use crate::kind::Kind;
 use crate::scan::{Ahead, scan};
@@ -51,7 +51,7 @@ pub struct Tokens<'a> {
 impl<'a> Model for Tokens<'a> {
     ghost use Rattle.std.specs.Prelude.{◌≡◌, ◌≤◌, length};
     ghost use Rattle.il_lex.specs.Place.{Place};
-    ghost use Rattle.il_lex.specs.Line.{line_at};
+    ghost use Rattle.il_lex.specs.Scan.{line_at};
 
     ghost Value = { Place };
 

@@ -5,7 +5,7 @@ use Rattle.il_ast.specs.declared.value.Value.TheVariants.{Integer, Pointer, Func
 use Rattle.il_ast.specs.declared.value.Cell.{Cell}
 use Rattle.il_ast.specs.Prelude.{Memory, block_at, span, load, store, copy, cells_at, write_at, cells_for, value_of}
 use Rattle.il_mem.specs.declared.memory.Place.{Place}
-use Rattle.il_mem.specs.Places.{place_in, copied_place, Gives}
+use Rattle.il_mem.specs.Changed.{place_in, copied_place, Gives}
 
 pub load_at : (m : Memory) (n : ℕ) (at : Value) (p : Place) → place_in at ≡ Some p → load m n at ≡ option_and_then value_of (cells_at m p.block p.offset n)
 unfolding load

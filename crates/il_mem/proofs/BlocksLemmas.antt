@@ -5,9 +5,7 @@ use Rattle.std.proofs.lemmas.Bool.Decides.{nat_tests}
 use Rattle.std.specs.Option.{option_map, option_and_then, option_flatten}
 use Rattle.il_ast.specs.declared.value.Cell.{Cell}
 use Rattle.il_ast.specs.Prelude.{Memory, block_at, cells_at, write_at, apart_or_same, span, put}
-use Rattle.il_mem.specs.Blocks.{blocks}
-use Rattle.il_mem.specs.Changed.{cells_put, within_put, Changes}
-use Rattle.il_mem.specs.Places.{copied_place, Gives}
+use Rattle.il_mem.specs.Changed.{blocks, cells_put, within_put, Changes, copied_place, Gives}
 
 pub length-blocks : (f : ℕ → Option (List Cell)) (b n : ℕ) → length (blocks f b n) ≡ n
 length-blocks f b zero = refl

@@ -7,10 +7,7 @@ use Rattle.std.proofs.lemmas.List.Edits.{length-remove, get_or-remove_below, get
 use Rattle.std.proofs.lemmas.Option.{slice_get_read}
 use Rattle.il_ast.specs.declared.value.Cell.{Cell}
 use Rattle.il_ast.specs.Prelude.{Memory, block_at, free, span}
-use Rattle.il_mem.specs.Blocks.{blocks}
-use Rattle.il_mem.specs.Changed.{cells_put, Changes, ChangesBlock}
-use Rattle.il_mem.specs.Places.{copied_place, Gives}
-use Rattle.il_mem.specs.Found.{found, Rising, Numbered}
+use Rattle.il_mem.specs.Changed.{blocks, cells_put, Changes, ChangesBlock, copied_place, Gives, found, Rising, Numbered}
 use Rattle.il_mem.proofs.BlocksLemmas.{block_at-blocks, block_at-past, blocks-set, fresh_made, copy_across_is, gives}
 
 same_number : (n q : ℕ) → n ≡ q → nat_eq n q ≡ true

@@ -6,8 +6,7 @@ use Rattle.il_ast.specs.declared.value.Cell.{Cell}
 use Rattle.il_ast.specs.declared.value.Cell.TheVariants.{Part as PartCell, Blank as BlankCell}
 use Rattle.il_mem.specs.declared.block.Mark.{Mark}
 use Rattle.il_mem.specs.declared.block.Mark.TheVariants.{Part, Blank}
-use Rattle.il_mem.specs.Joined.{cell_of, joined}
-use Rattle.il_mem.specs.Shown.{ShowsSame}
+use Rattle.il_mem.specs.Joined.{cell_of, joined, ShowsSame}
 
 pub length-joined : (marks : List Mark) (values : List Value) → length (joined marks values) ≡ length marks
 length-joined [] values = refl

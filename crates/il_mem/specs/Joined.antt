@@ -1,5 +1,5 @@
 -- The cells that marks stand for, with the values beside them.
-use Rattle.std.specs.Prelude.{ℕ, List, [], ◌∷◌}
+use Rattle.std.specs.Prelude.{ℕ, List, [], ◌∷◌, ◌≡◌}
 use Rattle.il_ast.specs.declared.value.Value.{Value}
 use Rattle.il_ast.specs.declared.value.Value.TheVariants.{Integer}
 use Rattle.il_ast.specs.declared.value.Cell.{Cell}
@@ -24,3 +24,7 @@ abbrev pub overlaid : List ℕ → List Cell → List Cell
 overlaid [] cells = cells
 overlaid (b ∷ bytes) [] = []
 overlaid (b ∷ bytes) (c ∷ cells) = PlainCell b ∷ overlaid bytes cells
+
+-- ---- lists of values that show the same cells
+abbrev pub ShowsSame : List Value → List Value → Type 0
+ShowsSame old new = (marks : List Mark) → joined marks new ≡ joined marks old

@@ -4,8 +4,7 @@ ghost use Rattle.il_ast.specs.declared.value.Cell.TheVariants.{Blank, Plain};
 ghost use Rattle.il_ast.specs.declared.value.Value.{Value as ValueOf};
 ghost use Rattle.il_ast.specs.Prelude.{byte_count, bytes_of, number_of, plain_bytes};
 ghost use Rattle.il_mem.specs.Cells.{plain_byte};
-ghost use Rattle.il_mem.specs.Joined.{cell_of, joined, overlaid};
-ghost use Rattle.il_mem.specs.Shown.{ShowsSame};
+ghost use Rattle.il_mem.specs.Joined.{cell_of, joined, overlaid, ShowsSame};
 ghost use Rattle.il_mem.specs.Written.{written};
 
 use crate::words::{bytes_in, little, overwrite};

@@ -2,7 +2,7 @@
 ghost use Rattle.std.specs.Prelude.{◌≡◌, ◌+◌, ◌^◌, ◌<◌, ◌≤◌, [], ◌∷◌, ◌++◌, length, Some, None, IfOk, OnOk, OnErr, IfSome, OnSome, IfNone, MatchBool, MatchOption, option_and_then};
 ghost use Rattle.il_ast.specs.Prelude.{byte_count, block_at, size_at, load, store, copy, fresh, free, cells_at, write_at, cells_for, value_of, plain_bytes};
 ghost use Rattle.il_ast.specs.declared.value.Value.TheVariants.{Integer, Pointer};
-ghost use Rattle.il_mem.specs.Places.{place_in, copied_place, Gives};
+ghost use Rattle.il_mem.specs.Changed.{place_in, copied_place, Gives};
 
 use crate::block::Block;
 use crate::change::{shift_block, store_block};
@@ -34,8 +34,8 @@ impl Model for BlockMemory {
 
     ghost Value = { List (Option (List Cell)) };
 
-    ghost use Rattle.il_mem.specs.Blocks.{blocks};
-    ghost use Rattle.il_mem.specs.Found.{found, Numbered};
+    ghost use Rattle.il_mem.specs.Changed.{blocks};
+    ghost use Rattle.il_mem.specs.Changed.{found, Numbered};
 
     ghost view = { λ m. blocks (found m.numbers.items m.live.items) 0 m.made };
 

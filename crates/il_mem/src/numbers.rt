@@ -1,5 +1,5 @@
 //! The numbers of live blocks, in order.
-ghost use Rattle.il_mem.specs.Found.{Rising, Stands};
+ghost use Rattle.il_mem.specs.Changed.{Rising, Stands};
 
 /// Where a number stands, found by halves.
 fn search(numbers: &[u128], number: u128) -> Option<usize>

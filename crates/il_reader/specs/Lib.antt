@@ -1,12 +1,9 @@
-pub mod State
 pub mod Keys
 pub mod Rules
-pub mod Words
 pub mod Grammar
 pub mod Reads
 pub mod Steps
 pub mod Operands
-pub mod Sentences
 pub mod Statements
 pub mod Reading
 pub mod Blocks

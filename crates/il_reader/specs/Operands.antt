@@ -1,28 +1,101 @@
 -- The rules of operands and of the words of operations as functions of the state.
-use Rattle.std.specs.Prelude.{ℕ, Bool, true, false, if◌then◌else◌, nat_eq, List, [], ◌∷◌, ◌++◌, codes, Option, Some, None}
-use Rattle.std.specs.Cmp.Lexicographic.{pointwise}
-use Rattle.il_lex.specs.declared.kind.Symbol.TheVariants.{Comma, Equals}
-use Rattle.il_lex.specs.declared.kind.Kind.{Kind}
-use Rattle.il_lex.specs.declared.kind.Kind.TheVariants.{Natural, Negative, Temp as TempKind}
+use Rattle.std.specs.Prelude.{ℕ, List, ◌++◌, codes, Bool, true, false, if◌then◌else◌, nat_eq, [], ◌∷◌, Option, Some, None, take, drop}
 use Rattle.il_ast.specs.declared.operation.Class.{Class}
 use Rattle.il_ast.specs.declared.operation.Class.TheVariants.{W, L}
 use Rattle.il_ast.specs.declared.operation.Size.{Size}
 use Rattle.il_ast.specs.declared.operation.Size.TheVariants.{Byte, Half, Word, Long}
+use Rattle.il_ast.specs.declared.operation.Extension.{Extension}
 use Rattle.il_ast.specs.declared.operation.Extension.TheVariants.{SignedWord, UnsignedWord, SignedHalf, UnsignedHalf, SignedByte, UnsignedByte}
 use Rattle.il_ast.specs.declared.operation.UnaryOp.{UnaryOp}
 use Rattle.il_ast.specs.declared.operation.UnaryOp.TheVariants.{Neg, Copy, Extend, LoadLong, Load}
+use Rattle.il_ast.specs.declared.operation.Condition.{Condition}
 use Rattle.il_ast.specs.declared.operation.Condition.TheVariants.{Equal, NotEqual, SignedLessEqual, SignedLess, SignedGreaterEqual, SignedGreater, UnsignedLessEqual, UnsignedLess, UnsignedGreaterEqual, UnsignedGreater}
 use Rattle.il_ast.specs.declared.operation.BinaryOp.{BinaryOp}
 use Rattle.il_ast.specs.declared.operation.BinaryOp.TheVariants.{Add, Sub, Mul, And, Or, Xor, Div, Rem, Udiv, Urem, Sar, Shr, Shl, Compare}
 use Rattle.il_ast.specs.declared.operation.Alignment.{Alignment}
 use Rattle.il_ast.specs.declared.operation.Alignment.TheVariants.{Four, Eight, Sixteen}
+use Rattle.std.specs.Cmp.Lexicographic.{pointwise}
+use Rattle.il_lex.specs.declared.kind.Symbol.TheVariants.{Comma, Equals}
+use Rattle.il_lex.specs.declared.kind.Kind.{Kind}
+use Rattle.il_lex.specs.declared.kind.Kind.TheVariants.{Natural, Negative, Temp as TempKind, Symbol, Global as GlobalKind, Word as WordKind}
 use Rattle.il_ast.specs.declared.operand.Val.{Val}
 use Rattle.il_ast.specs.declared.operand.Val.TheVariants.{Int, Temp, Global}
 use Rattle.il_ast.specs.declared.operand.Dest.{Dest}
 use Rattle.il_ast.specs.declared.operand.Arg.{Arg}
 use Rattle.il_ast.specs.declared.block.PhiArg.{PhiArg}
-use Rattle.il_reader.specs.Words.{class_word, size_word, unary_word, binary_word, alloc_word, store_word}
-use Rattle.il_reader.specs.Steps.{Step, ◌>>=◌, ◌>>◌, give, piece, keyword, either, sees, integer, temp, label, symbol}
+use Rattle.il_reader.specs.Steps.{Step, ◌>>=◌, ◌>>◌, give, piece, keyword, either, sees, integer, temp, label, symbol, commas, word, natural, maybe, State}
+use Rattle.il_lex.specs.declared.scan.Ahead.{Ahead}
+use Rattle.il_lex.specs.declared.scan.Ahead.TheVariants.{End, Bad, Found}
+use Rattle.il_lex.specs.Scan.{scan}
+use Rattle.il_ast.specs.declared.instruction.Inst.{Inst}
+use Rattle.il_ast.specs.declared.instruction.Inst.TheVariants.{Store, Blit}
+use Rattle.il_ast.specs.declared.instruction.Jump.{Jump}
+use Rattle.il_ast.specs.declared.instruction.Jump.TheVariants.{Goto, Branch, Return, Halt}
+
+-- ---- the words of operations (QBE IL reference, "Instructions")
+abbrev pub class_word : Class → List ℕ
+class_word W = codes "w"
+class_word L = codes "l"
+
+abbrev pub size_word : Size → List ℕ
+size_word Byte = codes "b"
+size_word Half = codes "h"
+size_word Word = codes "w"
+size_word Long = codes "l"
+
+-- how the width and the sign are written in the words of extensions and loads
+abbrev pub extension_word : Extension → List ℕ
+extension_word SignedWord = codes "sw"
+extension_word UnsignedWord = codes "uw"
+extension_word SignedHalf = codes "sh"
+extension_word UnsignedHalf = codes "uh"
+extension_word SignedByte = codes "sb"
+extension_word UnsignedByte = codes "ub"
+
+-- the word of an operation with one operand; `loadw` stands for `loadsw` too
+abbrev pub unary_word : UnaryOp → List ℕ
+unary_word Neg = codes "neg"
+unary_word Copy = codes "copy"
+unary_word (Extend e) = codes "ext" ++ extension_word e
+unary_word LoadLong = codes "loadl"
+unary_word (Load e) = codes "load" ++ extension_word e
+
+abbrev pub condition_word : Condition → List ℕ
+condition_word Equal = codes "eq"
+condition_word NotEqual = codes "ne"
+condition_word SignedLessEqual = codes "sle"
+condition_word SignedLess = codes "slt"
+condition_word SignedGreaterEqual = codes "sge"
+condition_word SignedGreater = codes "sgt"
+condition_word UnsignedLessEqual = codes "ule"
+condition_word UnsignedLess = codes "ult"
+condition_word UnsignedGreaterEqual = codes "uge"
+condition_word UnsignedGreater = codes "ugt"
+
+-- the word of an operation with two operands
+abbrev pub binary_word : BinaryOp → List ℕ
+binary_word Add = codes "add"
+binary_word Sub = codes "sub"
+binary_word Mul = codes "mul"
+binary_word And = codes "and"
+binary_word Or = codes "or"
+binary_word Xor = codes "xor"
+binary_word Div = codes "div"
+binary_word Rem = codes "rem"
+binary_word Udiv = codes "udiv"
+binary_word Urem = codes "urem"
+binary_word Sar = codes "sar"
+binary_word Shr = codes "shr"
+binary_word Shl = codes "shl"
+binary_word (Compare condition class) = codes "c" ++ condition_word condition ++ class_word class
+
+abbrev pub alloc_word : Alignment → List ℕ
+alloc_word Four = codes "alloc4"
+alloc_word Eight = codes "alloc8"
+alloc_word Sixteen = codes "alloc16"
+
+abbrev pub store_word : Size → List ℕ
+store_word size = codes "store" ++ size_word size
 
 -- what a word means in a table of words
 abbrev pub word_in : {A : Type 0} → List (List ℕ × A) → List ℕ → Option A
@@ -104,3 +177,92 @@ phi_argument = do
   l ← label
   v ← value
   give (record { from = l; value = v })
+
+-- ---- the rules of jumps, of instructions that write no temporary, and of arguments as functions of the
+-- state.
+abbrev pub word_is : (List ℕ → Bool) → List ℕ → Kind → ℕ → ℕ → Bool
+word_is test rest WordKind gap len = test (take len (drop gap rest))
+word_is test rest _ gap len = false
+
+abbrev pub ahead_is : (List ℕ → Bool) → List ℕ → Ahead → Bool
+ahead_is test rest End = false
+ahead_is test rest Bad = false
+ahead_is test rest (Found kind gap len) = word_is test rest kind gap len
+
+-- whether the next token is a word that passes a test
+abbrev pub sees_word : (List ℕ → Bool) → State → Bool
+sees_word test s = ahead_is test s.rest (scan s.rest)
+
+-- what begins a value
+abbrev pub is_value : Kind → Bool
+is_value (Natural n) = true
+is_value (Negative n) = true
+is_value TempKind = true
+is_value GlobalKind = true
+is_value _ = false
+
+abbrev pub storing : Step Inst
+storing = do
+  size ← keyword store_of
+  v ← value
+  comma
+  at ← value
+  give (Store size v at)
+
+abbrev pub blit : Step Inst
+blit = do
+  word (codes "blit")
+  from ← value
+  comma
+  to ← value
+  comma
+  count ← natural
+  give (Blit from to count)
+
+abbrev pub goto : Step Jump
+goto = do
+  word (codes "jmp")
+  l ← label
+  give (Goto l)
+
+abbrev pub branch : Step Jump
+branch = do
+  word (codes "jnz")
+  v ← value
+  comma
+  nonzero ← label
+  comma
+  otherwise ← label
+  give (Branch v nonzero otherwise)
+
+abbrev pub returning : Step Jump
+returning = do
+  word (codes "ret")
+  v ← maybe (sees is_value) value
+  give (Return v)
+
+abbrev pub halt : Step Jump
+halt = do
+  word (codes "hlt")
+  give Halt
+
+abbrev pub is_text : List ℕ → List ℕ → Bool
+is_text word text = pointwise nat_eq text word
+
+abbrev pub jump : Step Jump
+jump =
+    either (sees_word (is_text (codes "jmp"))) goto
+    (either (sees_word (is_text (codes "jnz"))) branch
+    (either (sees_word (is_text (codes "ret"))) returning halt))
+
+abbrev pub is_word : Kind → Bool
+is_word WordKind = true
+is_word _ = false
+
+abbrev pub is_comma : Kind → Bool
+is_comma (Symbol Comma) = true
+is_comma _ = false
+
+abbrev pub arguments : Step (List Arg)
+arguments s =
+    if sees is_word s then commas (sees is_comma) comma (sees is_word) argument s else Some ([], s)

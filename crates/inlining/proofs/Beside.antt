@@ -7,8 +7,7 @@ use Rattle.il_ast.specs.Prelude.{Spent, nothing, one_call, both, Outcome, Callee
 use Rattle.il_ast.proofs.Simulated.{LoggedFrom, step_back, call_back}
 use Rattle.vcode.specs.declared.code.Code.{Code}
 use Rattle.vcode.specs.Prelude.{Values, virtual, State, step, IsCheaper, GoesSo, HasRoom, RunsAs}
-use Rattle.inlining.specs.InPlace.{Site, IsSite, in_place}
-use Rattle.inlining.specs.Candidates.{IsCandidateOf}
+use Rattle.inlining.specs.InPlace.{Site, IsSite, in_place, IsCandidateOf}
 
 -- ---- what is given
 

@@ -6,7 +6,7 @@ use Rattle.vcode.specs.declared.line.Line.{Line}
 use Rattle.vcode.specs.declared.line.Line.TheVariants.{Tick, Set, Operate, Load, Store, Alloc, Blit, Call}
 use Rattle.vcode.specs.declared.code.Block.{Block}
 use Rattle.vcode.specs.declared.code.Code.{Code}
-use Rattle.inlining.specs.Candidates.{begins_turn, is_calm, calm_behind, is_candidate}
+use Rattle.inlining.specs.InPlace.{begins_turn, is_calm, calm_behind, is_candidate}
 use Rattle.inlining.proofs.Listing.{all_weaker}
 
 -- a line makes no block of memory

@@ -16,7 +16,7 @@ use Rattle.vcode.specs.Prelude.{held, Values, virtual, State, begin, weighs, goe
 use Rattle.vcode.proofs.Acting.{perform, lead, received, resumed}
 use Rattle.vcode.proofs.Rewriting.{Left, at_start, behind_it, line_is, jump_is}
 use Rattle.vcode.proofs.Stepping.{step_nowhere}
-use Rattle.inlining.specs.Candidates.{begins_turn, is_calm, calm_behind, is_candidate, AllLater}
+use Rattle.inlining.specs.InPlace.{begins_turn, is_calm, calm_behind, is_candidate, AllLater}
 use Rattle.inlining.proofs.Turns.{IsTurn, turn_act, Begun, begun_further, ended_room}
 use Rattle.il_ast.proofs.Listed.{all_at}
 

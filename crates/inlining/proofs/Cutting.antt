@@ -4,8 +4,7 @@ use Rattle.vcode.specs.declared.code.Block.{Block}
 use Rattle.vcode.specs.declared.function.VFunc.{VFunc}
 use Rattle.inlining.specs.declared.growth.Growth.{Growth}
 use Rattle.inlining.specs.declared.growth.Cut.{Cut}
-use Rattle.inlining.specs.InPlace.{Site}
-use Rattle.inlining.specs.Placed.{Candidates}
+use Rattle.inlining.specs.InPlace.{Site, Candidates}
 use Rattle.inlining.specs.Growth.{Answers, StandsAt, IsMade, IsCut}
 
 pub cut_of : {E : Type 0} (candidates : Candidates) (g : Growth) (b : Block ℕ) (line : ℕ) (candidate : VFunc) (s : Site) → s.block ≡ b → slice_get candidates s.name ≡ Some (Some candidate) → Answers candidate s → StandsAt line s

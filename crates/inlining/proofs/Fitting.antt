@@ -19,8 +19,7 @@ use Rattle.vcode.specs.declared.line.Jump.TheVariants.{Goto, Branch, Return, Hal
 use Rattle.vcode.specs.declared.code.Block.{Block}
 use Rattle.vcode.specs.Prelude.{operand_keeps, wanted_keeps, line_keeps, jump_keeps, block_keeps, is_below, leads_inside, is_target, is_alloc, alloc_bytes, turns_of, passes_few, weight_of, with_argument}
 use Rattle.vcode.proofs.Weaker.{line_weaker, below_more}
-use Rattle.inlining.specs.Moved.{moved, moved_destination, moved_line, moved_jump}
-use Rattle.inlining.specs.InPlace.{brought, arguments_brought, result_brought, candidate_block}
+use Rattle.inlining.specs.InPlace.{moved, moved_destination, moved_line, moved_jump, brought, arguments_brought, result_brought, candidate_block}
 use Rattle.inlining.proofs.Listing.{all_changed}
 use Rattle.il_ast.proofs.Listed.{all_append}
 

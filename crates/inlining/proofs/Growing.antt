@@ -18,10 +18,7 @@ use Rattle.vcode.specs.Prelude.{with_these, is_paid, operand_keeps, wanted_keeps
 use Rattle.inlining.specs.declared.growth.Room.{Room}
 use Rattle.inlining.specs.declared.growth.Growth.{Growth}
 use Rattle.inlining.specs.declared.growth.Cut.{Cut}
-use Rattle.inlining.specs.Candidates.{is_candidate}
-use Rattle.inlining.specs.Moved.{moved, moved_line}
-use Rattle.inlining.specs.InPlace.{arguments_brought, result_brought, candidate_block, Site, up_to_call, behind_call, blocks_in_place, IsSite}
-use Rattle.inlining.specs.Placed.{Candidates, Grows, AsItWas, OneMore}
+use Rattle.inlining.specs.InPlace.{is_candidate, arguments_brought, result_brought, candidate_block, Site, up_to_call, behind_call, blocks_in_place, IsSite, moved, moved_line, Candidates, Grows, AsItWas, OneMore}
 use Rattle.inlining.specs.Growth.{Answers, StandsAt, IsCut, IsGrowth}
 use Rattle.vcode.proofs.Replacing.{args_count}
 use Rattle.inlining.proofs.Calm.{makes_none, candidate_makes_none}

@@ -20,7 +20,7 @@ use Rattle.vcode.specs.Prelude.{distance, loaded, Values, value_of, read_all, op
 use Rattle.vcode.proofs.Following.{Follows, AllFollow}
 use Rattle.vcode.proofs.SameReads.{SameValue}
 use Rattle.vcode.proofs.SameActs.{reads_every, act_same}
-use Rattle.inlining.specs.Moved.{moved, moved_destination, moved_line, moved_jump}
+use Rattle.inlining.specs.InPlace.{moved, moved_destination, moved_line, moved_jump}
 use Rattle.inlining.proofs.Calm.{makes_none}
 use Rattle.inlining.proofs.Beside.{IsLow}
 

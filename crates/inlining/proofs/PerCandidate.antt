@@ -21,9 +21,7 @@ use Rattle.vcode.proofs.Following.{AllFollow, ActFollows, act_follows, WayFollow
 use Rattle.vcode.proofs.InPlace.{as_cheap, cheaper_after}
 use Rattle.vcode.proofs.Rewriting.{Left, at_start, behind_it, line_is, jump_is}
 use Rattle.vcode.proofs.Stepping.{step_nowhere}
-use Rattle.inlining.specs.Moved.{moved, moved_line, moved_jump}
-use Rattle.inlining.specs.Candidates.{AllGoFrom}
-use Rattle.inlining.specs.InPlace.{brought, result_brought, candidate_block}
+use Rattle.inlining.specs.InPlace.{moved, moved_line, moved_jump, AllGoFrom, brought, result_brought, candidate_block}
 use Rattle.inlining.proofs.Calm.{makes_none, candidate_makes_none}
 use Rattle.inlining.proofs.Beside.{Setting, placed, placed_step, Goes, GoesNext, does_goes, calls_goes, cheaper_both, cheaper_turned, cheaper_alone, IsLow}
 use Rattle.inlining.proofs.PlacedBlocks.{behind_at, first_at, candidate_block_at}

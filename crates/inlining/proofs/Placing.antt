@@ -7,9 +7,8 @@ use Rattle.vcode.specs.Prelude.{classes_in, KeepsIn, virtual, begin, step}
 use Rattle.vcode.proofs.InPlace.{keeps_in_itself, keeps_in_after}
 use Rattle.inlining.specs.declared.growth.Growth.{Growth}
 use Rattle.inlining.specs.declared.growth.Cut.{Cut}
-use Rattle.inlining.specs.InPlace.{in_place}
+use Rattle.inlining.specs.InPlace.{in_place, Candidates, Grows, AsItWas, OneMore, KeepsCalls}
 use Rattle.inlining.specs.Laws.{CallsInPlaceKeep}
-use Rattle.inlining.specs.Placed.{Candidates, Grows, AsItWas, OneMore, KeepsCalls}
 use Rattle.inlining.specs.Growth.{IsCut, IsGrowth}
 use Rattle.inlining.proofs.Growing.{grown}
 use Rattle.std.proofs.lemmas.Option.{slice_get-get_or}

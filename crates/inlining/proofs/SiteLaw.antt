@@ -22,8 +22,7 @@ use Rattle.vcode.proofs.Following.{AllFollow, ActFollows, act_follows, WayFollow
 use Rattle.vcode.proofs.InPlace.{as_cheap, cheaper_after, goes_room}
 use Rattle.vcode.proofs.Rewriting.{Left, at_start, behind_it, line_is, jump_is}
 use Rattle.vcode.proofs.Stepping.{step_nowhere}
-use Rattle.inlining.specs.InPlace.{arguments_brought, behind_call}
-use Rattle.inlining.specs.Candidates.{begins_turn, given_by, GoesAs}
+use Rattle.inlining.specs.InPlace.{arguments_brought, behind_call, begins_turn, given_by, GoesAs}
 use Rattle.inlining.specs.Laws.{CallsInPlaceKeep}
 use Rattle.inlining.proofs.Beside.{Setting, placed, placed_step, Goes, GoesNext, does_goes, calls_goes, cheaper_both, cheaper_unentered, IsLow}
 use Rattle.inlining.proofs.PlacedBlocks.{cut_at, behind_at, first_at, cut_block, other_block, call_block, rest_block, block_known}

@@ -7,7 +7,7 @@ use Rattle.il_ast.specs.Prelude.{Memory, Spent, both, Ended, Given}
 use Rattle.vcode.specs.declared.line.Line.{Line}
 use Rattle.vcode.specs.declared.line.Line.TheVariants.{Tick, Set, Operate, Load, Store, Alloc, Blit, Call}
 use Rattle.vcode.specs.Prelude.{Values, Act, Spends, act, HasRoom}
-use Rattle.inlining.specs.Candidates.{begins_turn}
+use Rattle.inlining.specs.InPlace.{begins_turn}
 
 -- a line that begins a turn
 abbrev pub IsTurn : Act → Type 0

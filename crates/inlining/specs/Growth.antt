@@ -15,9 +15,7 @@ use Rattle.inlining.specs.declared.limits.TheConstants.{BLOCKS}
 use Rattle.inlining.specs.declared.growth.Room.{Room}
 use Rattle.inlining.specs.declared.growth.Growth.{Growth}
 use Rattle.inlining.specs.declared.growth.Cut.{Cut}
-use Rattle.inlining.specs.InPlace.{Site, candidate_block, up_to_call, behind_call}
-use Rattle.inlining.specs.Candidates.{begins_turn, is_candidate}
-use Rattle.inlining.specs.Placed.{Candidates, Grows}
+use Rattle.inlining.specs.InPlace.{Site, candidate_block, up_to_call, behind_call, begins_turn, is_candidate, Candidates, Grows}
 
 abbrev pub line_count : Block ℕ → ℕ
 line_count b = length b.lines

@@ -6,8 +6,7 @@ use Rattle.il_ast.specs.declared.value.Value.TheVariants.{Function}
 use Rattle.il_ast.specs.Prelude.{Callees}
 use Rattle.vcode.specs.declared.code.Code.{Code}
 use Rattle.vcode.specs.Prelude.{classes_in, virtual, begin, step, KeepsIn}
-use Rattle.inlining.specs.InPlace.{Site, IsSite, in_place}
-use Rattle.inlining.specs.Candidates.{IsCandidateOf}
+use Rattle.inlining.specs.InPlace.{Site, IsSite, in_place, IsCandidateOf}
 
 -- Where calls of the function that is named go as the candidate's code, the code with one of them in place
 -- runs as the code with the call.

@@ -6,9 +6,7 @@ ghost use Rattle.vcode.specs.declared.code.Block.{Block as BlockOf};
 ghost use Rattle.vcode.specs.declared.place.Destination.{Destination as DestinationOf};
 ghost use Rattle.vcode.specs.Prelude.{line_keeps, jump_keeps, block_keeps, is_below, leads_inside};
 ghost use Rattle.inlining.specs.declared.limits.TheConstants.{BLOCKS};
-ghost use Rattle.inlining.specs.Moved.{moved_line};
-ghost use Rattle.inlining.specs.InPlace.{arguments_brought, candidate_block, up_to_call, behind_call};
-ghost use Rattle.inlining.specs.Placed.{site_of};
+ghost use Rattle.inlining.specs.InPlace.{moved_line, arguments_brought, candidate_block, up_to_call, behind_call, site_of};
 
 use crate::brought::{push_arguments, push_result};
 use crate::moved::{moved_jump, moved_line};

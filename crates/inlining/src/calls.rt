@@ -3,7 +3,7 @@ ghost use Rattle.std.specs.Prelude.{◌≡◌, ◌+◌, ◌++◌, ◌<◌, lengt
 ghost use Rattle.il_ast.specs.declared.limits.TheConstants.{FUNCTION_WEIGHT};
 ghost use Rattle.vcode.specs.declared.function.VFunc.{VFunc as VFuncOf};
 ghost use Rattle.vcode.specs.Prelude.{code_weight};
-ghost use Rattle.inlining.specs.Placed.{Candidates, Grows, KeepsCalls};
+ghost use Rattle.inlining.specs.InPlace.{Candidates, Grows, KeepsCalls};
 ghost use Rattle.inlining.specs.Growth.{IsGrowth, IsCut};
 
 use crate::blocks::copied;

@@ -1,6 +1,6 @@
 //! Functions whose calls are done in place.
 ghost use Rattle.std.specs.Prelude.{◌≡◌, false};
-ghost use Rattle.inlining.specs.Candidates.{begins_turn, is_calm, calm_behind, is_candidate};
+ghost use Rattle.inlining.specs.InPlace.{begins_turn, is_calm, calm_behind, is_candidate};
 
 use vcode::{Block, Line, VFunc};
 

@@ -4,9 +4,7 @@ ghost use Rattle.std.specs.List.{list_all, list_any};
 ghost use Rattle.vcode.specs.Prelude.{is_alloc};
 ghost use Rattle.vcode.specs.declared.limits.TheConstants.{PLACES};
 ghost use Rattle.inlining.specs.declared.limits.TheConstants.{BLOCKS};
-ghost use Rattle.inlining.specs.Candidates.{begins_turn};
-ghost use Rattle.inlining.specs.InPlace.{candidate_block, behind_call};
-ghost use Rattle.inlining.specs.Placed.{site_of};
+ghost use Rattle.inlining.specs.InPlace.{begins_turn, candidate_block, behind_call, site_of};
 ghost use Rattle.inlining.specs.Growth.{StandsAt, IsMade, IsCut};
 
 use crate::blocks::{CallSite, behind_call, push_candidate, up_to_call};

@@ -5,7 +5,7 @@ ghost use Rattle.vcode.specs.declared.limits.TheConstants.{PLACES};
 ghost use Rattle.vcode.specs.declared.place.Argument.{Argument as ArgumentOf};
 ghost use Rattle.vcode.specs.Prelude.{operand_keeps, wanted_keeps, line_keeps, jump_keeps, is_below, is_target, leads_inside, with_base, with_argument, with_comparison};
 ghost use Rattle.inlining.specs.declared.limits.TheConstants.{BLOCKS};
-ghost use Rattle.inlining.specs.Moved.{moved, moved_destination, moved_line, moved_jump};
+ghost use Rattle.inlining.specs.InPlace.{moved, moved_destination, moved_line, moved_jump};
 
 use il_ast::Seq;
 use std::alloc::{AllocError, Global};

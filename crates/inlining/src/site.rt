@@ -5,7 +5,7 @@ ghost use Rattle.il_ast.specs.Prelude.{same_classes, result_fits};
 ghost use Rattle.vcode.specs.declared.place.Argument.{Argument as ArgumentOf};
 ghost use Rattle.vcode.specs.declared.place.Destination.{Destination as DestinationOf};
 ghost use Rattle.vcode.specs.Prelude.{classes_in, is_paid, is_alloc};
-ghost use Rattle.inlining.specs.Placed.{site_of};
+ghost use Rattle.inlining.specs.InPlace.{site_of};
 ghost use Rattle.inlining.specs.Growth.{Answers};
 
 use crate::blocks::CallSite;

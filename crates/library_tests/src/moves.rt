@@ -1,7 +1,7 @@
 //! Moves by what they leave in the places, and by their number.
 
 ghost use Rattle.std.specs.Prelude.{IsTrue, All, ◌≢◌};
-ghost use Rattle.phi_copies.specs.Moves.{HasDistinctDestinations, IsUnnamed};
+ghost use Rattle.phi_copies.specs.Together.{HasDistinctDestinations, IsUnnamed};
 
 use crate::same::is_number;
 use phi_copies::moves::Move;

@@ -9,10 +9,7 @@ pub mod Refusals
 pub mod Joined
 pub mod Linked
 pub mod ProgramOf
-pub mod Laws
 pub mod Natives
-pub mod ImageOf
 pub mod Placed
-pub mod DataBytes
 pub mod Arguments
 pub mod Prelude

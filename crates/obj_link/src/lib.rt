@@ -15,7 +15,7 @@
 //! |---|---|
 //! | `specs/Names`, `specs/Main`, `specs/Limits` | what names mean; the function that a program begins with; limits over all texts |
 //! | `specs/Program`, `specs/Refusals` | when texts are a program; what a refusal says |
-//! | `specs/ImageOf` | what an image of a program is: where its functions and data stand, and the bytes of the data |
+//! | `specs/Placed` | what an image of a program is: where its functions and data stand, and the bytes of the data |
 //! | `specs/Natives`, `specs/Placed` | the first words of every program; the image of one whose functions have certain words |
 //!
 //! # The image

@@ -13,8 +13,8 @@ use Rattle.rv_isa.specs.declared.instruction.RegOp.TheVariants.{Sub, Slt, Sltu}
 use Rattle.rv_isa.specs.declared.labelled.Item.{Item}
 use Rattle.rv_isa.specs.declared.labelled.Item.TheVariants.{Plain}
 use Rattle.vcode.specs.Prelude.{low}
-use Rattle.operation_code.specs.Fields.{reg, negate, is_zero, is_not_zero}
-use Rattle.operation_code.specs.Operations.{compare_items}
+use Rattle.operation_code.specs.Constants.{reg, negate, is_zero, is_not_zero}
+use Rattle.operation_code.specs.Immediates.{compare_items}
 use Rattle.operation_code.proofs.Leading.{Site, Leads, leads_fixed, leads_again, leads_set, Sets, IsReg, register_reg, in_register, in_register_small}
 use Rattle.operation_code.proofs.Instructions.{leads_reg}
 

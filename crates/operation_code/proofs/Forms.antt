@@ -24,8 +24,7 @@ use Rattle.vcode.specs.declared.line.Operation.{Operation}
 use Rattle.vcode.specs.declared.line.Operation.TheVariants.{Reg as RegOperation, RegW as RegWOperation, Compare}
 use Rattle.vcode.specs.Prelude.{is_immediate, low}
 use Rattle.flat_code.specs.Step.{computed}
-use Rattle.operation_code.specs.Fields.{reg, add_low, is_zero, is_not_zero}
-use Rattle.operation_code.specs.Constants.{word}
+use Rattle.operation_code.specs.Constants.{reg, add_low, is_zero, is_not_zero, word}
 use Rattle.operation_code.specs.Immediates.{opposite, next, form_if, immediate_form, sum_form, reg_form, regw_form, compares_with, comparison_form, number_form, turned, left_form, compare_number, form_items, is_power}
 use Rattle.operation_code.specs.declared.immediate.Form.{Form}
 use Rattle.operation_code.specs.declared.immediate.Form.TheVariants.{Immediate as ByImmediate, AddWord, Shift as ByShift, ShiftWord, Compare as ByComparison}

@@ -20,9 +20,7 @@ use Rattle.rv_isa.specs.declared.labelled.Item.TheVariants.{Plain, Relocated}
 use Rattle.rv_isa.specs.declared.relocation.Partial.TheVariants.{Upper, Add as AddBy}
 use Rattle.rv_isa.specs.declared.relocation.Relocation.{Relocation}
 use Rattle.vcode.specs.Prelude.{is_immediate, low}
-use Rattle.operation_code.specs.Fields.{reg, field, high, amount, word_amount, add_low, extend, sum_to, shift_11}
-use Rattle.operation_code.specs.Constants.{parted_constant, without_low, zeros_of, has_zeros, before_zeros, left_of, is_shifted, is_near_number, near_constant, is_made, added, shifted_by, made_constant, long_constant, word, is_word, lower_part, word_constant, constant}
-use Rattle.operation_code.specs.Fields.{with_name, name_into}
+use Rattle.operation_code.specs.Constants.{reg, field, high, amount, word_amount, add_low, extend, sum_to, shift_11, parted_constant, without_low, zeros_of, has_zeros, before_zeros, left_of, is_shifted, is_near_number, near_constant, is_made, added, shifted_by, made_constant, long_constant, word, is_word, lower_part, word_constant, constant, with_name, name_into}
 use Rattle.operation_code.proofs.ConstantNumbers.{low_moves, immediate_is, near_moves, top_bits, part_1, part_2, part_3, part_4, word_made, upper_made, parts_made}
 use Rattle.operation_code.proofs.Leading.{Site, Leads, leads_nowhere, leads_so, leads_set, leads_again, Sets, IsReg, register_reg, in_register}
 

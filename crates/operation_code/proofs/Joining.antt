@@ -1,8 +1,7 @@
 -- Items that were put one after another.
 use Rattle.std.proofs.Common.{◌≡◌, ℕ, ◌%◌, ◌^◌, ◌<◌, Bool, true, false, List, [], ◌∷◌, ◌++◌, refl, ◌+◌, sym, ◌∙◌, ap, arith, append_assoc, if◌then◌else◌, nat_eq, length, length-append}
 use Rattle.rv_isa.specs.declared.labelled.Item.{Item}
-use Rattle.operation_code.specs.Constants.{long_constant, is_word, word_constant, shifted_by, added, zeros_of}
-use Rattle.operation_code.specs.Fields.{add_low}
+use Rattle.operation_code.specs.Constants.{long_constant, is_word, word_constant, shifted_by, added, zeros_of, add_low}
 
 pub joined_2 : (o p q a b : List Item) → p ≡ o ++ a → q ≡ p ++ b → q ≡ o ++ (a ++ b)
 joined_2 o p q a b e f = f ∙ (ap (λ l. l ++ b) e ∙ append_assoc o a b)

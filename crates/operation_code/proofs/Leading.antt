@@ -9,7 +9,7 @@ use Rattle.rv_isa.proofs.MemoryLemmas.{updated_here, updated_elsewhere}
 use Rattle.rv_isa.proofs.RunLemmas.{comes_here, comes_by_step, comes_then}
 use Rattle.rv_isa.proofs.StepLemmas.{step_at}
 use Rattle.rv_isa.proofs.KeepLemmas.{step_keeps}
-use Rattle.operation_code.specs.Fields.{reg}
+use Rattle.operation_code.specs.Constants.{reg}
 
 -- where labelled code stands, with what its labels and globals are
 pub record Site : Type 0 where

@@ -5,7 +5,7 @@ use Rattle.std.specs.Int.{trailing_zeros, w64}
 use Rattle.il_ast.specs.declared.operation.Class.TheVariants.{W, L}
 use Rattle.il_ast.specs.declared.operation.Condition.{Condition}
 use Rattle.il_ast.specs.declared.operation.Condition.TheVariants.{Equal, NotEqual, SignedLessEqual, SignedLess, SignedGreaterEqual, SignedGreater, UnsignedLessEqual, UnsignedLess, UnsignedGreaterEqual, UnsignedGreater}
-use Rattle.rv_isa.specs.declared.instruction.Instr.TheVariants.{Imm, Addiw, Shift, ShiftW}
+use Rattle.rv_isa.specs.declared.instruction.Instr.TheVariants.{Imm, Addiw, Shift, ShiftW, Reg, RegW}
 use Rattle.rv_isa.specs.declared.instruction.ImmOp.{ImmOp}
 use Rattle.rv_isa.specs.declared.instruction.ImmOp.TheVariants.{Addi, Slti, Sltiu, Xori, Ori, Andi}
 use Rattle.rv_isa.specs.declared.instruction.ShiftOp.TheVariants.{Slli, Srli, Srai}
@@ -22,8 +22,7 @@ use Rattle.vcode.specs.declared.place.Operand.TheVariants.{Number}
 use Rattle.vcode.specs.declared.line.Operation.{Operation}
 use Rattle.vcode.specs.declared.line.Operation.TheVariants.{Reg as RegOperation, RegW as RegWOperation, Compare}
 use Rattle.vcode.specs.Prelude.{is_immediate, low}
-use Rattle.operation_code.specs.Fields.{reg, amount, word_amount, add_low, negate, is_zero, is_not_zero}
-use Rattle.operation_code.specs.Constants.{word}
+use Rattle.operation_code.specs.Constants.{reg, amount, word_amount, add_low, negate, is_zero, is_not_zero, word}
 use Rattle.operation_code.specs.declared.immediate.Form.{Form}
 use Rattle.operation_code.specs.declared.immediate.Form.TheVariants.{Immediate as ByImmediate, AddWord, Shift as ByShift, ShiftWord, Compare as ByComparison}
 
@@ -168,3 +167,24 @@ form_items (AddWord n) d a = Plain (Addiw (reg d) (reg a) (low n)) ∷ []
 form_items (ByShift op n) d a = Plain (Shift op (reg d) (reg a) (amount n)) ∷ []
 form_items (ShiftWord op n) d a = Plain (ShiftW op (reg d) (reg a) (word_amount n)) ∷ []
 form_items (ByComparison on n) d a = compare_number on d a n
+
+-- ---- operations on two registers
+
+-- a comparison of two registers by all 64 bits
+abbrev pub compare_items : Condition → (d a b : ℕ) → List Item
+compare_items Equal d a b = Plain (Reg Sub (reg d) (reg a) (reg b)) ∷ is_zero d d ∷ []
+compare_items NotEqual d a b = Plain (Reg Sub (reg d) (reg a) (reg b)) ∷ is_not_zero d d ∷ []
+compare_items SignedLess d a b = Plain (Reg Slt (reg d) (reg a) (reg b)) ∷ []
+compare_items SignedGreater d a b = Plain (Reg Slt (reg d) (reg b) (reg a)) ∷ []
+compare_items SignedLessEqual d a b = Plain (Reg Slt (reg d) (reg b) (reg a)) ∷ negate d ∷ []
+compare_items SignedGreaterEqual d a b = Plain (Reg Slt (reg d) (reg a) (reg b)) ∷ negate d ∷ []
+compare_items UnsignedLess d a b = Plain (Reg Sltu (reg d) (reg a) (reg b)) ∷ []
+compare_items UnsignedGreater d a b = Plain (Reg Sltu (reg d) (reg b) (reg a)) ∷ []
+compare_items UnsignedLessEqual d a b = Plain (Reg Sltu (reg d) (reg b) (reg a)) ∷ negate d ∷ []
+compare_items UnsignedGreaterEqual d a b = Plain (Reg Sltu (reg d) (reg a) (reg b)) ∷ negate d ∷ []
+
+-- the operation on two registers
+abbrev pub operation_items : Operation → (d a b : ℕ) → List Item
+operation_items (RegOperation op) d a b = Plain (Reg op (reg d) (reg a) (reg b)) ∷ []
+operation_items (RegWOperation op) d a b = Plain (RegW op (reg d) (reg a) (reg b)) ∷ []
+operation_items (Compare on k) d a b = compare_items on d a b

@@ -1,4 +1,2 @@
-pub mod Fields
 pub mod Constants
-pub mod Operations
 pub mod Immediates

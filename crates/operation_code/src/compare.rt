@@ -3,8 +3,8 @@ ghost use Rattle.std.specs.Prelude.{◌≡◌, [], ◌∷◌, ◌++◌, OnOk};
 ghost use Rattle.il_ast.specs.declared.operation.Condition.TheVariants.{Equal, NotEqual};
 ghost use Rattle.rv_isa.specs.declared.labelled.Item.TheVariants.{Plain};
 ghost use Rattle.rv_isa.specs.declared.instruction.Instr.TheVariants.{Reg};
-ghost use Rattle.operation_code.specs.Fields.{reg, negate, is_zero, is_not_zero};
-ghost use Rattle.operation_code.specs.Operations.{compare_items};
+ghost use Rattle.operation_code.specs.Constants.{reg, negate, is_zero, is_not_zero};
+ghost use Rattle.operation_code.specs.Immediates.{compare_items};
 
 use crate::fields::register;
 use il_ast::Condition;

@@ -1,8 +1,7 @@
 //! Numbers in registers, in at most eight instructions.
 ghost use Rattle.std.specs.Prelude.{◌≡◌, ◌+◌, ◌-◌, ◌*◌, ◌%◌, ◌^◌, ◌<◌, ◌≤◌, nat_eq, if◌then◌else◌, [], ◌∷◌, ◌++◌, length, OnOk};
 ghost use Rattle.vcode.specs.Prelude.{is_immediate};
-ghost use Rattle.operation_code.specs.Constants.{top_part, next_part, parted_constant, without_low, zeros_of, has_zeros, before_zeros, left_of, is_shifted, is_near_number, near_constant, is_made, made_constant, shifted_by, added, long_constant, constant, word, is_word, word_constant};
-ghost use Rattle.operation_code.specs.Fields.{high};
+ghost use Rattle.operation_code.specs.Constants.{top_part, next_part, parted_constant, without_low, zeros_of, has_zeros, before_zeros, left_of, is_shifted, is_near_number, near_constant, is_made, made_constant, shifted_by, added, long_constant, constant, word, is_word, word_constant, high};
 
 use crate::fields::{
     add_immediate, add_word, halve, load_upper, register, shift_by, shift_by_11, upper_field,

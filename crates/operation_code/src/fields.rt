@@ -4,9 +4,7 @@ ghost use Rattle.rv_isa.specs.declared.labelled.Item.TheVariants.{Plain};
 ghost use Rattle.rv_isa.specs.declared.instruction.Instr.TheVariants.{Lui, Load, Shift, Addiw};
 ghost use Rattle.rv_isa.specs.declared.instruction.ShiftOp.TheVariants.{Srli};
 ghost use Rattle.vcode.specs.Prelude.{low};
-ghost use Rattle.operation_code.specs.Fields.{reg, field, amount, word_amount, add_low, extend, sum_to, load_8, store_8, shift_11};
-ghost use Rattle.operation_code.specs.Constants.{shifted_by};
-ghost use Rattle.operation_code.specs.Fields.{load_to, store_from, store_at};
+ghost use Rattle.operation_code.specs.Constants.{reg, field, amount, word_amount, add_low, extend, sum_to, load_8, store_8, shift_11, shifted_by, load_to, store_from, store_at};
 
 use rv_isa::{
     Amount, ImmOp, Immediate, Instr, Item, LoadOp, RegOp, Register, ShiftOp, StoreOp, UpperField,

@@ -4,7 +4,7 @@ ghost use Rattle.rv_isa.specs.declared.labelled.Item.TheVariants.{Plain};
 ghost use Rattle.rv_isa.specs.declared.instruction.Instr.TheVariants.{Imm};
 ghost use Rattle.il_ast.specs.declared.operation.Condition.TheVariants.{Equal, NotEqual};
 ghost use Rattle.vcode.specs.Prelude.{low};
-ghost use Rattle.operation_code.specs.Fields.{reg, negate};
+ghost use Rattle.operation_code.specs.Constants.{reg, negate};
 ghost use Rattle.operation_code.specs.Immediates.{opposite, next, form_if, immediate_form, sum_form, is_power, product_form, word_product_form, reg_form, regw_form, compares_with, comparison_form, number_form, turned, swapped_reg, swapped_regw, swapped, right_form, left_form, compare_number, form_items};
 
 use crate::compare::{negation, test_of_nonzero, test_of_zero};

@@ -1,6 +1,6 @@
 //! Addresses of names in registers.
 ghost use Rattle.std.specs.Prelude.{◌≡◌, ◌+◌, ◌-◌, ◌*◌, ◌%◌, ◌^◌, ◌<◌, nat_eq, if◌then◌else◌, [], ◌∷◌, ◌++◌, OnOk};
-ghost use Rattle.operation_code.specs.Fields.{with_name, name_into};
+ghost use Rattle.operation_code.specs.Constants.{with_name, name_into};
 
 use crate::fields::register;
 use rv_isa::{Immediate, Item, Partial, Relocation};

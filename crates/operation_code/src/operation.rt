@@ -1,6 +1,6 @@
 //! Operations on two registers.
 ghost use Rattle.std.specs.Prelude.{◌≡◌, ◌++◌, OnOk};
-ghost use Rattle.operation_code.specs.Operations.{operation_items};
+ghost use Rattle.operation_code.specs.Immediates.{operation_items};
 
 use crate::compare::push_compare;
 use crate::fields::register;

@@ -1,6 +1,6 @@
 -- Moves carry any values as they carry numbers.
 use Rattle.std.proofs.Common.{◌≡◌, ℕ, Bool, true, false, cond, eqb, List, [], ◌∷◌, refl, ap, ◌∙◌}
-use Rattle.phi_copies.specs.Moves.{after, DoesAtOnce}
+use Rattle.phi_copies.specs.Together.{after, DoesAtOnce}
 use Rattle.phi_copies.specs.declared.moves.Move.{Move}
 
 pub after_agree : {X : Type 0} (f g : ℕ → X) (ms : List Move) (p : ℕ) → ((q : ℕ) → f q ≡ g q) → after f ms p ≡ after g ms p

@@ -19,9 +19,8 @@ use Rattle.phi_copies.specs.Classed.{Classes, Fits, Takes, CopiesFit, PhisFit}
 use Rattle.phi_copies.specs.Copies.{phis_of, phis_at, first_own, ValueBelow, CopiesBelow, AreCopies}
 use Rattle.phi_copies.specs.Endings.{copied}
 use Rattle.phi_copies.specs.Good.{IsGoodFunction}
-use Rattle.phi_copies.specs.Moves.{HasDistinctDestinations, IsUnnamed, IsBetween, proper_count}
+use Rattle.phi_copies.specs.Together.{HasDistinctDestinations, IsUnnamed, IsBetween, proper_count, wanted, move_of, move_in, in_front, moves_in, copy_of, unless_moved, rest_of, first_in, IsSequence, IsInOrder}
 use Rattle.phi_copies.specs.Source.{value_or_zero, source}
-use Rattle.phi_copies.specs.Together.{wanted, move_of, move_in, in_front, moves_in, copy_of, unless_moved, rest_of, first_in, IsSequence, IsInOrder}
 use Rattle.phi_copies.proofs.EdgePlaces.{phis_counted}
 use Rattle.phi_copies.specs.Map.{first_numbers}
 use Rattle.phi_copies.proofs.EntryNumbers.{entry_found}

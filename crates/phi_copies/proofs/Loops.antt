@@ -6,7 +6,7 @@ use Rattle.std.proofs.lemmas.List.{same_lists, get_or_default, get_or-map, get_o
 use Rattle.std.proofs.lemmas.List.Elements.{All-nil}
 use Rattle.std.proofs.lemmas.List.Sums.{sum_by-cons}
 use Rattle.std.proofs.lemmas.Bool.Decides.{Decides-eqb}
-use Rattle.phi_copies.specs.Moves.{HasDistinctDestinations, IsUnnamed, IsBetween, proper_count}
+use Rattle.phi_copies.specs.Together.{HasDistinctDestinations, IsUnnamed, IsBetween, proper_count}
 use Rattle.phi_copies.specs.Order.{no_move, to_of, from_of, is_placed, Given, State, IsFew, waiting_count, at, Way, Seen, IsWritten, Leads, Settled, Keeps, Open, Sequencing}
 use Rattle.phi_copies.specs.declared.moves.Move.{Move}
 use Rattle.phi_copies.proofs.Placing.{placed_same}

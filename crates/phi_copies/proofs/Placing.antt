@@ -3,7 +3,7 @@ use Rattle.std.proofs.Common.{◌≡◌, ◌≢◌, ◌⊎◌, inl, inr, ℕ, �
 use Rattle.std.proofs.lemmas.Bool.Decides.{Decides-eqb}
 use Rattle.std.proofs.lemmas.Bool.{false≢true, cases_eq}
 use Rattle.std.proofs.lemmas.Option.{same_Some}
-use Rattle.phi_copies.specs.Moves.{after}
+use Rattle.phi_copies.specs.Together.{after}
 use Rattle.phi_copies.specs.Order.{to_of, from_of, is_placed, Given, source, Holds, Closed}
 use Rattle.phi_copies.specs.declared.moves.Move.{Move}
 

@@ -5,7 +5,7 @@ use Rattle.std.proofs.lemmas.List.{reverse-append, length-set, get_or_default}
 use Rattle.std.proofs.lemmas.List.Elements.{All-push}
 use Rattle.std.proofs.lemmas.List.Sums.{sum_by-set}
 use Rattle.std.proofs.lemmas.Option.{same_Some, none-some}
-use Rattle.phi_copies.specs.Moves.{DoesAtOnce, IsBetween, IsRead, ReadsKnown}
+use Rattle.phi_copies.specs.Together.{DoesAtOnce, IsBetween, IsRead, ReadsKnown}
 use Rattle.phi_copies.specs.Order.{no_move, to_of, from_of, is_placed, Given, Known, State, waiting_count, IsFew}
 use Rattle.phi_copies.specs.declared.moves.Move.{Move}
 use Rattle.phi_copies.proofs.Placing.{place, save, source_cases, placed_same, placed_other}

@@ -9,8 +9,7 @@ use Rattle.il_ast.specs.declared.value.Value.TheVariants.{Integer, Pointer, Func
 use Rattle.il_ast.specs.Prelude.{in_place, operand}
 use Rattle.phi_copies.specs.declared.moves.Move.{Move}
 use Rattle.phi_copies.specs.Endings.{copied}
-use Rattle.phi_copies.specs.Moves.{after, ReadsKnown}
-use Rattle.phi_copies.specs.Together.{copy_of}
+use Rattle.phi_copies.specs.Together.{after, ReadsKnown, copy_of}
 use Rattle.phi_copies.proofs.Carrying.{after_agree}
 use Rattle.phi_copies.proofs.Lists.{some_same, get_set_other}
 use Rattle.phi_copies.proofs.Members.{Among}

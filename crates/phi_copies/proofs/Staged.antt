@@ -12,8 +12,7 @@ use Rattle.il_ast.specs.Prelude.{in_place, same_class, operand}
 use Rattle.phi_copies.specs.declared.ending.Assignment.{Assignment}
 use Rattle.phi_copies.specs.declared.moves.Move.{Move}
 use Rattle.phi_copies.specs.Endings.{copied}
-use Rattle.phi_copies.specs.Moves.{after, IsBetween, IsRead, proper_count}
-use Rattle.phi_copies.specs.Together.{move_to, move_of, move_in, in_front, moves_in, copy_of, unless_moved, rest_of, first_in, IsSequence, IsInOrder}
+use Rattle.phi_copies.specs.Together.{after, IsBetween, IsRead, proper_count, move_to, move_of, move_in, in_front, moves_in, copy_of, unless_moved, rest_of, first_in, IsSequence, IsInOrder}
 use Rattle.phi_copies.proofs.Carrying.{does_at_once}
 use Rattle.phi_copies.proofs.Lists.{some_same, get_set_other, copied_then}
 use Rattle.phi_copies.proofs.Members.{Among, among_all, one_of}

@@ -5,7 +5,7 @@ use Rattle.std.proofs.lemmas.Bool.Decides.{nat_tests}
 use Rattle.std.proofs.lemmas.List.{reverse-append, length-reverse, get_or_default}
 use Rattle.std.proofs.lemmas.List.Sums.{sum_by-cons}
 use Rattle.phi_copies.specs.declared.moves.Move.{Move}
-use Rattle.phi_copies.specs.Moves.{after, HasDistinctDestinations, DoesAtOnce, IsBetween, IsRead, ReadsKnown, proper_count}
+use Rattle.phi_copies.specs.Together.{after, HasDistinctDestinations, DoesAtOnce, IsBetween, IsRead, ReadsKnown, proper_count}
 use Rattle.phi_copies.proofs.Loops.{All-reverse}
 use Rattle.phi_copies.proofs.Placing.{eqb_no, after_same, after_other}
 

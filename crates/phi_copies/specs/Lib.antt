@@ -6,7 +6,6 @@ pub mod Keeping
 pub mod Laws
 pub mod Lowered
 pub mod Map
-pub mod Moves
 pub mod OneProof
 pub mod Order
 pub mod Source

@@ -1,6 +1,6 @@
 -- What is true while moves are put in an order, from the last to the first.
 use Rattle.std.specs.Prelude.{◌≡◌, ◌≢◌, ◌⊎◌, [], ℕ, ◌+◌, ◌*◌, ◌<◌, ◌≤◌, Bool, true, false, not, if◌then◌else◌, ◌==◌, List, length, reverse, Option, Some, None, All, count_by, slice_index_or}
-use Rattle.phi_copies.specs.Moves.{after, IsBetween, IsRead, ReadsKnown, proper_count}
+use Rattle.phi_copies.specs.Together.{after, IsBetween, IsRead, ReadsKnown, proper_count}
 use Rattle.phi_copies.specs.declared.moves.Move.{Move}
 
 abbrev pub no_move : Move

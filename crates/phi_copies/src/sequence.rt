@@ -4,7 +4,7 @@ ghost use Rattle.std.specs.Prelude.{◌≡◌, ◌≢◌, ℕ, ◌+◌, ◌/◌,
 ghost use Rattle.std.specs.Ordering.{nat_cmp};
 ghost use Rattle.std.specs.BTreeMap.{get};
 ghost use Rattle.std.specs.List.{list_any};
-ghost use Rattle.phi_copies.specs.Moves.{HasDistinctDestinations, IsUnnamed, DoesAtOnce, IsBetween, IsRead, ReadsKnown, proper_count};
+ghost use Rattle.phi_copies.specs.Together.{HasDistinctDestinations, IsUnnamed, DoesAtOnce, IsBetween, IsRead, ReadsKnown, proper_count};
 ghost use Rattle.phi_copies.specs.Order.{to_of, from_of, is_placed, Given, State, IsFew, at, Way, Seen, IsWritten, Leads, Settled, Keeps, Open, Ends, Sequencing};
 
 use crate::moves::Move;

@@ -2,8 +2,7 @@
 ghost use Rattle.std.specs.Prelude.{◌≡◌, ◌+◌, ◌≤◌, ◌++◌, length, map, IfOk, OnOk};
 ghost use Rattle.il_ast.specs.declared.limits.TheConstants.{FUNCTION_WEIGHT, TEMPORARIES};
 ghost use Rattle.il_ast.specs.declared.operation.Class.{Class as ClassOf};
-ghost use Rattle.phi_copies.specs.Moves.{HasDistinctDestinations, IsUnnamed};
-ghost use Rattle.phi_copies.specs.Together.{move_of, moves_in, copy_of, rest_of, first_in, AddsMoves, IsInOrder};
+ghost use Rattle.phi_copies.specs.Together.{HasDistinctDestinations, IsUnnamed, move_of, moves_in, copy_of, rest_of, first_in, AddsMoves, IsInOrder};
 
 use crate::ending::Assignment;
 use crate::moves::Move;

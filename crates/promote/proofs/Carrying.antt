@@ -17,8 +17,7 @@ use Rattle.il_ast.specs.declared.value.Value.TheVariants.{Integer, Pointer, Func
 use Rattle.il_ast.specs.declared.value.Cell.{Cell}
 use Rattle.il_ast.specs.declared.value.Cell.TheVariants.{Plain}
 use Rattle.il_ast.specs.Prelude.{bytes_of, number_of, byte_count, in_place, same_value, Memory, parts, cells_for, plain_bytes, are_parts_from, value_of, operand_class, extended, extension_bytes, widened, operate_one}
-use Rattle.promote.specs.Uses.{extension_size}
-use Rattle.promote.specs.Promoted.{storing, extending, loading}
+use Rattle.promote.specs.Uses.{extension_size, storing, extending, loading}
 use Rattle.promote.proofs.Hiding.{Marks, moved, moved_if, Clean, IfClean}
 use Rattle.promote.proofs.Ranges.{extended_fits}
 use Rattle.il_ast.proofs.Truth.{equals_itself}

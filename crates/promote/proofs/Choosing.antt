@@ -10,8 +10,7 @@ use Rattle.promote.specs.declared.mention.Role.TheVariants.{Made, Accessed, Used
 use Rattle.promote.specs.declared.mention.Mention.{Mention}
 use Rattle.promote.specs.declared.standing.Standing.{Standing}
 use Rattle.promote.specs.declared.standing.Standing.TheVariants.{Unseen, Unused, Kept, Refused}
-use Rattle.promote.specs.Uses.{same_size, suits, begins_made, is_promotable, roles, width_in}
-use Rattle.promote.specs.Tables.{seen_all, width, standing_at, widths_by}
+use Rattle.promote.specs.Uses.{same_size, suits, begins_made, is_promotable, roles, width_in, seen_all, width, standing_at, widths_by}
 use Rattle.il_ast.proofs.Truth.{and_false, and_true}
 
 -- ---- sizes

@@ -15,8 +15,7 @@ use Rattle.il_ast.specs.declared.value.Value.{Value}
 use Rattle.il_ast.specs.declared.value.Value.TheVariants.{Integer, Pointer, Function}
 use Rattle.il_ast.specs.Prelude.{in_place, byte_count, Memory, store, copy, operand_class, left_class, right_class, operate_one, operate_two, Locals, Call, value_at, operand, all_operands, InstEffect, Done, Asks, Fails, assigned, changed, stored_class, blit_weight, calls_value, call_effect, inst_effect}
 use Rattle.promote.specs.declared.mention.Role.TheVariants.{Used}
-use Rattle.promote.specs.Uses.{value_mentions, arg_mentions}
-use Rattle.promote.specs.Promoted.{Widths}
+use Rattle.promote.specs.Uses.{value_mentions, arg_mentions, Widths}
 use Rattle.promote.proofs.Respect.{Suited, Respected, respected_first, respected_then, used_plain}
 use Rattle.promote.proofs.Hiding.{Marks, moved, moved_if, shown, Clean, IfClean, CleanAll, CleanMemory, Extends, clean_later, moved_later, IfChanged, store_changed, store_shows, copy_changed, copy_shows, AllMade, places}
 use Rattle.promote.proofs.Operating.{one_shown, one_clean, two_shown, two_clean, IfPlaced, placed_clean, in_place_moved, in_place_placed}

@@ -24,9 +24,8 @@ use Rattle.il_ast.specs.declared.value.Cell.{Cell}
 use Rattle.il_ast.specs.declared.value.Cell.TheVariants.{Plain, Blank}
 use Rattle.il_ast.specs.Prelude.{bytes_of, in_place, byte_count, Memory, parts, cells_for, value_of, span, put, write_at, load, store, fresh, operand_class, extension_bytes, widened, operate_one, operand, InstEffect, Done, assigned, changed, stored_class, inst_effect}
 use Rattle.promote.specs.declared.mention.Role.TheVariants.{Accessed, Used}
-use Rattle.promote.specs.Uses.{value_mentions, operand_role, extension_size, same_size, suits, destination_mentions, arg_mentions, item_mentions}
+use Rattle.promote.specs.Uses.{value_mentions, operand_role, extension_size, same_size, suits, destination_mentions, arg_mentions, item_mentions, Widths, storing, loading, extending, promoted, made_in, stored_in, taken_from}
 use Rattle.promote.specs.declared.mention.Mention.{Mention}
-use Rattle.promote.specs.Promoted.{Widths, storing, loading, extending, promoted, made_in, stored_in, taken_from}
 use Rattle.promote.proofs.Choosing.{same_true}
 use Rattle.promote.proofs.Respect.{Respected, respected_first, respected_then}
 use Rattle.promote.proofs.Rules.{store_class}

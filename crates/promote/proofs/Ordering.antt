@@ -24,8 +24,7 @@ use Rattle.il_ast.specs.Prelude.{come_after, temps_in_value, temps_in_destinatio
 use Rattle.promote.specs.declared.mention.Role.{Role}
 use Rattle.promote.specs.declared.mention.Role.TheVariants.{Made, Accessed, Used}
 use Rattle.promote.specs.declared.mention.Mention.{Mention}
-use Rattle.promote.specs.Uses.{mention, value_mentions, operand_role, destination_mentions, arg_mentions, item_mentions, inst_mentions, jump_mentions, end_mentions, phi_arg_mentions, phi_mentions, block_mentions, param_mentions, mentions_of, roles, begins_made, width_in}
-use Rattle.promote.specs.Promoted.{Widths, promoted, promoted_line, promoted_block, taken_from, made_in, stored_in}
+use Rattle.promote.specs.Uses.{mention, value_mentions, operand_role, destination_mentions, arg_mentions, item_mentions, inst_mentions, jump_mentions, end_mentions, phi_arg_mentions, phi_mentions, block_mentions, param_mentions, mentions_of, roles, begins_made, width_in, Widths, promoted, promoted_line, promoted_block, taken_from, made_in, stored_in}
 use Rattle.promote.proofs.Choosing.{width_promotable}
 use Rattle.il_ast.proofs.Truth.{equals_itself, less_differs}
 

@@ -25,8 +25,7 @@ use Rattle.il_ast.specs.declared.value.Cell.TheVariants.{Plain, Blank}
 use Rattle.il_ast.specs.declared.value.End.{End}
 use Rattle.il_ast.specs.declared.value.End.TheVariants.{Exit, Halt, Undefined, Stack, Turns}
 use Rattle.il_ast.specs.Prelude.{byte_count, Memory, parts, cells_at, plain_bytes, need, Call, Spent, nothing, one_call, Outcome, Returned, Ended, after, Callees, body, target_value, values_of, globals_of, address_cells, item_cells, field_cells, object_cells, word_cells, pointers_from, list_cells, start_memory, call_fits, answered, put_out, write_bytes, write_integer, write_call, exit_call, call_function, call_named, callees, stack_room, main_args, main_classes, params_of, main_call, Behaviour, outcome, end_of, behaviour_of, meaning}
-use Rattle.promote.specs.Uses.{mentions_of, width_in}
-use Rattle.promote.specs.Promoted.{IsPromoted}
+use Rattle.promote.specs.Uses.{mentions_of, width_in, IsPromoted}
 use Rattle.promote.specs.Programs.{ArePromoted, IsProgramPromoted, AreBytes, AreWords, ItemsHaveBytes, FieldsHaveBytes, ObjectsHaveBytes, AreAmong, HasBytes, SameOutcome}
 use Rattle.promote.proofs.Respect.{all_respected}
 use Rattle.promote.proofs.Rules.{least_need}

@@ -6,8 +6,7 @@ use Rattle.std.proofs.lemmas.Bool.{and_parts}
 use Rattle.il_ast.specs.declared.operation.Size.{Size}
 use Rattle.promote.specs.declared.mention.Role.{Role}
 use Rattle.promote.specs.declared.mention.Mention.{Mention}
-use Rattle.promote.specs.Uses.{suits, roles, width_in}
-use Rattle.promote.specs.Promoted.{Widths}
+use Rattle.promote.specs.Uses.{suits, roles, width_in, Widths}
 use Rattle.promote.proofs.Choosing.{width_promotable}
 use Rattle.il_ast.proofs.Truth.{equals_itself}
 

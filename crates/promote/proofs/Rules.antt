@@ -35,8 +35,7 @@ use Rattle.il_types.specs.declared.site.Operand.{Operand}
 use Rattle.il_types.specs.declared.site.Site.{Site}
 use Rattle.il_types.specs.Prelude.{when, or_else, first, is_given, definer, param_definers, phi_definers, item_definers, inst_definers, block_definers, definers_of, operand_at, phi_operands, item_operands, inst_operands, end_operands, block_operands, operands_of, block_targets, sources_in, first_repeated, param_sites, label_sites, phi_sites, is_label, is_entry, two_types, fits, is_long_only, is_word, has_wrong_result, in_insts, misplaced, is_defined, fits_result, returned_breaks, breaks_in, value_returned, in_returns, wrong_return, undefined_temp, has_wrong_size, is_alloc, wrong_alloc_in, is_long_blit, is_predecessor, names_from, jumps_to, covers, uncovered_in, broken_in_function, has_few_args, is_within}
 use Rattle.promote.specs.declared.mention.Role.TheVariants.{Used}
-use Rattle.promote.specs.Uses.{item_mentions, inst_mentions, end_mentions, phi_mentions, block_mentions, param_mentions, mentions_of}
-use Rattle.promote.specs.Promoted.{Widths, Rewrites, promoted, promoted_line, promoted_block, taken_from, made_in, stored_in, storing, loading}
+use Rattle.promote.specs.Uses.{item_mentions, inst_mentions, end_mentions, phi_mentions, block_mentions, param_mentions, mentions_of, Widths, Rewrites, promoted, promoted_line, promoted_block, taken_from, made_in, stored_in, storing, loading}
 use Rattle.promote.proofs.Respect.{Suited, Respected, respected_first, respected_then}
 use Rattle.il_ast.proofs.Truth.{and_false}
 use Rattle.il_types.proofs.ArgumentLemmas.{none_first}

@@ -9,8 +9,7 @@ use Rattle.il_ast.specs.declared.value.End.{End}
 use Rattle.il_ast.specs.declared.value.End.TheVariants.{Exit, Halt, Undefined, Stack, Turns}
 use Rattle.il_ast.specs.Prelude.{Memory, Locals, Activation, Call, Effect, Goes, Returns, Ends, assign, effect, Spent, one_turn, both, Outcome, Returned, Ended, after, Callees, Rest, receive, resume, perform, run, with_args, begun, body}
 use Rattle.il_ast.specs.Effect.{Calls}
-use Rattle.promote.specs.Uses.{param_mentions, block_mentions, mentions_of}
-use Rattle.promote.specs.Promoted.{Widths, Rewrites}
+use Rattle.promote.specs.Uses.{param_mentions, block_mentions, mentions_of, Widths, Rewrites}
 use Rattle.promote.proofs.Respect.{Respected, respected_first, respected_then}
 use Rattle.promote.proofs.Hiding.{Marks, moved, moved_if, shown, IfClean, CleanAll, CleanMemory, Extends, made_later, places_later}
 use Rattle.promote.proofs.Sides.{IfHeld, Sides, KeptHidden, sides_later}

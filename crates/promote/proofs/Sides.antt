@@ -9,7 +9,7 @@ use Rattle.il_ast.specs.declared.value.Value.TheVariants.{Pointer}
 use Rattle.il_ast.specs.declared.value.Cell.{Cell}
 use Rattle.il_ast.specs.declared.value.Cell.TheVariants.{Blank}
 use Rattle.il_ast.specs.Prelude.{byte_count, Memory, cells_for, value_of, span, fresh}
-use Rattle.promote.specs.Promoted.{Widths}
+use Rattle.promote.specs.Uses.{Widths}
 use Rattle.promote.proofs.Respect.{other_number}
 use Rattle.promote.proofs.Hiding.{Marks, moved, moved_if, Clean, IfClean, Extends, clean_later, moved_later, marks_grow, get_set}
 use Rattle.il_ast.proofs.Truth.{equals_itself}

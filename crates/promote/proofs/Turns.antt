@@ -22,8 +22,7 @@ use Rattle.il_ast.specs.declared.value.End.{End}
 use Rattle.il_ast.specs.declared.value.End.TheVariants.{Exit, Halt, Undefined, Stack, Turns}
 use Rattle.il_ast.specs.Prelude.{Memory, free, free_all, Activation, Env, Call, operand, InstEffect, Done, Asks, Fails, inst_effect, Effect, Goes, Returns, Ends, phi_value, phi_values, with_phis, place_of, entered, enter_at, enter_place, enter, branch_to, branched, returned, return_value, jump_effect, end_effect, after_inst, turn_in, turn_of, effect}
 use Rattle.il_ast.specs.Effect.{Calls}
-use Rattle.promote.specs.Uses.{phi_arg_mentions, phi_mentions, inst_mentions, jump_mentions, end_mentions, block_mentions, param_mentions, mentions_of}
-use Rattle.promote.specs.Promoted.{Widths, Rewrites, promoted, promoted_line, promoted_block}
+use Rattle.promote.specs.Uses.{phi_arg_mentions, phi_mentions, inst_mentions, jump_mentions, end_mentions, block_mentions, param_mentions, mentions_of, Widths, Rewrites, promoted, promoted_line, promoted_block}
 use Rattle.promote.proofs.Respect.{Respected, respected_first, respected_then, respected_at}
 use Rattle.promote.proofs.Hiding.{Marks, moved, moved_if, shown, IfClean, CleanAll, CleanMemory, Extends, AllMade, free_all_shows, free_all_clean}
 use Rattle.promote.proofs.Sides.{KeptHidden}

@@ -25,9 +25,7 @@ use Rattle.il_types.specs.Prelude.{is_alloc}
 use Rattle.promote.specs.declared.mention.Role.{Role}
 use Rattle.promote.specs.declared.mention.Role.TheVariants.{Made, Accessed, Used}
 use Rattle.promote.specs.declared.mention.Mention.{Mention}
-use Rattle.promote.specs.Uses.{value_mentions, operand_role, destination_mentions, arg_mentions, item_mentions, inst_mentions, jump_mentions, end_mentions, phi_arg_mentions, phi_mentions, block_mentions, param_mentions, mentions_of, roles, suits, begins_made, is_promotable, width_in}
-use Rattle.promote.specs.Made.{makes, makes_any}
-use Rattle.promote.specs.Promoted.{Widths, promoted, promoted_line, promoted_block, IsPromoted}
+use Rattle.promote.specs.Uses.{value_mentions, operand_role, destination_mentions, arg_mentions, item_mentions, inst_mentions, jump_mentions, end_mentions, phi_arg_mentions, phi_mentions, block_mentions, param_mentions, mentions_of, roles, suits, begins_made, is_promotable, width_in, Widths, promoted, promoted_line, promoted_block, IsPromoted, makes, makes_any}
 use Rattle.std.proofs.lemmas.Bool.{or_parts}
 
 -- ---- mentions of which none makes its temporary

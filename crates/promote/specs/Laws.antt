@@ -4,7 +4,7 @@ use Rattle.il_ast.specs.declared.function.Func.{Func}
 use Rattle.il_ast.specs.Prelude.{weight, need}
 use Rattle.il_types.specs.declared.rule.Rule.{Rule}
 use Rattle.il_types.specs.Prelude.{broken_in_function, is_within}
-use Rattle.promote.specs.Promoted.{IsPromoted}
+use Rattle.promote.specs.Uses.{IsPromoted}
 
 -- no rule is broken that wasn't before
 abbrev pub RulesStay : Type 0

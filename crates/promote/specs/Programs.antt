@@ -13,7 +13,7 @@ use Rattle.il_ast.specs.declared.program.Program.{Program}
 use Rattle.il_ast.specs.declared.value.Value.{Value}
 use Rattle.il_ast.specs.declared.value.End.TheVariants.{Exit, Halt, Undefined, Stack, Turns}
 use Rattle.il_ast.specs.Prelude.{Memory, Outcome, Returned, Ended, end_of, outcome, meaning}
-use Rattle.promote.specs.Promoted.{IsPromoted}
+use Rattle.promote.specs.Uses.{IsPromoted}
 
 -- ---- programs
 

@@ -1,6 +1,6 @@
 -- As what a function's text mentions its temporaries, and at which width one can be promoted.
-use Rattle.std.specs.Prelude.{ℕ, Bool, true, false, nat_eq, ◌&&◌, if◌then◌else◌, List, [], ◌∷◌, ◌++◌, Option, Some, None}
-use Rattle.std.specs.List.{flat_map, list_all, find}
+use Rattle.std.specs.Prelude.{ℕ, Bool, true, false, nat_eq, ◌&&◌, if◌then◌else◌, List, [], ◌∷◌, ◌++◌, Option, Some, None, ◌≡◌, map, slice_index_or}
+use Rattle.std.specs.List.{flat_map, list_all, find, list_any}
 use Rattle.il_ast.specs.declared.operation.Class.{Class}
 use Rattle.il_ast.specs.declared.operation.Class.TheVariants.{W, L}
 use Rattle.il_ast.specs.declared.operation.Size.{Size}
@@ -26,6 +26,10 @@ use Rattle.il_ast.specs.declared.function.Func.{Func}
 use Rattle.promote.specs.declared.mention.Role.{Role}
 use Rattle.promote.specs.declared.mention.Role.TheVariants.{Made, Accessed, Used}
 use Rattle.promote.specs.declared.mention.Mention.{Mention}
+use Rattle.il_ast.specs.declared.operation.Alignment.{Alignment}
+use Rattle.promote.specs.declared.standing.Standing.{Standing}
+use Rattle.promote.specs.declared.standing.Standing.TheVariants.{Unseen, Unused, Kept, Refused}
+use Rattle.il_types.specs.Prelude.{is_alloc}
 
 -- ---- mentions, in the order of the text
 
@@ -135,3 +139,125 @@ is_promotable s rs = begins_made rs && list_all (suits s) rs
 -- the width of a promoted temporary; none for any other
 abbrev pub width_in : List Mention → ℕ → Option Size
 width_in ms t = find (λ s. is_promotable s (roles t ms)) (Byte ∷ Half ∷ Word ∷ Long ∷ [])
+
+-- ---- what a function becomes where temporaries are promoted
+
+-- the widths of the promoted temporaries, none for the others
+abbrev pub Widths : Type 0
+Widths = ℕ → Option Size
+
+-- what puts a value into the temporary in place of a store: the whole of it, or its low bytes
+abbrev pub storing : Size → UnaryOp
+storing Byte = Extend UnsignedByte
+storing Half = Extend UnsignedHalf
+storing Word = Extend SignedWord
+storing Long = Copy
+
+-- what takes the value from the temporary in place of a load whose result has class c
+abbrev pub extending : Extension → Class → UnaryOp
+extending SignedWord W = Copy
+extending UnsignedWord W = Copy
+extending e c = Extend e
+
+abbrev pub loading : UnaryOp → Class → UnaryOp
+loading Neg c = Neg
+loading Copy c = Copy
+loading (Extend e) c = Extend e
+loading LoadLong c = Copy
+loading (Load e) c = extending e c
+
+-- a promoted temporary has no block of memory, and begins as 0
+abbrev pub made_in : Option Size → Dest → Alignment → ℕ → Inst
+made_in None to alignment size = Alloc to alignment size
+made_in (Some s) to alignment size = Unary to Copy (Int 0)
+
+abbrev pub stored_in : Option Size → Size → Val → ℕ → Inst
+stored_in None size a p = Store size a (Temp p)
+stored_in (Some s) size a p = Unary (record { temp = p; class = L }) (storing size) a
+
+abbrev pub taken_from : Option Size → Dest → UnaryOp → ℕ → Inst
+taken_from None to op p = Unary to op (Temp p)
+taken_from (Some s) to op p = Unary to (loading op to.class) (Temp p)
+
+abbrev pub promoted_store : Widths → Size → Val → Val → Inst
+promoted_store w size a (Int n) = Store size a (Int n)
+promoted_store w size a (Temp p) = stored_in (w p) size a p
+promoted_store w size a (Global g) = Store size a (Global g)
+
+abbrev pub promoted_unary : Widths → Dest → UnaryOp → Val → Inst
+promoted_unary w to op (Int n) = Unary to op (Int n)
+promoted_unary w to op (Temp p) = taken_from (w p) to op p
+promoted_unary w to op (Global g) = Unary to op (Global g)
+
+-- loads and stores of promoted temporaries are copies and extensions, and their allocs are gone;
+-- nothing else changes
+abbrev pub promoted : Widths → Inst → Inst
+promoted w (Unary to op a) = promoted_unary w to op a
+promoted w (Binary to op a b) = Binary to op a b
+promoted w (Alloc to alignment size) = made_in (w to.temp) to alignment size
+promoted w (Store size a at) = promoted_store w size a at
+promoted w (Blit from to count) = Blit from to count
+promoted w (Call to callee args) = Call to callee args
+
+abbrev pub promoted_line : Widths → Lined Inst → Lined Inst
+promoted_line w i = record { line = i.line; item = promoted w i.item }
+
+abbrev pub promoted_block : Widths → Block → Block
+promoted_block w b =
+    record {
+      line = b.line;
+      label = b.label;
+      phis = b.phis;
+      insts = map (promoted_line w) b.insts;
+      jump = b.jump;
+    }
+
+-- the second function is the first with these temporaries promoted
+pub record Rewrites (w : Widths) (f g : Func) : Type 0 where
+  pub line : g.line ≡ f.line
+  pub exported : g.exported ≡ f.exported
+  pub name : g.name ≡ f.name
+  pub result : g.result ≡ f.result
+  pub params : g.params ≡ f.params
+  pub temps : g.temps ≡ f.temps
+  pub labels : g.labels ≡ f.labels
+  pub blocks : g.blocks ≡ map (promoted_block w) f.blocks
+
+-- every temporary that can be promoted is
+abbrev pub IsPromoted : Func → Func → Type 0
+IsPromoted f g = Rewrites (width_in (mentions_of f)) f g
+
+-- ---- what is known of temporaries from their mentions so far
+
+-- after one more mention
+abbrev pub seen : Standing → Role → Standing
+seen Unseen Made = Unused
+seen Unused Made = Unused
+seen Unused (Accessed s) = Kept s
+seen (Kept s) Made = Kept s
+seen (Kept s) (Accessed r) = if same_size r s then Kept s else Refused
+seen standing role = Refused
+
+abbrev pub seen_all : Standing → List Role → Standing
+seen_all standing [] = standing
+seen_all standing (role ∷ roles) = seen_all (seen standing role) roles
+
+-- one that is never accessed has any width
+abbrev pub width : Standing → Option Size
+width Unseen = None
+width Unused = Some Byte
+width (Kept s) = Some s
+width Refused = None
+
+abbrev pub standing_at : List Standing → ℕ → Standing
+standing_at table t = slice_index_or table t Unseen
+
+abbrev pub widths_by : List Standing → Widths
+widths_by table t = width (standing_at table t)
+
+-- ---- whether a text makes blocks of memory
+abbrev pub makes : List (Lined Inst) → Bool
+makes insts = list_any (λ (i : Lined Inst). is_alloc i.item) insts
+
+abbrev pub makes_any : List Block → Bool
+makes_any blocks = list_any (λ (b : Block). makes b.insts) blocks

@@ -6,7 +6,7 @@
 //! made have other numbers.
 //!
 //! A temporary is promoted where nothing but `alloc` assigns it, every other mention of it is the address of a load or store of one and the same number of bytes,
-//! and the text mentions it first at its `alloc` (`specs/Uses`). What the function becomes is in `specs/Promoted`.
+//! and the text mentions it first at its `alloc` (`specs/Uses`). What the function becomes is in `specs/Uses`.
 //!
 //! The laws stand in `laws`: a function keeps the rules and limits that it kept, weighs as much and needs no more stack (`specs/Laws`); and a program whose
 //! functions are promoted has the output, the end and the turns that it had, wherever it didn't become undefined or run out of stack (`specs/Programs`). In the

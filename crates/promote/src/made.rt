@@ -2,8 +2,7 @@
 ghost use Rattle.std.specs.Prelude.{◌≡◌, false};
 ghost use Rattle.std.specs.List.{list_any};
 ghost use Rattle.il_types.specs.Prelude.{is_alloc};
-ghost use Rattle.promote.specs.Made.{makes, makes_any};
-ghost use Rattle.promote.specs.Promoted.{IsPromoted};
+ghost use Rattle.promote.specs.Uses.{makes, makes_any, IsPromoted};
 
 use il_ast::{Block, Func, Inst, Lined};
 

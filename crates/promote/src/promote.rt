@@ -1,6 +1,6 @@
 //! Functions in which locals are temporaries.
 ghost use Rattle.std.specs.Prelude.{IfOk};
-ghost use Rattle.promote.specs.Promoted.{IsPromoted};
+ghost use Rattle.promote.specs.Uses.{IsPromoted};
 
 use crate::copying::{copied, copied_names};
 use crate::mentions::mentions;

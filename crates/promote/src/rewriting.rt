@@ -1,7 +1,6 @@
 //! Blocks in which temporaries are promoted.
 ghost use Rattle.std.specs.Prelude.{◌≡◌, map, IfOk};
-ghost use Rattle.promote.specs.Promoted.{storing, extending, loading, made_in, promoted_store, promoted_unary, promoted, promoted_line, promoted_block};
-ghost use Rattle.promote.specs.Tables.{widths_by};
+ghost use Rattle.promote.specs.Uses.{storing, extending, loading, made_in, promoted_store, promoted_unary, promoted, promoted_line, promoted_block, widths_by};
 
 use crate::standing::{Standing, width_at};
 use il_ast::{

@@ -1,7 +1,6 @@
 //! What is known of temporaries from their mentions, in order.
 ghost use Rattle.std.specs.Prelude.{◌≡◌, ℕ, nat_eq, if◌then◌else◌, IfOk, OnOk};
-ghost use Rattle.promote.specs.Uses.{roles, same_size};
-ghost use Rattle.promote.specs.Tables.{seen, seen_all, width, standing_at};
+ghost use Rattle.promote.specs.Uses.{roles, same_size, seen, seen_all, width, standing_at};
 ghost use Rattle.promote.specs.declared.standing.Standing.TheVariants.{Unseen as NotSeen};
 
 use crate::mention::{Mention, Role};

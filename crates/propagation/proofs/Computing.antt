@@ -15,7 +15,7 @@ use Rattle.vcode.specs.declared.line.Operation.TheVariants.{Reg, RegW, Compare}
 use Rattle.vcode.specs.declared.line.Line.{Line}
 use Rattle.vcode.specs.declared.line.Line.TheVariants.{Tick, Set, Operate, Load, Store, Alloc, Blit, Call}
 use Rattle.vcode.specs.Prelude.{line_cost, operate, Values, Gives, act}
-use Rattle.propagation.specs.Shortened.{result_of, is_cheaper, with_result, computed, by_shift, shortened}
+use Rattle.propagation.specs.FactTable.{result_of, is_cheaper, with_result, computed, by_shift, shortened}
 use Rattle.propagation.proofs.Shortening.{Unnumbered, shift_cheaper, shift_unchanged, shift_act}
 
 -- ---- what the operations give

@@ -12,11 +12,8 @@ use Rattle.cfg_live.specs.Registers.{line_writes}
 use Rattle.propagation.specs.declared.constants.fact.Fact.{Fact}
 use Rattle.propagation.specs.declared.constants.table.FactTable.{FactTable}
 use Rattle.propagation.specs.declared.constants.claim.Entry.{Entry}
-use Rattle.propagation.specs.Facts.{Facts, fact_names, asks_memory, fact_below, kept_if}
-use Rattle.propagation.specs.FactTable.{facts_of, changed, over}
-use Rattle.propagation.specs.Claimed.{claims_at, AreKnown, LeadsWell, known_at}
-use Rattle.propagation.specs.Forwarded.{IsPut, AreForwarded, IsForwarded, AllForwarded}
-use Rattle.propagation.specs.After.{changes_memory, fact_of, after}
+use Rattle.propagation.specs.FactTable.{Facts, fact_names, asks_memory, fact_below, kept_if, facts_of, changed, over}
+use Rattle.propagation.specs.Forwarded.{claims_at, AreKnown, LeadsWell, known_at, IsPut, AreForwarded, IsForwarded, AllForwarded, changes_memory, fact_of, after}
 use Rattle.il_ast.proofs.Truth.{equal_turned}
 
 -- ---- what is known after a line

@@ -37,11 +37,9 @@ use Rattle.propagation.specs.declared.constants.fact.Fact.{Fact}
 use Rattle.propagation.specs.declared.constants.fact.Fact.TheVariants.{Same, Sum, Test}
 use Rattle.propagation.specs.declared.constants.claim.Claim.{Claim}
 use Rattle.propagation.specs.declared.constants.claim.Entry.{Entry}
-use Rattle.propagation.specs.Claimed.{claims_at, making, claimed as claimed_in, known_at, AreKnown, LeadsWell}
-use Rattle.propagation.specs.Facts.{Facts, names_it, fact_names, asks_memory, kept_if, fact_below, summed, Truth, AreTrue}
+use Rattle.propagation.specs.Forwarded.{claims_at, making, claimed as claimed_in, known_at, AreKnown, LeadsWell, is_short, copied, propagate, regrouped, grouped, folded, further, from_base, with_address, with_line, test_of, tested_by, with_test, with_branch, numbers_hold, decided, with_jump, IsPut, IsPutJump, AreForwarded, AllForwarded, is_add, sum_of, changes_memory, writes_it, fact_of, leaves, after}
+use Rattle.propagation.specs.FactTable.{Facts, names_it, fact_names, asks_memory, kept_if, fact_below, summed, Truth, AreTrue}
 use Rattle.propagation.proofs.Computing.{numbers_compared, unchanged, shortened_act}
-use Rattle.propagation.specs.Forwarded.{is_short, copied, propagate, regrouped, grouped, folded, further, from_base, with_address, with_line, test_of, tested_by, with_test, with_branch, numbers_hold, decided, with_jump, IsPut, IsPutJump, AreForwarded, AllForwarded}
-use Rattle.propagation.specs.After.{is_add, sum_of, changes_memory, writes_it, fact_of, leaves, after}
 use Rattle.il_ast.proofs.Truth.{equals_itself, equal_turned}
 use Rattle.il_ast.proofs.Wrapping.{further_sum}
 

@@ -21,7 +21,7 @@ use Rattle.vcode.specs.declared.line.Operation.TheVariants.{Reg, RegW, Compare}
 use Rattle.vcode.specs.declared.line.Line.{Line}
 use Rattle.vcode.specs.declared.line.Line.TheVariants.{Tick, Set, Operate, Load, Store, Alloc, Blit, Call}
 use Rattle.vcode.specs.Prelude.{is_immediate, operand_cost, operation_cost, line_cost, operate, Values, value_of, Gives, act}
-use Rattle.propagation.specs.Shortened.{exponent, if_below, by_power, with_operation, by_shift}
+use Rattle.propagation.specs.FactTable.{exponent, if_below, by_power, with_operation, by_shift}
 
 -- ---- powers
 

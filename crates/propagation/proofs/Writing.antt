@@ -10,8 +10,7 @@ use Rattle.propagation.specs.declared.constants.fact.Fact.{Fact}
 use Rattle.propagation.specs.declared.constants.fact.Fact.TheVariants.{Same, Sum, Test}
 use Rattle.propagation.specs.declared.constants.fact.DatedFact.{DatedFact}
 use Rattle.propagation.specs.declared.constants.table.FactTable.{FactTable}
-use Rattle.propagation.specs.Facts.{names_it, fact_names, asks_memory, operand_below, fact_below, kept_if}
-use Rattle.propagation.specs.FactTable.{cell, is_fresh, stands, counted, facts_of, IsTable, IsAtLine, changed, over}
+use Rattle.propagation.specs.FactTable.{names_it, fact_names, asks_memory, operand_below, fact_below, kept_if, cell, is_fresh, stands, counted, facts_of, IsTable, IsAtLine, changed, over}
 use Rattle.il_ast.proofs.Listed.{get_set_same, get_set_other, length_slice_set}
 use Rattle.il_ast.proofs.Truth.{and_false}
 

@@ -1,28 +1,104 @@
 -- Code in which operands and branches are put by what is known of registers.
-use Rattle.std.specs.Prelude.{◌≡◌, ◌⊎◌, ℕ, ◌+◌, ◌%◌, ◌^◌, Bool, true, false, not, ◌&&◌, nat_eq, if◌then◌else◌, List, [], ◌∷◌, map, Option, Some, None}
-use Rattle.std.specs.Option.{option_map, option_map_or}
+use Rattle.std.specs.Prelude.{ℕ, Bool, true, false, not, ◌&&◌, nat_eq, nat_lt, if◌then◌else◌, Option, Some, None, ◌≡◌, List, [], ◌∷◌, slice_get, ◌⊎◌, ◌+◌, ◌%◌, ◌^◌, map}
+use Rattle.std.specs.Option.{option_map_or, option_map}
+use Rattle.vcode.specs.declared.place.Operand.{Operand}
+use Rattle.vcode.specs.declared.place.Operand.TheVariants.{At, Number, Name}
+use Rattle.vcode.specs.declared.line.Line.{Line}
+use Rattle.vcode.specs.declared.line.Line.TheVariants.{Set, Operate, Store, Alloc, Blit, Call, Tick, Load}
+use Rattle.rv_isa.specs.declared.instruction.RegOp.TheVariants.{Add}
+use Rattle.vcode.specs.declared.line.Operation.{Operation}
+use Rattle.vcode.specs.declared.line.Operation.TheVariants.{Reg, Compare}
+use Rattle.cfg_live.specs.Registers.{line_writes}
+use Rattle.propagation.specs.declared.constants.fact.Fact.{Fact}
+use Rattle.propagation.specs.declared.constants.fact.Fact.TheVariants.{Same, Sum, Test}
+use Rattle.propagation.specs.FactTable.{Facts, fact_names, asks_memory, fact_below, kept_if, shortened}
+use Rattle.vcode.specs.declared.line.Jump.{Jump}
+use Rattle.vcode.specs.declared.line.Jump.TheVariants.{Goto, Branch, Return, Halt}
+use Rattle.propagation.specs.declared.constants.claim.Claim.{Claim}
+use Rattle.propagation.specs.declared.constants.claim.Entry.{Entry}
 use Rattle.il_ast.specs.declared.operation.Class.{Class}
 use Rattle.il_ast.specs.declared.operation.Condition.{Condition}
 use Rattle.il_ast.specs.declared.operation.Condition.TheVariants.{Equal, NotEqual}
 use Rattle.il_ast.specs.Prelude.{modulus, holds}
-use Rattle.vcode.specs.declared.place.Operand.{Operand}
 use Rattle.vcode.specs.declared.place.Address.{Address}
-use Rattle.vcode.specs.declared.place.Operand.TheVariants.{At, Number, Name}
-use Rattle.vcode.specs.declared.line.Line.{Line}
-use Rattle.vcode.specs.declared.line.Line.TheVariants.{Tick, Set, Operate, Load, Store, Alloc, Blit, Call}
 use Rattle.vcode.specs.Prelude.{distance, beyond, is_immediate, affords, with_base, with_argument, with_returned, with_comparison}
-use Rattle.vcode.specs.declared.line.Operation.{Operation}
 use Rattle.vcode.specs.declared.line.Comparison.{Comparison}
-use Rattle.vcode.specs.declared.line.Jump.{Jump}
-use Rattle.vcode.specs.declared.line.Jump.TheVariants.{Goto, Branch, Return, Halt}
 use Rattle.vcode.specs.declared.code.Block.{Block}
-use Rattle.propagation.specs.declared.constants.fact.Fact.{Fact}
-use Rattle.propagation.specs.declared.constants.fact.Fact.TheVariants.{Same, Sum, Test}
-use Rattle.propagation.specs.declared.constants.claim.Entry.{Entry}
-use Rattle.propagation.specs.Facts.{Facts}
-use Rattle.propagation.specs.After.{is_add, after}
-use Rattle.propagation.specs.Claimed.{known_at, LeadsWell}
-use Rattle.propagation.specs.Shortened.{shortened}
+
+-- ---- what is known of registers behind a line
+abbrev pub is_add : Operation → Bool
+is_add (Reg Add) = true
+is_add op = false
+
+abbrev pub changes_memory : Line ℕ → Bool
+changes_memory (Store size a at) = true
+changes_memory (Alloc to size) = true
+changes_memory (Blit from to count) = true
+changes_memory (Call to callee args) = true
+changes_memory l = false
+
+abbrev pub writes_it : Line ℕ → ℕ → Bool
+writes_it l r = option_map_or (λ k. nat_eq k r) (line_writes l) false
+
+-- a sum of a register and a number
+abbrev pub sum_of : (a b : Operand ℕ) → Option Fact
+sum_of (At r) (Number n) = Some (Sum (At r) n)
+sum_of a b = None
+
+-- what a line makes known of the register that it writes
+abbrev pub fact_of : Line ℕ → Option Fact
+fact_of (Set to a) = Some (Same a)
+fact_of (Operate to (Reg op) a b) = if is_add (Reg op) then sum_of a b else None
+fact_of (Operate to (Compare on k) a b) =
+    Some (Test (record { condition = on; class = k; left = a; right = b }))
+fact_of l = None
+
+-- a line leaves a fact true that names no register that it writes, and asks no memory that it
+-- changes
+abbrev pub leaves : Line ℕ → Fact → Bool
+leaves l f =
+    not (option_map_or (fact_names f) (line_writes l) false)
+    && not (changes_memory l && asks_memory f)
+
+-- what is known after a line, of n registers: what it makes known, and what was known, each if the
+-- line leaves it true
+abbrev pub after : (n : ℕ) → Line ℕ → Facts → Facts
+after n l fs r =
+    kept_if (λ f. nat_lt r n && (fact_below n f && leaves l f))
+    (if writes_it l r then fact_of l else fs r)
+
+-- ---- what is claimed of registers where blocks begin, and what is known there by it
+
+-- what is claimed where the block begins
+abbrev pub claims_at : List Entry → (block : ℕ) → List Claim
+claims_at entries k = option_map_or (λ (e : Entry). e.claims) (slice_get entries k) []
+
+-- a line that makes it true
+abbrev pub making : Claim → Line ℕ
+making c = Set c.register c.value
+
+-- what is known, of n registers, where what was known is and these are claimed: as behind lines that
+-- make them true
+abbrev pub claimed : (n : ℕ) → Facts → List Claim → Facts
+claimed n fs [] = fs
+claimed n fs (c ∷ claims) = claimed n (after n (making c) fs) claims
+
+-- what is known where the block begins
+abbrev pub known_at : (n : ℕ) → List Entry → (block : ℕ) → Facts
+known_at n entries k = claimed n (λ r. None) (claims_at entries k)
+
+-- each claim is known to be true
+abbrev pub AreKnown : Facts → List Claim → Type 0
+AreKnown fs [] = Unit {0}
+AreKnown fs (c ∷ claims) = (fs c.register ≡ Some (Same c.value)) × AreKnown fs claims
+
+-- ... of each block to which the jump may lead
+abbrev pub LeadsWell : List Entry → Facts → Jump ℕ → Type 0
+LeadsWell entries fs (Goto k) = AreKnown fs (claims_at entries k)
+LeadsWell entries fs (Branch on met otherwise) =
+    AreKnown fs (claims_at entries met) × AreKnown fs (claims_at entries otherwise)
+LeadsWell entries fs (Return a) = Unit {0}
+LeadsWell entries fs Halt = Unit {0}
 
 -- ---- operands
 

@@ -1,5 +1,5 @@
 -- What runs of a compiled file answer.
-use Rattle.rv_machine.specs.Start.{start_state}
+use Rattle.rv_machine.specs.Steps.{start_state}
 use Rattle.rv_machine.proofs.Arguments.{arguments_count, arguments_size}
 use Rattle.rv_machine.proofs.StartLaws.{machine_starts}
 use Rattle.headline.proofs.Answering.{runs_answer}

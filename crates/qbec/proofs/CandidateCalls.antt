@@ -11,11 +11,10 @@ use Rattle.il_ast.specs.Prelude.{need, Call, Memory, Outcome, Ended, nothing, on
 use Rattle.vcode.specs.declared.function.VFunc.{VFunc}
 use Rattle.vcode.specs.Prelude.{classes_in, GoesSo, HasRoom, virtual, begin, step}
 use Rattle.vcode.proofs.InPlace.{goes_room}
-use Rattle.inlining.specs.Candidates.{AllGoFrom, AllLater, given_by, GoesAs, IsCandidateOf}
+use Rattle.inlining.specs.InPlace.{AllGoFrom, AllLater, given_by, GoesAs, IsCandidateOf}
 use Rattle.inlining.proofs.CandidateCalls.{asked_later}
 use Rattle.inlining.proofs.MoreRoom.{room_before, callees_stay}
-use Rattle.headline.specs.InPlace.{calls_in}
-use Rattle.headline.specs.Functions.{body_of}
+use Rattle.headline.specs.Executables.{calls_in, body_of}
 use Rattle.headline.proofs.InPlace.{same_body}
 use Rattle.qbec.specs.Pipeline.{IsCandidateNamed}
 

@@ -6,8 +6,7 @@ use Rattle.il_ast.specs.declared.program.Program.{Program}
 use Rattle.il_ast.specs.Prelude.{weight}
 use Rattle.rv_isa.specs.Prelude.{Words, IsCode}
 use Rattle.obj_link.specs.Prelude.{shown}
-use Rattle.qbec.specs.Promoted.{StandPromoted}
-use Rattle.qbec.specs.Codes.{AreWordsIn}
+use Rattle.qbec.specs.Pipeline.{StandPromoted, AreWordsIn}
 
 pub record CodesSoFar (p : Program) (fs : List (InText (Bor Func))) (k : ℕ) (codes : List Words) : Type 0 where
   pub whole : (rest : List Words) → AreWordsIn p rest (map shown (drop k fs)) → AreWordsIn p (codes ++ rest) (map shown fs)

@@ -7,10 +7,7 @@ use Rattle.obj_link.specs.declared.linking.error.LinkError.TheVariants.{UnknownN
 use Rattle.obj_link.specs.Prelude.{times_exported, meaning_of, names_of, IsUnknown, Refuses as LinkRefuses}
 use Rattle.qbec.specs.declared.error.CompileError.{CompileError}
 use Rattle.qbec.specs.declared.error.CompileError.TheVariants.{Syntax, Rule, UnknownName, ExportedTwice, NoMain, Limit, Memory}
-use Rattle.qbec.specs.Texts.{AreTexts, AreProgram}
-use Rattle.qbec.specs.Refusals.{Refuses}
-use Rattle.qbec.specs.Reasons.{SaysAsMuch}
-use Rattle.qbec.specs.Compile.{IsFile, IsCompiled}
+use Rattle.qbec.specs.Refusals.{AreTexts, AreProgram, Refuses, SaysAsMuch, IsFile, IsCompiled}
 
 -- ---- refusals to link
 

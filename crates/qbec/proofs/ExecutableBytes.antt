@@ -17,12 +17,11 @@ use Rattle.il_ast.specs.declared.value.Value.{Value}
 use Rattle.il_ast.specs.Prelude.{globals_of, item_cells, field_cells, object_cells}
 use Rattle.rv_isa.specs.Prelude.{State, stack_top, argument_bytes, pointer_bytes, word_bytes, Words}
 use Rattle.obj_link.specs.Prelude.{IsThere}
-use Rattle.elf_file.specs.Loaded.{Executable, byte_in}
+use Rattle.elf_file.specs.Conditions.{Executable, byte_in}
 use Rattle.rv_machine.specs.Starts.{Starts}
-use Rattle.flat_code.specs.Spots.{Bases, Entries}
+use Rattle.flat_code.specs.Flat.{Bases, Entries}
 use Rattle.promote.specs.Programs.{AreBytes, AreWords, ItemsHaveBytes, FieldsHaveBytes, ObjectsHaveBytes, AreAmong, HasBytes}
-use Rattle.headline.specs.Places.{CellsStand, BlocksStand, DataStands}
-use Rattle.headline.specs.Executables.{NamesAreThere, places_of}
+use Rattle.headline.specs.Executables.{CellsStand, BlocksStand, DataStands, NamesAreThere, places_of}
 
 -- ---- data
 

@@ -6,19 +6,16 @@ use Rattle.rv_isa.specs.Prelude.{Words, State, word_bytes}
 use Rattle.obj_link.specs.Prelude.{Contents, IsImage, IsImageOf, contents_of, calls_reach, FitsBelow, IsProgram}
 use Rattle.obj_link.proofs.FitLemmas.{program_fits}
 use Rattle.obj_link.proofs.ImagesOf.{is_image_of}
-use Rattle.elf_file.specs.Conditions.{Loads}
+use Rattle.elf_file.specs.Conditions.{Loads, Executable, Stands}
 use Rattle.elf_file.specs.File.{executable_of}
-use Rattle.elf_file.specs.Loaded.{Executable}
-use Rattle.elf_file.specs.Stands.{Stands}
 use Rattle.elf_file.proofs.Reading.{Loads-unique}
 use Rattle.rv_machine.specs.Starts.{Starts}
 use Rattle.promote.proofs.Programs.{outcome_stays}
 use Rattle.headline.specs.Headline.{Executes}
 use Rattle.headline.proofs.DataPlaced.{programs_have_names, stands_well}
 use Rattle.headline.proofs.CompiledRuns.{replaced_runs}
-use Rattle.qbec.specs.Codes.{AreWords}
-use Rattle.qbec.specs.Compile.{IsExecutableOf, IsFile}
-use Rattle.qbec.specs.Promoted.{with_functions}
+use Rattle.qbec.specs.Pipeline.{AreWords, with_functions}
+use Rattle.qbec.specs.Refusals.{IsExecutableOf, IsFile}
 use Rattle.qbec.proofs.PromotedFunctions.{compiled, one_each, is_promoted, names_are_there, same_contents, calls_still_reach}
 use Rattle.qbec.proofs.ExecutableBytes.{has_bytes}
 use Rattle.qbec.proofs.PromotedRuns.{executes_so}

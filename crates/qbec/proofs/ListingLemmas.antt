@@ -6,8 +6,7 @@ use Rattle.il_ast.specs.declared.program.Program.{Program}
 use Rattle.il_types.specs.declared.checked.Checked.{Checked}
 use Rattle.rv_isa.specs.Prelude.{Words}
 use Rattle.qbec.specs.declared.symbols.symbol.Symbol.{Symbol}
-use Rattle.qbec.specs.Listing.{listing_of, symbol_line}
-use Rattle.qbec.specs.Symbols.{entry, symbols_of}
+use Rattle.qbec.specs.Symbols.{listing_of, symbol_line, entry, symbols_of}
 
 pub lists : {E : Type 0} (texts : List Checked) (p : Program) (codes : List Words) (found same : List Symbol) (r : Result (Vec ℕ Global) E) → map entry found ≡ symbols_of texts p codes → same ≡ found
     → IfOk r (λ v. v.items ≡ concat (map (λ s. symbol_line (entry s)) same)) → IfOk r (λ v. v.items ≡ listing_of texts p codes)

@@ -15,15 +15,11 @@ use Rattle.vcode.specs.declared.function.VFunc.{VFunc}
 use Rattle.vcode.specs.Prelude.{virtual_code, KeepsIn, virtual, begin, step}
 use Rattle.vcode.proofs.InPlace.{runs_stay}
 use Rattle.vcode.proofs.Lists.{one_more}
-use Rattle.inlining.specs.Candidates.{is_candidate}
-use Rattle.inlining.specs.Placed.{AreCandidates, KeepsCalls}
-use Rattle.headline.specs.InPlace.{calls_in}
-use Rattle.headline.specs.Functions.{body_of, IsCodeIn}
+use Rattle.inlining.specs.InPlace.{is_candidate, AreCandidates, KeepsCalls}
+use Rattle.headline.specs.Executables.{calls_in, body_of, IsCodeIn}
 use Rattle.headline.proofs.InPlace.{code_is_in, stays_in}
-use Rattle.qbec.specs.Promoted.{StandPromoted}
-use Rattle.qbec.specs.Candidates.{IsCandidateCode, IsCandidateMeant, AreCandidatesMeant, AreCandidatesAt, AreCandidatesIn}
-use Rattle.qbec.specs.Pipeline.{AreCandidatesOf, IsCodeWith, StandWith, StandWithin}
-use Rattle.promote.specs.Promoted.{IsPromoted}
+use Rattle.qbec.specs.Pipeline.{StandPromoted, IsCandidateCode, IsCandidateMeant, AreCandidatesMeant, AreCandidatesAt, AreCandidatesIn, AreCandidatesOf, IsCodeWith, StandWith, StandWithin}
+use Rattle.promote.specs.Uses.{IsPromoted}
 use Rattle.rv_isa.specs.Prelude.{Words}
 use Rattle.asm_layout.specs.declared.call.CallForm.{CallForm}
 use Rattle.qbec.proofs.PromotedFunctions.{promoted_at, one_promoted}

@@ -10,8 +10,7 @@ use Rattle.obj_link.proofs.MainLemmas.{main_is}
 use Rattle.obj_link.proofs.ProgramLemmas.{one_program, unknown_none}
 use Rattle.qbec.specs.declared.error.CompileError.{CompileError}
 use Rattle.qbec.specs.declared.error.CompileError.TheVariants.{Syntax, Rule, UnknownName, ExportedTwice, NoMain, Limit, Memory}
-use Rattle.qbec.specs.Texts.{AreTexts, AreProgram}
-use Rattle.qbec.specs.Refusals.{PassesLimit, Refuses}
+use Rattle.qbec.specs.Refusals.{AreTexts, AreProgram, PassesLimit, Refuses}
 use Rattle.qbec.proofs.TextLemmas.{same_checked}
 
 -- ---- what texts are

@@ -10,8 +10,7 @@ use Rattle.phi_copies.specs.Good.{IsGoodFunction}
 use Rattle.rv_isa.specs.Prelude.{Words, filled, all_reach}
 use Rattle.obj_link.specs.declared.placing.addresses.Addresses.{Addresses}
 use Rattle.obj_link.specs.Prelude.{IsThere, functions_start, start_words, write_words, exit_words, name_address, functions_words, functions_reach, addresses_of, contents_of, calls_reach, callee_address}
-use Rattle.promote.specs.Uses.{mentions_of, width_in}
-use Rattle.promote.specs.Promoted.{IsPromoted, promoted_block}
+use Rattle.promote.specs.Uses.{mentions_of, width_in, IsPromoted, promoted_block}
 use Rattle.il_reader.specs.Prelude.{FunctionParts, function_parts}
 use Rattle.il_reader.proofs.OneTree.{function_same}
 use Rattle.promote.specs.Programs.{ArePromoted, IsProgramPromoted}
@@ -19,7 +18,7 @@ use Rattle.promote.proofs.Respect.{all_respected}
 use Rattle.promote.proofs.Rules.{rules_stay, limits_stay, same_weight}
 use Rattle.headline.specs.Compiled.{EachStandsIn}
 use Rattle.headline.specs.Executables.{NamesAreThere}
-use Rattle.qbec.specs.Promoted.{EachPromoted, with_functions}
+use Rattle.qbec.specs.Pipeline.{EachPromoted, with_functions}
 
 -- ---- one function
 

@@ -15,7 +15,7 @@ use Rattle.asm_layout.specs.declared.call.CallForm.{CallForm}
 use Rattle.asm_layout.specs.declared.call.CallForm.TheVariants.{Far}
 use Rattle.obj_link.specs.declared.placing.addresses.Addresses.{Addresses}
 use Rattle.obj_link.specs.Prelude.{functions_start, name_address, functions_reach, addresses_of, calls_reach}
-use Rattle.qbec.specs.Codes.{AllHaveForm}
+use Rattle.qbec.specs.Pipeline.{AllHaveForm}
 
 pub one_more_form : (form : CallForm) (codes : List Words) (c : Words) → AllHaveForm form codes → HaveForm form c.holes → AllHaveForm form (codes ++ c ∷ [])
 one_more_form form [] c h k = (k, tt)

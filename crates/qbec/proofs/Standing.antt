@@ -8,10 +8,10 @@ use Rattle.vcode.specs.declared.function.LFunc.{LFunc}
 use Rattle.vcode.specs.declared.function.VFunc.{VFunc}
 use Rattle.vcode.specs.Prelude.{location_code, code_weight}
 use Rattle.flat_code.specs.Laws.{FlatKept}
-use Rattle.abi_frames.specs.Layout.{frame_bound}
+use Rattle.abi_frames.specs.Performs.{frame_bound}
 use Rattle.rv_isa.specs.Prelude.{Words}
 use Rattle.asm_layout.specs.declared.call.CallForm.{CallForm}
-use Rattle.headline.specs.Functions.{IsCodeIn}
+use Rattle.headline.specs.Executables.{IsCodeIn}
 use Rattle.headline.specs.Compiled.{StandIn}
 use Rattle.headline.proofs.InPlace.{code_is_in}
 use Rattle.qbec.specs.Pipeline.{IsCodeWith, IsLaidOut, StandWithin}

@@ -12,9 +12,7 @@ use Rattle.il_types.specs.Prelude.{Refuses as RefusesTree, IsGood}
 use Rattle.il_reader.specs.declared.error.ReadError.{ReadError}
 use Rattle.qbec.specs.declared.error.CompileError.{CompileError}
 use Rattle.qbec.specs.declared.error.CompileError.TheVariants.{Syntax, Rule, UnknownName, ExportedTwice, NoMain, Limit, Memory}
-use Rattle.qbec.specs.Texts.{AreTexts}
-use Rattle.qbec.specs.Refusals.{Refuses}
-use Rattle.qbec.specs.Reasons.{RefusesText, read_refusal, check_refusal}
+use Rattle.qbec.specs.Refusals.{AreTexts, Refuses, RefusesText, read_refusal, check_refusal}
 
 -- ---- refusals
 

@@ -2,17 +2,13 @@
 use Rattle.std.specs.Prelude.{◌≡◌, ℕ, ◌<◌, ◌^◌, Bool, true, List, Some}
 use Rattle.il_ast.specs.declared.program.Program.{Program}
 use Rattle.obj_link.specs.Prelude.{are_arguments}
-use Rattle.elf_file.specs.Conditions.{Loads}
-use Rattle.elf_file.specs.Loaded.{Executable, IsExecutable, byte_in}
-use Rattle.rv_machine.specs.Runs.{RunEnds}
-use Rattle.rv_machine.specs.Start.{start_state, AreTexts as AreWordBytes}
+use Rattle.elf_file.specs.Conditions.{Loads, Executable, IsExecutable, byte_in}
+use Rattle.rv_machine.specs.Steps.{RunEnds, start_state, AreTexts as AreWordBytes}
 use Rattle.rv_machine.specs.declared.stop.Stop.{Stop}
 use Rattle.headline.specs.Answered.{Answers}
-use Rattle.qbec.specs.Compile.{IsCompiled}
+use Rattle.qbec.specs.Refusals.{IsCompiled, AreProgram, Refuses}
 use Rattle.qbec.specs.declared.error.CompileError.{CompileError}
 use Rattle.qbec.specs.declared.error.CompileError.TheVariants.{Memory}
-use Rattle.qbec.specs.Texts.{AreProgram}
-use Rattle.qbec.specs.Refusals.{Refuses}
 
 -- texts are at most one program
 abbrev pub AtMostOneProgram : Type 0

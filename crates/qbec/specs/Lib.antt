@@ -1,11 +1,4 @@
-pub mod Texts
 pub mod Refusals
-pub mod Reasons
 pub mod Laws
-pub mod Promoted
 pub mod Pipeline
-pub mod Candidates
-pub mod Codes
-pub mod Compile
 pub mod Symbols
-pub mod Listing

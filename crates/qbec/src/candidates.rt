@@ -4,8 +4,7 @@ ghost use Rattle.il_ast.specs.declared.program.Program.{Program};
 ghost use Rattle.il_ast.specs.declared.program.Target.TheVariants.{Code};
 ghost use Rattle.il_ast.specs.declared.value.Callee.TheVariants.{Defined};
 ghost use Rattle.obj_link.specs.Prelude.{program};
-ghost use Rattle.qbec.specs.Codes.{AreGood};
-ghost use Rattle.qbec.specs.Candidates.{AreCandidatesAt, AreCandidatesIn, AreCandidatesMeant, IsCandidateMeant};
+ghost use Rattle.qbec.specs.Pipeline.{AreGood, AreCandidatesAt, AreCandidatesIn, AreCandidatesMeant, IsCandidateMeant};
 
 use crate::pipeline::candidate_code;
 use il_ast::{Callee, Target};

@@ -4,11 +4,9 @@ ghost use Rattle.il_ast.specs.declared.program.Program.{Program};
 ghost use Rattle.il_ast.specs.Prelude.{weight};
 ghost use Rattle.phi_copies.specs.Good.{IsGoodFunction};
 ghost use Rattle.obj_link.specs.Prelude.{shown, calls_reach, IsProgram, program};
-ghost use Rattle.qbec.specs.Candidates.{AreCandidatesIn};
-ghost use Rattle.qbec.specs.Promoted.{StandPromoted};
+ghost use Rattle.qbec.specs.Pipeline.{AreCandidatesIn, StandPromoted, AllHaveForm, AreGood, AreWords, AreWordsIn};
 ghost use Rattle.asm_layout.specs.Forms.{HaveForm};
 ghost use Rattle.rv_isa.specs.Prelude.{IsCode};
-ghost use Rattle.qbec.specs.Codes.{AllHaveForm, AreGood, AreWords, AreWordsIn};
 
 use crate::candidates::{candidates_in, candidates_of};
 use crate::pipeline::function_words;

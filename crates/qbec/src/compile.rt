@@ -5,10 +5,8 @@ ghost use Rattle.obj_link.specs.Prelude.{program, IsProgram, calls_reach, conten
 ghost use Rattle.elf_file.specs.Conditions.{Loads};
 ghost use Rattle.elf_file.specs.File.{executable_of};
 ghost use Rattle.qbec.specs.declared.error.CompileError.TheVariants.{Memory};
-ghost use Rattle.qbec.specs.Codes.{AreGood, AreWords};
-ghost use Rattle.qbec.specs.Compile.{IsFile, IsCompiled};
-ghost use Rattle.qbec.specs.Refusals.{Refuses};
-ghost use Rattle.qbec.specs.Texts.{AreProgram};
+ghost use Rattle.qbec.specs.Pipeline.{AreGood, AreWords};
+ghost use Rattle.qbec.specs.Refusals.{IsFile, IsCompiled, Refuses, AreProgram};
 
 use crate::codes::codes_of;
 use crate::error::{CompileError, link_refusal};

@@ -1,6 +1,6 @@
 //! Why texts are not compiled.
 ghost use Rattle.std.specs.Prelude.{◌≡◌, IfOk};
-ghost use Rattle.qbec.specs.Reasons.{SaysAsMuch};
+ghost use Rattle.qbec.specs.Refusals.{SaysAsMuch};
 
 use il_types::BrokenRule;
 use obj_link::LinkError;

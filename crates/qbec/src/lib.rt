@@ -12,10 +12,10 @@
 //!
 //! | Definitions | Subject |
 //! |---|---|
-//! | `specs/Texts`, `specs/Compile` | the program that texts are; what an executable file of a program is |
-//! | `specs/Refusals`, `specs/Reasons` | what each refusal says; which one comes of what reading, checking and linking refuse |
-//! | `specs/Pipeline`, `specs/Candidates`, `specs/Promoted`, `specs/Codes` | functions on their way to words; the program that is compiled in a program's place |
-//! | `specs/Symbols`, `specs/Listing` | where the names of a program stand in its executable; a file, and the lines that show it |
+//! | `specs/Refusals`, `specs/Refusals` | the program that texts are; what an executable file of a program is |
+//! | `specs/Refusals`, `specs/Refusals` | what each refusal says; which one comes of what reading, checking and linking refuse |
+//! | `specs/Pipeline`, `specs/Pipeline`, `specs/Pipeline`, `specs/Pipeline` | functions on their way to words; the program that is compiled in a program's place |
+//! | `specs/Symbols`, `specs/Symbols` | where the names of a program stand in its executable; a file, and the lines that show it |
 #![tactic(auto)]
 
 pub mod candidates;

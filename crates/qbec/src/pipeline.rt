@@ -4,14 +4,13 @@ ghost use Rattle.alloc_check.specs.Prelude.{is_accepted, placed_by, in_slots};
 ghost use Rattle.il_ast.specs.Prelude.{need, weight, Keeps, IsCodeOf};
 ghost use Rattle.il_ast.specs.declared.function.Func.{Func as PromotedFunc};
 ghost use Rattle.phi_copies.specs.Good.{IsGoodFunction};
-ghost use Rattle.abi_frames.specs.Layout.{frame_bound};
+ghost use Rattle.abi_frames.specs.Performs.{frame_bound};
 ghost use Rattle.asm_layout.specs.Forms.{HaveForm};
 ghost use Rattle.flat_code.specs.Laws.{FlatKept};
-ghost use Rattle.inlining.specs.Candidates.{is_candidate};
+ghost use Rattle.inlining.specs.InPlace.{is_candidate};
 ghost use Rattle.vcode.specs.Prelude.{code_weight, virtual_code, location_code};
-ghost use Rattle.promote.specs.Promoted.{IsPromoted};
-ghost use Rattle.qbec.specs.Candidates.{IsCandidateCode};
-ghost use Rattle.qbec.specs.Pipeline.{IsCodeWith, IsLaidOut, StandWith, StandWithin};
+ghost use Rattle.promote.specs.Uses.{IsPromoted};
+ghost use Rattle.qbec.specs.Pipeline.{IsCandidateCode, IsCodeWith, IsLaidOut, StandWith, StandWithin};
 
 use crate::passes::{PASSES, Pass, Progress};
 use abi_frames::frame::{frame, frame_bound};

@@ -3,9 +3,7 @@ ghost use Rattle.std.specs.Prelude.{◌≡◌, ◌++◌, ◌∷◌, [], IfOk, If
 ghost use Rattle.il_reader.specs.Prelude.{Reads};
 ghost use Rattle.il_types.specs.declared.checked.Checked.{Checked as CheckedText};
 ghost use Rattle.qbec.specs.declared.error.CompileError.TheVariants.{Memory};
-ghost use Rattle.qbec.specs.Texts.{AreTexts};
-ghost use Rattle.qbec.specs.Refusals.{Refuses};
-ghost use Rattle.qbec.specs.Reasons.{RefusesText, read_refusal, check_refusal};
+ghost use Rattle.qbec.specs.Refusals.{AreTexts, Refuses, RefusesText, read_refusal, check_refusal};
 
 use crate::error::CompileError;
 use il_reader::error::ReadError;

@@ -1,2 +1,1 @@
 pub mod Renamed
-pub mod Named

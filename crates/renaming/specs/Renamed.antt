@@ -2,7 +2,7 @@
 -- values of one register of the old code, its owner. At a place of the code a register of the old
 -- one may have a name: the register of the new one that holds its value there. Plain registers keep
 -- their names.
-use Rattle.std.specs.Prelude.{◌≡◌, ℕ, ◌+◌, ◌-◌, Bool, true, false, ◌&&◌, nat_eq, nat_lt, if◌then◌else◌, List, [], ◌∷◌, ◌++◌, length, slice_index_or, Option, Some, None}
+use Rattle.std.specs.Prelude.{◌≡◌, ℕ, ◌+◌, ◌-◌, Bool, true, false, ◌&&◌, nat_eq, nat_lt, if◌then◌else◌, List, [], ◌∷◌, ◌++◌, length, slice_index_or, Option, Some, None, slice_get}
 use Rattle.std.specs.List.{list_all}
 use Rattle.std.specs.Option.{option_map_or}
 use Rattle.vcode.specs.declared.place.Operand.{Operand}
@@ -15,6 +15,7 @@ use Rattle.vcode.specs.declared.line.Jump.TheVariants.{Goto, Branch, Return, Hal
 use Rattle.vcode.specs.declared.code.Block.{Block}
 use Rattle.vcode.specs.Prelude.{with_line, with_jump, line_writes}
 use Rattle.renaming.specs.declared.plan.Renamed.{Renamed}
+use Rattle.renaming.specs.declared.names.Names.{Names as Kept}
 
 -- ---- which names a register may have
 
@@ -163,3 +164,20 @@ AllRenamed o starts k (b ∷ bs) (d ∷ ds) =
 -- parameters are given under their own names
 abbrev pub keep_names : List Renamed → Bool
 keep_names xs = list_all (λ (x : Renamed). nat_eq x.register x.name) xs
+
+-- ---- what the code keeps of names, as the definitions have it
+abbrev pub owners_of : Kept → Owners
+owners_of k = record { plain = k.plain.items; beyond = k.beyond.items }
+
+-- the name that is listed there, if it is the register's
+abbrev pub named_in : Option Renamed → ℕ → Option ℕ
+named_in None r = None
+named_in (Some x) r = if nat_eq x.register r then Some x.name else None
+
+abbrev pub listed : List Renamed → (place : Option ℕ) → ℕ → Option ℕ
+listed xs None r = None
+listed xs (Some k) r = named_in (slice_get xs k) r
+
+abbrev pub names_of : Kept → Names
+names_of k r =
+    if is_plain (owners_of k) r then Some r else listed k.named.items (slice_get k.places.items r) r

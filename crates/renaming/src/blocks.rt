@@ -1,8 +1,7 @@
 //! Blocks whose registers have other names.
 ghost use Rattle.std.specs.Prelude.{◌≡◌, true, Some, IfOk, OnOk, IfSome};
 ghost use Rattle.vcode.specs.Prelude.{line_writes};
-ghost use Rattle.renaming.specs.Renamed.{reads_named, with_destination, IsRenamed, AreRenamed, IsEnded, IsRenamedBlock, AllRenamed, start_at, jump_meets};
-ghost use Rattle.renaming.specs.Named.{owners_of, names_of};
+ghost use Rattle.renaming.specs.Renamed.{reads_named, with_destination, IsRenamed, AreRenamed, IsEnded, IsRenamedBlock, AllRenamed, start_at, jump_meets, owners_of, names_of};
 
 use crate::names::Names;
 use crate::plan::{Plan, Renamed};

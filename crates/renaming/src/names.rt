@@ -3,8 +3,7 @@ ghost use Rattle.std.specs.Prelude.{◌≡◌, ℕ, true, nat_eq, if◌then◌el
 ghost use Rattle.std.specs.List.{list_all};
 ghost use Rattle.std.specs.Option.{option_map_or};
 ghost use Rattle.vcode.specs.declared.place.Argument.{Argument as AnArgument};
-ghost use Rattle.renaming.specs.Renamed.{is_plain, owner, is_name, is_named, reads_named, jump_named, plain_names, called, all_called, has_name, are_names, are_met};
-ghost use Rattle.renaming.specs.Named.{owners_of, listed, names_of};
+ghost use Rattle.renaming.specs.Renamed.{is_plain, owner, is_name, is_named, reads_named, jump_named, plain_names, called, all_called, has_name, are_names, are_met, owners_of, listed, names_of};
 
 use crate::plan::Renamed;
 use std::alloc::AllocError;
@@ -223,7 +222,7 @@ impl Names {
 
 impl Replace for Names {
     ghost use Rattle.renaming.specs.Renamed.{read_by};
-    ghost use Rattle.renaming.specs.Named.{names_of};
+    ghost use Rattle.renaming.specs.Renamed.{names_of};
 
     ghost replacing = { λ k. read_by (names_of k) };
 

@@ -3,8 +3,7 @@ ghost use Rattle.std.specs.Prelude.{◌≡◌, ◌<◌, ◌≤◌, ◌+◌, leng
 ghost use Rattle.vcode.specs.declared.limits.TheConstants.{PLACES};
 ghost use Rattle.il_ast.specs.Prelude.{Keeps};
 ghost use Rattle.vcode.specs.Prelude.{virtual_code};
-ghost use Rattle.renaming.specs.Renamed.{keep_names};
-ghost use Rattle.renaming.specs.Named.{owners_of};
+ghost use Rattle.renaming.specs.Renamed.{keep_names, owners_of};
 
 use crate::blocks::{blocks, start_at};
 use crate::choice::choose_names;

@@ -4,16 +4,13 @@ pub mod Encoding
 pub mod Examples
 pub mod Formats
 pub mod Labelled
-pub mod Laws
 pub mod Memory
 pub mod Readings
 pub mod Relocations
-pub mod Runs
 pub mod Start
 pub mod State
 pub mod Step
 pub mod Text
-pub mod Laid
 pub mod Labels
 pub mod Words
 pub mod Types

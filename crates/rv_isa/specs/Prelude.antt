@@ -5,17 +5,13 @@ unfoldable pub use Rattle.rv_isa.specs.Decoding.{candidate_at, instruction_of}
 pub use Rattle.rv_isa.specs.Encoding.{branch_row, imm_row, load_row, reg_row, regw_row, shift_row, shiftw_row, store_row, word}
 pub use Rattle.rv_isa.specs.Examples.{Examples}
 pub use Rattle.rv_isa.specs.Formats.{b_type, i_type, j_type, joined, low_bits, part, s_type, signed, u_type}
-pub use Rattle.rv_isa.specs.Labelled.{Calls, Fixed, Ground, InstrAt, Moves}
-unfoldable pub use Rattle.rv_isa.specs.Labelled.{Stand, Stands}
+pub use Rattle.rv_isa.specs.Labelled.{Calls, Fixed, Ground, InstrAt, Moves, AboveStays, BelowStays, OthersStay, RunsCompose, Stays, StepActs, StepKeeps, StepStays, StepsCome, StoredIsRead, WordsDecode, LaysOut, WordsStand, all_reach, fill, filled, Comes, Going, Run, Stopped, then_run}
+unfoldable pub use Rattle.rv_isa.specs.Labelled.{Stand, Stands, runs}
 pub use Rattle.rv_isa.specs.Labels.{IsLabelled, LabelledItems, has_label_below, is_label, longest, longest_size, times_labelled}
-pub use Rattle.rv_isa.specs.Laid.{LaysOut, WordsStand, all_reach, fill, filled}
-pub use Rattle.rv_isa.specs.Laws.{AboveStays, BelowStays, OthersStay, RunsCompose, Stays, StepActs, StepKeeps, StepStays, StepsCome, StoredIsRead, WordsDecode}
 pub use Rattle.rv_isa.specs.Memory.{allowed, can_execute, can_read, can_write, is_code}
 unfoldable pub use Rattle.rv_isa.specs.Memory.{bytes_at, each_of, number_at, stored}
 pub use Rattle.rv_isa.specs.Readings.{signed12_fits}
 pub use Rattle.rv_isa.specs.Relocations.{completed, filled_in, half_distance, jump_part, lower_part, named, of_global, reaches, relocated, upper_part}
-pub use Rattle.rv_isa.specs.Runs.{Comes, Going, Run, Stopped, then_run}
-unfoldable pub use Rattle.rv_isa.specs.Runs.{runs}
 pub use Rattle.rv_isa.specs.Start.{StartsWith, pointer_bytes, stack_bottom, stack_top, word_bytes}
 unfoldable pub use Rattle.rv_isa.specs.Start.{argument_bytes}
 pub use Rattle.rv_isa.specs.State.{IsState, State, a0, a1, a2, a7, put, register, updated, written}

@@ -8,7 +8,7 @@ use Rattle.rv_isa.specs.declared.permission.Permission.{Permission}
 use Rattle.rv_isa.proofs.MemoryLemmas.{each_from}
 use Rattle.elf_file.specs.declared.flags.Flags.{Flags}
 use Rattle.elf_file.specs.declared.flags.Flags.TheVariants.{Execute, Read, ReadExecute, ReadWrite}
-use Rattle.elf_file.specs.Loaded.{Executable, flags_in}
+use Rattle.elf_file.specs.Conditions.{Executable, flags_in}
 use Rattle.rv_machine.specs.Mapped.{is_mapped, read_and_write, permission_in, stack_permission, flags_or}
 use Rattle.obj_link.specs.Prelude.{are_arguments}
 

@@ -6,7 +6,7 @@ use Rattle.rv_isa.specs.declared.permission.Permission.{Permission}
 use Rattle.rv_isa.proofs.MemoryLemmas.{each_at, each_from}
 use Rattle.rv_machine.specs.declared.access.Access.{Access}
 use Rattle.rv_machine.specs.declared.access.Access.TheVariants.{Read, Write, Execute, Fixed}
-use Rattle.rv_machine.specs.Access.{permits}
+use Rattle.rv_machine.specs.Entries.{permits}
 use Rattle.rv_machine.specs.Mapped.{is_mapped}
 
 one_of : (a b c : Bool) → (a ≡ true) → (a || b || c) ≡ true

@@ -3,7 +3,7 @@ use Rattle.std.proofs.Common.{◌≡◌, ℕ, zero, suc, ◌+◌, ◌-◌, ◌<�
 use Rattle.std.proofs.Math.Seq.{take-suc}
 use Rattle.std.proofs.lemmas.Option.{none-some, same_Some}
 use Rattle.rv_isa.specs.Prelude.{stack_bottom, stack_top}
-use Rattle.elf_file.specs.Loaded.{Mapping, Executable, holds, byte_of}
+use Rattle.elf_file.specs.Conditions.{Mapping, Executable, holds, byte_of}
 use Rattle.rv_machine.specs.declared.regions.Region.{Region}
 use Rattle.rv_machine.specs.Mapped.{nothing_allowed, read_and_write, flags_or, stack_permission, permission_in, start_byte}
 use Rattle.rv_machine.specs.Regions.{has_address, permission_there, byte_there, region_permission, region_byte, AllFull, Shows, ShowsAll, IsStack}

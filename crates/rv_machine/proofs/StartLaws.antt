@@ -6,10 +6,10 @@ use Rattle.rv_isa.specs.Prelude.{updated, argument_bytes, pointer_bytes, word_by
 use Rattle.rv_isa.proofs.MemoryLemmas.{updated_here, updated_elsewhere}
 use Rattle.rv_isa.specs.declared.permission.Permission.{Permission}
 use Rattle.elf_file.specs.declared.flags.Flags.{Flags}
-use Rattle.elf_file.specs.Loaded.{Executable, Mapping, IsMapping, IsExecutable, holds, mapping_at, byte_in, byte_of}
+use Rattle.elf_file.specs.Conditions.{Executable, Mapping, IsMapping, IsExecutable, holds, mapping_at, byte_in, byte_of}
 use Rattle.rv_machine.specs.Mapped.{read_and_write, stack_permission, permission_in, start_byte, flags_or}
 use Rattle.obj_link.specs.Prelude.{are_arguments}
-use Rattle.rv_machine.specs.Start.{filled, start_state, AreBytes, AreTexts}
+use Rattle.rv_machine.specs.Steps.{filled, start_state, AreBytes, AreTexts}
 use Rattle.rv_machine.specs.Starts.{Starts}
 use Rattle.rv_machine.proofs.Arguments.{in_stack}
 

@@ -1,15 +1,9 @@
-pub mod Access
-pub mod Decoded
 pub mod Entries
-pub mod Machine
 pub mod Mapped
 pub mod Opcodes
 pub mod Pages
-pub mod Pieces
 pub mod Regions
 pub mod Registers
-pub mod Runs
-pub mod Start
 pub mod Starts
 pub mod Steps
 pub mod Width

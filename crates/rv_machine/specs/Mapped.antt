@@ -4,7 +4,7 @@ use Rattle.std.specs.Prelude.{◌≡◌, ℕ, ◌+◌, ◌<◌, ◌^◌, Bool, t
 use Rattle.rv_isa.specs.declared.permission.Permission.{Permission}
 use Rattle.rv_isa.specs.Prelude.{number_at, stored, allowed, stack_bottom, stack_top}
 use Rattle.elf_file.specs.declared.flags.Flags.{Flags}
-use Rattle.elf_file.specs.Loaded.{Executable, byte_in, flags_in}
+use Rattle.elf_file.specs.Conditions.{Executable, byte_in, flags_in}
 use Rattle.rv_machine.specs.Starts.{permission_of}
 
 -- there is memory at an address where anything is allowed

@@ -3,8 +3,7 @@ use Rattle.std.specs.Prelude.{◌≡◌, ℕ, List, Some}
 use Rattle.rv_isa.specs.declared.permission.Permission.{Permission}
 use Rattle.rv_isa.specs.Prelude.{State, StartsWith}
 use Rattle.elf_file.specs.declared.flags.Flags.{Flags}
-use Rattle.elf_file.specs.Flags.{is_readable, is_writable, is_executable}
-use Rattle.elf_file.specs.Loaded.{Executable, byte_in, flags_in}
+use Rattle.elf_file.specs.Conditions.{is_readable, is_writable, is_executable, Executable, byte_in, flags_in}
 
 -- what a program may do with the bytes of a segment that has these flags
 abbrev pub permission_of : Flags → Permission

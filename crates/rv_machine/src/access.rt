@@ -3,7 +3,7 @@
 ghost use Rattle.std.specs.Prelude.{◌≡◌, ℕ, ◌+◌, ◌++◌, ◌^◌, ◌<◌, ◌≤◌, true, OnOk, OnErr};
 ghost use Rattle.std.specs.Bool.{OnTrue};
 ghost use Rattle.rv_isa.specs.Prelude.{allowed, bytes_at, each_of, number_at, stored};
-ghost use Rattle.rv_machine.specs.Access.{permits};
+ghost use Rattle.rv_machine.specs.Entries.{permits};
 ghost use Rattle.rv_machine.specs.Mapped.{is_mapped};
 
 use crate::ram::Ram;

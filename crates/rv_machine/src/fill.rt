@@ -3,7 +3,7 @@
 ghost use Rattle.std.specs.Prelude.{◌≡◌, ℕ, ◌+◌, ◌≤◌, ◌^◌, true, length};
 ghost use Rattle.rv_isa.specs.Prelude.{each_of};
 ghost use Rattle.rv_machine.specs.Mapped.{is_mapped};
-ghost use Rattle.rv_machine.specs.Start.{filled};
+ghost use Rattle.rv_machine.specs.Steps.{filled};
 
 use crate::ram::Ram;
 

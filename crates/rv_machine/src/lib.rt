@@ -3,14 +3,14 @@
 //! [`machine::Machine`] holds a pc, the registers, a memory and what the program has put out, and runs the program of an executable file as
 //! the definitions of `rv_isa` say: `step` and `runs` of its `specs/`.
 //!
-//! - [`Machine::start`](machine::Machine::start) gives exactly `start_state` of `specs/Start.antt`: at the file's entry, with the argument words above the
+//! - [`Machine::start`](machine::Machine::start) gives exactly `start_state` of `specs/Steps.antt`: at the file's entry, with the argument words above the
 //!   stack pointer, zeros elsewhere, and nothing mapped but the file's segments, the stack and the words. It refuses exactly the words that pass
 //!   a limit, [`obj_link::arguments::are_arguments`]. That is one of the starts of `specs/Starts.antt`, which leave free what a program can't count on.
 //! - [`Machine::step`](machine::Machine::step) does exactly what `step` says: it comes to that state, or stops as that stop, [`stop::Stop`], and is
 //!   then as it was. Beyond that it may only stop for want of memory, where the instruction is a store and the memory
 //!   refuses, or calls `write` with descriptor 1 and some bytes, and only where what it stores or puts out may be written or read; then too nothing has
 //!   changed.
-//! - [`Machine::run`](machine::Machine::run) gives the output and the end of `runs` with that limit, `RunEnds` of `specs/Runs.antt`: `Stop::Limit` exactly
+//! - [`Machine::run`](machine::Machine::run) gives the output and the end of `runs` with that limit, `RunEnds` of `specs/Steps.antt`: `Stop::Limit` exactly
 //!   where the program has not stopped.
 //!
 //! What state a machine is in can be read: its pc, a register, the permission and the byte at an address, and the output.
@@ -19,7 +19,7 @@
 //! refuses; [`page_ram::PageRam`] makes a page of 4096 bytes when a byte of it is first stored to.
 //!
 //! For speed, code that can be executed and never written is decoded once, before it runs, to entries of one flat list of operations
-//! (`specs/Opcodes.antt`, `specs/Entries.antt`): such code stays as it is, whatever the program does (`specs/Decoded.antt`). A run goes from entry to entry
+//! (`specs/Opcodes.antt`, `specs/Entries.antt`): such code stays as it is, whatever the program does (`specs/Entries.antt`). A run goes from entry to entry
 //! by index, and memory answers whole numbers where it can. What an entry leaves, and every stop, is done by the one slow step, which works byte by byte
 //! where it has to.
 //!

@@ -5,7 +5,7 @@ use crate::ram::Ram;
 use crate::registers::Registers;
 use rv_isa::{Permission, Register};
 
-/// A machine over a memory of the kind `R`. What state it is in, `view` of `specs/Machine.antt` says.
+/// A machine over a memory of the kind `R`. What state it is in, `view` of `specs/Entries.antt` says.
 #[derive(Drop)]
 pub struct Machine<R: Ram> {
     pub(crate) pc: u64,
@@ -17,7 +17,7 @@ pub struct Machine<R: Ram> {
 impl<R: Ram> Machine<R> {
     ghost use Rattle.std.specs.Prelude.{◌≡◌};
     ghost use Rattle.rv_isa.specs.State.{register, put};
-    ghost use Rattle.rv_machine.specs.Machine.{view, mapped_byte};
+    ghost use Rattle.rv_machine.specs.Entries.{view, mapped_byte};
 
     /// The address of the next instruction.
     pub fn pc(&self) -> u64

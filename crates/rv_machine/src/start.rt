@@ -23,8 +23,8 @@ pub enum StartError {
 
 impl<R: Ram> Machine<R> {
     ghost use Rattle.std.specs.Prelude.{◌≡◌, ◌↔◌, false, Err, IfOk};
-    ghost use Rattle.rv_machine.specs.Machine.{view};
-    ghost use Rattle.rv_machine.specs.Start.{start_state};
+    ghost use Rattle.rv_machine.specs.Entries.{view};
+    ghost use Rattle.rv_machine.specs.Steps.{start_state};
     ghost use Rattle.obj_link.specs.Arguments.{are_arguments};
     ghost use Rattle.rv_machine.specs.Words.{texts};
 

@@ -65,7 +65,7 @@ impl<R: Ram> Machine<R> {
     ghost use Rattle.std.specs.Prelude.{◌≡◌, ◌%◌, ◌^◌, ◌<◌, ◌==◌, ◌≢◌, true, Ok, Err};
     ghost use Rattle.rv_isa.specs.State.{a0, a2, register};
     ghost use Rattle.rv_isa.specs.Step.{act, environment_call, load, step, store, write_call};
-    ghost use Rattle.rv_machine.specs.Machine.{view};
+    ghost use Rattle.rv_machine.specs.Entries.{view};
     ghost use Rattle.rv_machine.specs.Steps.{Gives, MayWant, StepMayWant};
 
     /// Runs the instruction at pc. Where it stops the machine, nothing has changed.

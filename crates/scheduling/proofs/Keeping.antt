@@ -19,8 +19,7 @@ use Rattle.vcode.specs.declared.code.Code.{Code}
 use Rattle.vcode.specs.declared.function.LFunc.{LFunc}
 use Rattle.vcode.specs.Prelude.{classes_in, coded, location_code, located, State, begin, value_of, read_all, read_result, goes_on, sets, changes, calls, resumes, line_step, compared, branches, returns, jump_step, block_step, step_in, step}
 use Rattle.vcode.proofs.Stepping.{step_line}
-use Rattle.scheduling.specs.Independent.{is_independent}
-use Rattle.scheduling.specs.Scheduled.{swapped, swaps_at, scheduled_block, scheduled_blocks, scheduled}
+use Rattle.scheduling.specs.Independent.{is_independent, swapped, swaps_at, scheduled_block, scheduled_blocks, scheduled}
 use Rattle.scheduling.proofs.Commuting.{Quiet, GoesOn, Fails, first_quiet, Commutes, Lost, Ends, Meets, independent_commute}
 use Rattle.scheduling.proofs.Swapping.{Exchanged, Swapped, Stays, Moves, swapped_is, item_at, elsewhere}
 

@@ -12,8 +12,7 @@ use Rattle.vcode.specs.declared.line.Jump.{Jump}
 use Rattle.vcode.specs.declared.code.Block.{Block}
 use Rattle.vcode.specs.declared.code.Code.{Code}
 use Rattle.vcode.specs.Prelude.{line_cost, affords, is_paid, line_keeps, jump_keeps, block_keeps, keeps_places, leads_inside, is_alloc, allocs_first, alloc_bytes, turns_of, passes_few, weight_of, code_weight, IsRegular}
-use Rattle.scheduling.specs.Independent.{is_independent}
-use Rattle.scheduling.specs.Scheduled.{swapped, reordered, swaps_at, scheduled_block, scheduled_blocks, scheduled}
+use Rattle.scheduling.specs.Independent.{is_independent, swapped, reordered, swaps_at, scheduled_block, scheduled_blocks, scheduled}
 
 -- ---- what pays
 

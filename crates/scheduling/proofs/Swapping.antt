@@ -3,8 +3,7 @@ use Rattle.std.proofs.Common.{◌≡◌, ℕ, zero, suc, ◌+◌, Bool, true, fa
 use Rattle.std.proofs.lemmas.Bool.Decides.{nat_tests}
 use Rattle.vcode.specs.declared.place.Location.{Location}
 use Rattle.vcode.specs.declared.line.Line.{Line}
-use Rattle.scheduling.specs.Independent.{is_independent}
-use Rattle.scheduling.specs.Scheduled.{are_independent, is_swap, swapped}
+use Rattle.scheduling.specs.Independent.{is_independent, are_independent, is_swap, swapped}
 
 -- ys is xs with the items l and m from n on in each other's place
 pub record Exchanged {X : Type 0} (n : ℕ) (xs ys : List X) (l m : X) : Type 0 where

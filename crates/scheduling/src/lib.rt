@@ -8,7 +8,7 @@
 //! other writes and the one is not to be seen from the other (`specs/Independent`): the order of loads and stores stays, and so does what stands behind a call; a
 //! line goes behind a tick, and never in front of one, so that ticks still pay for what comes behind them.
 //!
-//! The contract says which code is made (`specs/Scheduled`), that it keeps the code that was given, in the words of every pass, and that it weighs as much and has as
+//! The contract says which code is made (`specs/Independent`), that it keeps the code that was given, in the words of every pass, and that it weighs as much and has as
 //! many slots.
 //!
 //! The guess looks at eight lines at a time, so that it takes time as the text is long.

@@ -2,7 +2,7 @@
 ghost use Rattle.std.specs.Prelude.{◌≡◌, IfOk};
 ghost use Rattle.il_ast.specs.Prelude.{Keeps};
 ghost use Rattle.vcode.specs.Prelude.{location_code, code_weight};
-ghost use Rattle.scheduling.specs.Scheduled.{scheduled};
+ghost use Rattle.scheduling.specs.Independent.{scheduled};
 
 use crate::choice::choose;
 use crate::swaps::scheduled;

@@ -1,6 +1,6 @@
 //! Code whose lines change places.
 ghost use Rattle.std.specs.Prelude.{◌≡◌, ◌+◌, ◌<◌, true, ◌++◌, length, OnOk, IfOk};
-ghost use Rattle.scheduling.specs.Scheduled.{is_swap, swapped, reordered, swaps_at, scheduled_block, scheduled_blocks, scheduled};
+ghost use Rattle.scheduling.specs.Independent.{is_swap, swapped, reordered, swaps_at, scheduled_block, scheduled_blocks, scheduled};
 
 use crate::independent::is_independent;
 use il_ast::Seq;

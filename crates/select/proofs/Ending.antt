@@ -28,7 +28,7 @@ use Rattle.vcode.specs.declared.code.Block.{Block as VirtualBlock}
 use Rattle.vcode.specs.Prelude.{held, operate, Values, virtual, put, unknown, State, value_of, ticks, line_step, jump_step, enters, compared, branches, returns, bound, begin as begin_code, step as step_code, read_result}
 use Rattle.select.specs.Selected.{not_zero, operand_of, parameter_of, copy_lines, assignment_lines, ending_lines, jump_of, block_of, edge_of, all_lines, selected, result_of}
 use Rattle.select.specs.Typed.{Classes, Fits, CopiesFit, LeaveFits, EndingFits, ReturnFits, ParamsFit, IsTyped}
-use Rattle.select.specs.Keeping.{KeepsEndings}
+use Rattle.select.specs.Laws.{KeepsEndings}
 use Rattle.select.proofs.Going.{Setting, go, Left, Go, goes_line, goes_jump, left_further, gone, go_both}
 use Rattle.select.proofs.Registers.{Holds, stands, reads, read_same, put_holds}
 use Rattle.select.proofs.Yielding.{yielded_holds}

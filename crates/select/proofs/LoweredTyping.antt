@@ -35,7 +35,7 @@ use Rattle.phi_copies.specs.Lowered.{Edge, block_edges, all_edges, target, strai
 use Rattle.phi_copies.specs.Source.{value_or_zero, source}
 use Rattle.phi_copies.proofs.EdgePlaces.{AllLess, come_up}
 use Rattle.select.specs.Typed.{Classes, Fits, ArgsFit, HasResult, InstFits, CopiesFit, ReturnFits, EndingFits, ParamsFit, IsTyped}
-use Rattle.select.specs.Classes.{class_given, or_long, all_phis, classes_in}
+use Rattle.select.specs.Selected.{class_given, or_long, all_phis, classes_in}
 use Rattle.select.proofs.Typing.{among_at, class_is, OwnTemps, own_class, value_fits, operand_fits}
 use Rattle.il_ast.proofs.Listed.{get_before, get_behind}
 use Rattle.phi_copies.proofs.PhiRules.{not_broken, neither_second, none_among, find_among}

@@ -40,11 +40,9 @@ use Rattle.vcode.specs.declared.line.Line.TheVariants.{Tick}
 use Rattle.vcode.specs.declared.code.Block.{Block as VirtualBlock}
 use Rattle.vcode.specs.declared.code.Code.{Code}
 use Rattle.vcode.specs.Prelude.{operand_keeps, jump_keeps}
-use Rattle.select.specs.Selected.{are_whole, words_compared, not_zero, operand_of, inst_lines, turn_lines, all_lines, copy_lines, assignment_lines, ending_lines, jump_of, block_of, edge_of, blocks_of, parameter_of, selected}
+use Rattle.select.specs.Selected.{are_whole, words_compared, not_zero, operand_of, inst_lines, turn_lines, all_lines, copy_lines, assignment_lines, ending_lines, jump_of, block_of, edge_of, blocks_of, parameter_of, selected, classes_in}
 use Rattle.select.specs.Typed.{Classes}
-use Rattle.select.specs.Classes.{classes_in}
-use Rattle.select.specs.Tables.{listed}
-use Rattle.select.specs.Narrow.{narrow, narrow_val, narrow_dest, narrow_arg, narrow_parameter, narrow_inst, narrow_turns, narrow_copies, narrow_ending, narrow_leave, narrow_block, narrow_edge, narrow_blocks, narrow_code}
+use Rattle.select.specs.Narrow.{listed, narrow, narrow_val, narrow_dest, narrow_arg, narrow_parameter, narrow_inst, narrow_turns, narrow_copies, narrow_ending, narrow_leave, narrow_block, narrow_edge, narrow_blocks, narrow_code}
 use Rattle.select.proofs.LoweredTyping.{own_temps, param_among}
 use Rattle.select.proofs.TableOf.{same_classes}
 use Rattle.select.proofs.Known.{registers, Below, Within, within, AllCopies, EndingKeeps, end_ending_keeps, on_edge_keeps}

@@ -15,9 +15,7 @@ use Rattle.phi_copies.specs.Endings.{Endings}
 use Rattle.phi_copies.specs.Lowered.{IsLowered}
 use Rattle.vcode.specs.declared.place.Destination.{Destination}
 use Rattle.vcode.specs.Prelude.{are_low, are_distinct, virtual}
-use Rattle.select.specs.Selected.{parameter_of, selected}
-use Rattle.select.specs.Classes.{classes_in}
-use Rattle.select.specs.Invariants.{IsVirtual}
+use Rattle.select.specs.Selected.{parameter_of, selected, classes_in, IsVirtual}
 use Rattle.select.proofs.Regular.{few_params, regular}
 use Rattle.select.proofs.Known.{known}
 use Rattle.phi_copies.proofs.PhiRules.{not_broken, neither_first, none_among}

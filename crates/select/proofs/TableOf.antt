@@ -18,8 +18,8 @@ use Rattle.il_ast.specs.declared.function.Func.{Func}
 use Rattle.il_ast.specs.Prelude.{same_class, phi_count}
 use Rattle.il_types.specs.declared.site.Definer.{Definer}
 use Rattle.il_types.specs.Prelude.{is_given, param_definers, phi_definers, item_definers, inst_definers, block_definers, definers_of}
-use Rattle.select.specs.Classes.{class_given, or_long, all_phis, classes_in}
-use Rattle.select.specs.Tables.{listed, param_destination, phi_destination, item_destinations, inst_destinations, block_destinations, destinations_in, has_word, word_or_long, phi_classes}
+use Rattle.select.specs.Selected.{class_given, or_long, all_phis, classes_in}
+use Rattle.select.specs.Narrow.{listed, param_destination, phi_destination, item_destinations, inst_destinations, block_destinations, destinations_in, has_word, word_or_long, phi_classes}
 
 -- ---- words that are assigned
 

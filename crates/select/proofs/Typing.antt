@@ -13,7 +13,7 @@ use Rattle.il_types.specs.declared.site.Definer.{Definer}
 use Rattle.il_types.specs.declared.site.Operand.{Operand}
 use Rattle.il_types.specs.Prelude.{when, first, is_given, definers_of, operands_of, two_types, misplaced, undefined_temp, fits, is_defined, has_wrong_result, in_insts, in_returns}
 use Rattle.select.specs.Typed.{Fits}
-use Rattle.select.specs.Classes.{class_given, or_long, all_phis, classes_in}
+use Rattle.select.specs.Selected.{class_given, or_long, all_phis, classes_in}
 use Rattle.il_ast.proofs.Truth.{and_first}
 use Rattle.il_ast.proofs.Alike.{class_itself}
 use Rattle.phi_copies.proofs.PhiRules.{not_broken, neither_first, none_among, any_among}

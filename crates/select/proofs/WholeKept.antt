@@ -10,9 +10,8 @@ use Rattle.phi_copies.specs.Good.{IsGoodFunction}
 use Rattle.phi_copies.specs.Lowered.{IsLowered}
 use Rattle.phi_copies.proofs.Lowering.{lowered_keeps}
 use Rattle.vcode.specs.Prelude.{classes_in, coded, virtual, begin, step}
-use Rattle.select.specs.Selected.{parameter_of, selected}
+use Rattle.select.specs.Selected.{parameter_of, selected, classes_in as temp_classes}
 use Rattle.select.specs.Typed.{Classes}
-use Rattle.select.specs.Classes.{classes_in as temp_classes}
 use Rattle.select.proofs.Ending.{selected_keeps}
 use Rattle.select.proofs.LoweredTyping.{lowered_is_typed}
 

@@ -1,16 +1,24 @@
 -- What is proved of selected code.
-use Rattle.std.specs.Prelude.{◌+◌, ◌≤◌, length}
+use Rattle.std.specs.Prelude.{ℕ, List, ◌+◌, ◌≤◌, length}
 use Rattle.il_ast.specs.declared.function.Func.{Func}
-use Rattle.il_ast.specs.Prelude.{phi_count, need, weight, IsCodeOf}
-use Rattle.phi_copies.specs.Endings.{Endings}
+use Rattle.il_ast.specs.declared.value.Value.{Value}
+use Rattle.il_ast.specs.Prelude.{KeepsCode, classes_of, phi_count, need, weight, IsCodeOf}
+use Rattle.phi_copies.specs.Endings.{Endings, begin, step}
+use Rattle.vcode.specs.declared.code.Code.{Code}
+use Rattle.vcode.specs.Prelude.{virtual, begin as begin_code, step as step_code, coded, frame_bound, code_weight}
 use Rattle.phi_copies.specs.Good.{IsGoodFunction}
 use Rattle.phi_copies.specs.Lowered.{IsLowered}
-use Rattle.vcode.specs.Prelude.{coded, frame_bound, virtual, code_weight}
-use Rattle.select.specs.Selected.{selected}
+use Rattle.select.specs.Selected.{selected, classes_in, IsVirtual}
 use Rattle.select.specs.Typed.{Classes, IsTyped}
-use Rattle.select.specs.Classes.{classes_in}
-use Rattle.select.specs.Invariants.{IsVirtual}
-use Rattle.select.specs.Keeping.{KeepsEndings}
+
+-- ---- what virtual code owes to the function without phis that it was made of
+
+-- with these values of the text's global names
+abbrev pub KeepsEndings : Func → Endings → Code ℕ → Type 0
+KeepsEndings f code v =
+    (globals : List Value)
+    → KeepsCode (classes_of f.params) (begin f) (step globals f code) (begin_code virtual v)
+    (step_code virtual globals v)
 
 abbrev pub SelectionKeeps : Type 0
 SelectionKeeps =

@@ -1,7 +1,7 @@
 -- Virtual code with registers and weights of 32 bits: whatever is longer loses its high bits.
 -- Nothing is in a function of a good text, whose virtual code is then `selected`. No public promise
 -- names what stands here.
-use Rattle.std.specs.Prelude.{ℕ, ◌%◌, ◌^◌, true, List, [], ◌∷◌, ◌++◌, map, option_map}
+use Rattle.std.specs.Prelude.{ℕ, ◌%◌, ◌^◌, true, List, [], ◌∷◌, ◌++◌, map, option_map, Bool, nat_eq, ◌&&◌, if◌then◌else◌, slice_index_or, Some}
 use Rattle.il_ast.specs.declared.operand.Val.{Val}
 use Rattle.il_ast.specs.declared.operand.Val.TheVariants.{Int, Temp, Global}
 use Rattle.il_ast.specs.declared.operand.Dest.{Dest}
@@ -12,7 +12,7 @@ use Rattle.il_ast.specs.declared.instruction.Lined.{Lined}
 use Rattle.il_ast.specs.declared.block.Block.{Block}
 use Rattle.il_ast.specs.declared.function.Param.{Param}
 use Rattle.il_ast.specs.declared.function.Func.{Func}
-use Rattle.il_ast.specs.Prelude.{inst_weight}
+use Rattle.il_ast.specs.Prelude.{inst_weight, same_class}
 use Rattle.phi_copies.specs.declared.ending.Assignment.{Assignment}
 use Rattle.phi_copies.specs.declared.ending.Leave.{Leave}
 use Rattle.phi_copies.specs.declared.ending.Leave.TheVariants.{Goto, Branch, Return, Halt}
@@ -25,6 +25,10 @@ use Rattle.vcode.specs.declared.code.Block.{Block as VirtualBlock}
 use Rattle.vcode.specs.declared.code.Code.{Code}
 use Rattle.select.specs.Typed.{Classes}
 use Rattle.select.specs.Selected.{operand_of, copy_lines, inst_lines, jump_of}
+use Rattle.std.specs.List.{flat_map, list_any}
+use Rattle.il_ast.specs.declared.operation.Class.{Class}
+use Rattle.il_ast.specs.declared.operation.Class.TheVariants.{W, L}
+use Rattle.il_ast.specs.declared.block.Phi.{Phi}
 
 abbrev pub narrow : ℕ → ℕ
 narrow n = n % 2 ^ 32
@@ -107,3 +111,46 @@ narrow_code classes f code =
       blocks = narrow_blocks classes f.blocks code.endings
           ++ map (narrow_edge classes) code.edges;
     }
+
+-- ---- classes of temporaries in a table, and what it is made from. No public promise names what stands
+-- here.
+
+-- what a table says of a temporary; one past its end is long
+abbrev pub listed : List Class → Classes
+listed table t = slice_index_or table t L
+
+-- ---- what is assigned, in the order of the text
+
+abbrev pub param_destination : Param → Dest
+param_destination p = record { temp = p.temp; class = p.class }
+
+abbrev pub phi_destination : Phi → Dest
+phi_destination p = p.to
+
+abbrev pub item_destinations : Inst → List Dest
+item_destinations (Unary to op a) = to ∷ []
+item_destinations (Binary to op a b) = to ∷ []
+item_destinations (Alloc to alignment size) = to ∷ []
+item_destinations (Call (Some to) callee args) = to ∷ []
+item_destinations i = []
+
+abbrev pub inst_destinations : Lined Inst → List Dest
+inst_destinations i = item_destinations i.item
+
+abbrev pub block_destinations : Block → List Dest
+block_destinations b = map phi_destination b.phis ++ flat_map inst_destinations b.insts
+
+abbrev pub destinations_in : Func → List Dest
+destinations_in f = map param_destination f.params ++ flat_map block_destinations f.blocks
+
+-- ---- classes
+
+-- the temporary is assigned among these as a word
+abbrev pub has_word : ℕ → List Dest → Bool
+has_word t assigned = list_any (λ (d : Dest). nat_eq d.temp t && same_class d.class W) assigned
+
+abbrev pub word_or_long : Bool → Class
+word_or_long word = if word then W else L
+
+abbrev pub phi_classes : Block → List Class
+phi_classes b = map (λ (p : Phi). p.to.class) b.phis

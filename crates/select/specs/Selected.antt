@@ -2,7 +2,7 @@
 -- becomes the virtual register of its number. A word stands sign-extended there, and what reads a
 -- word takes the low 32 bits, so that a long needs no conversion in a word's place, and a word none
 -- in a word's.
-use Rattle.std.specs.Prelude.{ℕ, ◌%◌, ◌^◌, Bool, true, false, ◌&&◌, List, [], ◌∷◌, ◌++◌, map, Some, option_map}
+use Rattle.std.specs.Prelude.{ℕ, ◌%◌, ◌^◌, Bool, true, false, ◌&&◌, List, [], ◌∷◌, ◌++◌, map, Some, option_map, ◌-◌, nat_lt, if◌then◌else◌, length, slice_get, Option, None, flat_map, IsTrue}
 use Rattle.bits.specs.Words.{sign_extended}
 use Rattle.il_ast.specs.declared.operation.Class.{Class}
 use Rattle.il_ast.specs.declared.operation.Class.TheVariants.{W, L}
@@ -44,7 +44,7 @@ use Rattle.vcode.specs.declared.place.Extension.TheVariants.{Made}
 use Rattle.vcode.specs.declared.line.Operation.{Operation}
 use Rattle.vcode.specs.declared.line.Operation.TheVariants.{Reg, RegW, Compare as CompareValues}
 use Rattle.vcode.specs.declared.line.Line.{Line}
-use Rattle.vcode.specs.Prelude.{at_once}
+use Rattle.vcode.specs.Prelude.{at_once, keeps_places, is_below, are_low, are_distinct, virtual, IsRegular}
 use Rattle.vcode.specs.declared.line.Line.TheVariants.{Tick, Set, Operate, Load, Store, Alloc, Blit, Call}
 use Rattle.vcode.specs.declared.line.Comparison.{Comparison}
 use Rattle.vcode.specs.declared.line.Jump.{Jump}
@@ -52,6 +52,8 @@ use Rattle.vcode.specs.declared.line.Jump.TheVariants.{Goto as GotoBlock, Branch
 use Rattle.vcode.specs.declared.code.Block.{Block as VirtualBlock}
 use Rattle.vcode.specs.declared.code.Code.{Code}
 use Rattle.select.specs.Typed.{Classes}
+use Rattle.il_ast.specs.declared.block.Phi.{Phi}
+use Rattle.il_types.specs.Prelude.{definers_of, is_given}
 
 -- ---- operands
 
@@ -264,3 +266,29 @@ selected classes f code =
       params = map parameter_of f.params;
       blocks = blocks_of classes f.blocks code.endings ++ map (edge_of classes) code.edges;
     }
+
+-- ---- the class of each temporary of a function without phis: a word where a parameter, a phi or an
+-- instruction assigns it as one, or where it is the own temporary of a phi whose result is a word;
+-- else a long.
+abbrev pub class_given : Func → ℕ → Class
+class_given f t = if is_given W t (definers_of f) then W else L
+
+abbrev pub or_long : Option Phi → Class
+or_long None = L
+or_long (Some p) = p.to.class
+
+-- all phis, in order
+abbrev pub all_phis : List Block → List Phi
+all_phis blocks = flat_map (λ (b : Block). b.phis) blocks
+
+abbrev pub classes_in : Func → Classes
+classes_in f t =
+    if nat_lt t (length f.temps) then class_given f t
+    else or_long (slice_get (all_phis f.blocks) (t - length f.temps))
+
+-- ---- what virtual code keeps as the code of a `VFunc`, with so many registers
+pub record IsVirtual (v : Code ℕ) (registers : ℕ) : Type 0 where
+  pub regular : IsRegular v
+  pub known : IsTrue (keeps_places (is_below registers) v)
+  pub low : IsTrue (are_low v.params)
+  pub distinct : IsTrue (are_distinct virtual v.params)

@@ -3,8 +3,8 @@ ghost use Rattle.std.specs.Prelude.{◌≡◌, ◌<◌, ◌+◌, ◌++◌, ◌&&
 ghost use Rattle.il_ast.specs.declared.block.Phi.{Phi as PhiOf};
 ghost use Rattle.il_ast.specs.declared.operation.Class.TheVariants.{W};
 ghost use Rattle.il_ast.specs.Prelude.{phi_count, same_class};
-ghost use Rattle.select.specs.Classes.{classes_in};
-ghost use Rattle.select.specs.Tables.{listed, destinations_in, param_destination, phi_destination, item_destinations, inst_destinations, block_destinations, has_word, word_or_long, phi_classes};
+ghost use Rattle.select.specs.Selected.{classes_in};
+ghost use Rattle.select.specs.Narrow.{listed, destinations_in, param_destination, phi_destination, item_destinations, inst_destinations, block_destinations, has_word, word_or_long, phi_classes};
 
 use il_ast::{Block, Class, Dest, Func, Inst, Lined, Param, Phi, Seq};
 use std::alloc::{AllocError, Global};

@@ -1,7 +1,7 @@
 //! Comparisons of operands.
 ghost use Rattle.std.specs.Prelude.{◌≡◌};
 ghost use Rattle.select.specs.Selected.{comparison_of, not_zero};
-ghost use Rattle.select.specs.Tables.{listed};
+ghost use Rattle.select.specs.Narrow.{listed};
 
 use crate::operand::{is_whole, word};
 use il_ast::{Class, Condition};

@@ -1,10 +1,9 @@
 //! Lines of instructions.
 ghost use Rattle.std.specs.Prelude.{◌≡◌, ◌++◌, [], ◌∷◌, map, OnOk, option_map};
 ghost use Rattle.il_ast.specs.Prelude.{inst_weight};
-ghost use Rattle.select.specs.Tables.{listed};
+ghost use Rattle.select.specs.Narrow.{listed, narrow, narrow_inst, narrow_turn, narrow_turns, narrow_val, narrow_dest, narrow_arg};
 ghost use Rattle.vcode.specs.declared.line.Line.TheVariants.{Call};
 ghost use Rattle.select.specs.Selected.{inst_lines, operand_of, destination_of, argument_of};
-ghost use Rattle.select.specs.Narrow.{narrow, narrow_inst, narrow_turn, narrow_turns, narrow_val, narrow_dest, narrow_arg};
 
 use crate::operand::{arguments, low_bits, operand, register, wanted};
 use crate::operation::{push_binary, push_unary};

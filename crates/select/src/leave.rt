@@ -1,8 +1,7 @@
 //! Lines of the endings of blocks, and jumps.
 ghost use Rattle.std.specs.Prelude.{◌≡◌, ◌++◌, OnOk};
-ghost use Rattle.select.specs.Tables.{listed};
+ghost use Rattle.select.specs.Narrow.{listed, narrow_copies, narrow_ending, narrow_leave};
 ghost use Rattle.select.specs.Selected.{jump_of};
-ghost use Rattle.select.specs.Narrow.{narrow_copies, narrow_ending, narrow_leave};
 
 use crate::comparison::not_zero;
 use crate::operand::{low_bits, operand, register};

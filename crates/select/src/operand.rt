@@ -1,8 +1,7 @@
 //! Operands, and numbers of 32 bits. In a function of a good text no number is longer.
 ghost use Rattle.std.specs.Prelude.{◌≡◌, ◌++◌, map, IfOk, OnOk, option_map};
-ghost use Rattle.select.specs.Tables.{listed};
+ghost use Rattle.select.specs.Narrow.{listed, narrow, narrow_val, narrow_dest, narrow_arg, narrow_parameter};
 ghost use Rattle.select.specs.Selected.{is_whole, word, operand_of, destination_of, argument_of};
-ghost use Rattle.select.specs.Narrow.{narrow, narrow_val, narrow_dest, narrow_arg, narrow_parameter};
 
 use bits::sext32;
 use il_ast::{Arg, Class, Dest, Param, Seq, Temp, Val};

@@ -6,7 +6,7 @@ ghost use Rattle.vcode.specs.declared.line.Operation.TheVariants.{Reg};
 ghost use Rattle.vcode.specs.declared.line.Line.TheVariants.{Operate};
 ghost use Rattle.vcode.specs.declared.place.Operand.TheVariants.{Number};
 ghost use Rattle.select.specs.Selected.{as_word, word_of, shifted, extend_lines, load_of, copy_lines, negate_lines, unary_lines, operation_of, bit_lines, compare_line, binary_lines};
-ghost use Rattle.select.specs.Tables.{listed};
+ghost use Rattle.select.specs.Narrow.{listed};
 
 use crate::comparison::comparison;
 use crate::operand::{is_whole, word};

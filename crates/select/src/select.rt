@@ -2,10 +2,8 @@
 ghost use Rattle.std.specs.Prelude.{◌≡◌, ◌≤◌, ◌+◌, ◌++◌, length, map, IfOk, OnOk};
 ghost use Rattle.il_ast.specs.declared.limits.TheConstants.{FUNCTION_WEIGHT, TEMPORARIES};
 ghost use Rattle.il_ast.specs.Prelude.{phi_count, need, weight, IsCodeOf};
-ghost use Rattle.select.specs.Classes.{classes_in};
-ghost use Rattle.select.specs.Tables.{listed};
-ghost use Rattle.select.specs.Selected.{selected};
-ghost use Rattle.select.specs.Narrow.{narrow_block, narrow_edge, narrow_blocks, narrow_code};
+ghost use Rattle.select.specs.Selected.{classes_in, selected};
+ghost use Rattle.select.specs.Narrow.{listed, narrow_block, narrow_edge, narrow_blocks, narrow_code};
 ghost use Rattle.vcode.specs.Prelude.{virtual_code, frame_bound, code_weight};
 
 use crate::classes::classes;

@@ -1,8 +1,7 @@
 -- The lines of a disassembly.
 use Rattle.std.specs.Prelude.{ℕ, ◌+◌, ◌*◌, ◌/◌, ◌%◌, ◌++◌, List, [], ◌∷◌, codes, false, Option, Some, None, if◌then◌else◌}
 use Rattle.std.specs.Fmt.{digit_glyph}
-use Rattle.elf_file.specs.Loaded.{Mapping}
-use Rattle.elf_file.specs.Flags.{is_executable}
+use Rattle.elf_file.specs.Conditions.{Mapping, is_executable}
 use Rattle.rv_isa.specs.declared.instruction.Instr.{Instr}
 use Rattle.rv_isa.specs.Prelude.{instruction_of, text_of}
 

@@ -31,8 +31,7 @@ use Rattle.il_ast.specs.declared.value.End.TheVariants.{Exit, Halt, Undefined, S
 use Rattle.il_ast.specs.Prelude.{same_class, bytes_of, byte_count, Memory, cells_at, plain_bytes, parts, need, Activation, Call, Effect, Goes, Returns, Ends, effect, Spent, nothing, one_turn, one_call, Outcome, Returned, Ended, after, Callees, Rest, receive, resume, perform, run, with_args, begun, body, target_value, values_of, globals_of, address_cells, item_cells, field_cells, object_cells, word_cells, pointers_from, start_memory, same_classes, result_fits, call_fits, answered, put_out, write_bytes, write_integer, write_call, exit_call, call_function, call_named, callees, main_args, params_of, main_call, end_of, behaviour_of, outcome, meaning}
 use Rattle.il_ast.specs.Effect.{Calls}
 use Rattle.stack_bound.specs.declared.bounds.Bounds.{Bounds}
-use Rattle.stack_bound.specs.Bounds.{bound_of, at_most, arity, names_in, left_of, blocks_fit, function_fits, functions_fit, item_fits, field_fits, object_fits, are_bounds}
-use Rattle.stack_bound.specs.Laws.{BoundsAreEnough, EnoughStays}
+use Rattle.stack_bound.specs.Bounds.{bound_of, at_most, arity, names_in, left_of, blocks_fit, function_fits, functions_fit, item_fits, field_fits, object_fits, are_bounds, BoundsAreEnough, EnoughStays}
 use Rattle.stack_bound.proofs.Every.{Every, IfThere, every_append, every_set, every_replicate, every_map}
 use Rattle.stack_bound.proofs.Good.{GoodValue, Good, GoodCell, GoodCells, GoodMemory, GoodTemps, good_plain, good_parts}
 use Rattle.stack_bound.proofs.GoodTurns.{Within, GoodCall, call_more, NotStack, GoodEffect, good_name, BlocksFit, good_effect}

@@ -4,8 +4,7 @@ use Rattle.il_ast.specs.declared.limits.TheConstants.{STACK_ROOM}
 use Rattle.il_ast.specs.declared.program.Program.{Program}
 use Rattle.il_ast.specs.declared.value.Callee.TheVariants.{Defined}
 use Rattle.stack_bound.specs.declared.bounds.Bounds.{Bounds}
-use Rattle.stack_bound.specs.Bounds.{AreBounds, bound_of}
-use Rattle.stack_bound.specs.Laws.{IsEnough, StaysInStack}
+use Rattle.stack_bound.specs.Bounds.{AreBounds, bound_of, IsEnough, StaysInStack}
 use Rattle.stack_bound.proofs.GoodRuns.{bounds_are_enough, enough_stays}
 
 pub main_enough : (p : Program) (b : Bounds) (r : Option ℕ) → AreBounds p b → r ≡ bound_of b (Defined p.main) → IfSome r (IsEnough p)

@@ -2,7 +2,7 @@
 -- least what the function needs and the greatest bound of what it calls, checked call by call
 -- (Carbonneaux, Hoffmann, Ramananandro and Shao, "End-to-End Verification of Stack-Space Bounds for
 -- C Programs", PLDI 2014).
-use Rattle.std.specs.Prelude.{◌≡◌, ℕ, ◌+◌, ◌-◌, Bool, true, false, nat_le, ◌&&◌, if◌then◌else◌, List, [], ◌∷◌, length, slice_get, Option, Some, None, unwrap_or}
+use Rattle.std.specs.Prelude.{◌≡◌, ℕ, ◌+◌, ◌-◌, Bool, true, false, nat_le, ◌&&◌, if◌then◌else◌, List, [], ◌∷◌, length, slice_get, Option, Some, None, unwrap_or, ◌≢◌, ◌≤◌, suc}
 use Rattle.std.specs.List.{list_all}
 use Rattle.std.specs.Option.{option_flatten}
 use Rattle.il_ast.specs.declared.operand.Val.{Val}
@@ -28,8 +28,10 @@ use Rattle.il_ast.specs.declared.program.Target.TheVariants.{Code, Object}
 use Rattle.il_ast.specs.declared.program.Program.{Program}
 use Rattle.il_ast.specs.declared.value.Callee.{Callee}
 use Rattle.il_ast.specs.declared.value.Callee.TheVariants.{Defined, SystemWrite, SystemExit}
-use Rattle.il_ast.specs.Prelude.{need, params_of}
+use Rattle.il_ast.specs.Prelude.{need, params_of, start_memory, Behaviour, behaviour_of, callees, main_call, meaning}
 use Rattle.stack_bound.specs.declared.bounds.Bounds.{Bounds}
+use Rattle.il_ast.specs.declared.limits.TheConstants.{STACK_ROOM}
+use Rattle.il_ast.specs.declared.value.End.TheVariants.{Stack}
 
 -- ---- bounds of calls
 
@@ -161,3 +163,30 @@ are_bounds p b = functions_fit p b 0 p.functions && list_all (object_fits p b) p
 -- makes; and no function that may become a value has a greater one than calls by pointer
 abbrev pub AreBounds : Program → Bounds → Type 0
 AreBounds p b = are_bounds p b ≡ true
+
+-- ---- what bounds are good for: with so much room, no call finds too little
+
+-- the meaning of a program whose `main` is called with so much room
+abbrev pub meaning_in : Program → (room : ℕ) → (words : List (List ℕ)) → (turns : ℕ) → Behaviour
+meaning_in p room words n =
+    behaviour_of (callees p (suc n) (main_call p words) n room (start_memory p words))
+
+-- with n bytes of stack or more no run ends for want of it, whatever the argument words and turns
+abbrev pub IsEnough : Program → ℕ → Type 0
+IsEnough p n =
+    (room : ℕ) (words : List (List ℕ)) (turns : ℕ) → n ≤ room →
+    (meaning_in p room words turns).ending ≢ Stack
+
+-- no run of the program ends for want of stack
+abbrev pub StaysInStack : Program → Type 0
+StaysInStack p = (words : List (List ℕ)) (turns : ℕ) → (meaning p words turns).ending ≢ Stack
+
+-- the bound of `main` is enough
+abbrev pub BoundsAreEnough : Type 0
+BoundsAreEnough =
+    (p : Program) (b : Bounds) (n : ℕ) → AreBounds p b → bound_of b (Defined p.main) ≡ Some n →
+    IsEnough p n
+
+-- where that is at most the room that `main` is called with, the program stays in the stack
+abbrev pub EnoughStays : Type 0
+EnoughStays = (p : Program) (n : ℕ) → IsEnough p n → n ≤ STACK_ROOM → StaysInStack p

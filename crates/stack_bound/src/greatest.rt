@@ -4,8 +4,7 @@ ghost use Rattle.il_ast.specs.declared.limits.TheConstants.{STACK_ROOM};
 ghost use Rattle.il_ast.specs.declared.program.Program.{Program};
 ghost use Rattle.il_ast.specs.declared.value.Callee.TheVariants.{Defined};
 ghost use Rattle.obj_link.specs.Prelude.{program};
-ghost use Rattle.stack_bound.specs.Bounds.{AreBounds, bound_of};
-ghost use Rattle.stack_bound.specs.Laws.{IsEnough, StaysInStack};
+ghost use Rattle.stack_bound.specs.Bounds.{AreBounds, bound_of, IsEnough, StaysInStack};
 
 use crate::bounds::{Bounds, bound_of};
 use crate::check::are_bounds;

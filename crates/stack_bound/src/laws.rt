@@ -1,5 +1,5 @@
 //! What bounds are good for, each as the contract of a function that does nothing.
-ghost use Rattle.stack_bound.specs.Laws.{BoundsAreEnough, EnoughStays};
+ghost use Rattle.stack_bound.specs.Bounds.{BoundsAreEnough, EnoughStays};
 
 /// Where bounds are right, and `main` has one, that much stack is enough for every run.
 pub fn bounds_are_enough()

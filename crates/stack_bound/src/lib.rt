@@ -12,7 +12,7 @@
 //! | Definitions | Subject |
 //! |---|---|
 //! | `specs/Bounds` | when bounds are right |
-//! | `specs/Laws` | what they are good for |
+//! | `specs/Bounds` | what they are good for |
 #![tactic(auto)]
 
 mod blocks;

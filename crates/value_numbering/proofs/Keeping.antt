@@ -23,11 +23,9 @@ use Rattle.value_numbering.specs.Known.{computed, source}
 use Rattle.value_numbering.specs.Steps.{after}
 use Rattle.il_ast.specs.declared.operation.Size.{Size}
 use Rattle.vcode.specs.declared.place.Address.{Address}
-use Rattle.value_numbering.specs.Narrow.{IsNarrow}
+use Rattle.value_numbering.specs.Reused.{IsNarrow, IsRegrouped, Made, Itself, Copy, Narrow, FirstRegrouped, SecondRegrouped, Halfway, Reloaded, Again, claims_at, AreReused, IsReused, AllReused}
 use Rattle.value_numbering.specs.Extensions.{is_base}
-use Rattle.value_numbering.specs.Regrouped.{IsRegrouped}
 use Rattle.rv_isa.specs.declared.instruction.LoadOp.{LoadOp}
-use Rattle.value_numbering.specs.Reused.{Made, Itself, Copy, Narrow, FirstRegrouped, SecondRegrouped, Halfway, Reloaded, Again, claims_at, AreReused, IsReused, AllReused}
 use Rattle.value_numbering.proofs.Running.{runs}
 
 -- ---- what lines take

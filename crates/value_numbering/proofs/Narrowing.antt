@@ -22,7 +22,7 @@ use Rattle.vcode.specs.Prelude.{operate, Values, operated, address_of, Gives, le
 use Rattle.value_numbering.specs.declared.fact.Expression.{Expression}
 use Rattle.value_numbering.specs.declared.fact.Expression.TheVariants.{Same, Operated, Extended, Loaded, Linear, Growing}
 use Rattle.value_numbering.specs.Known.{gives, is_back, first_of}
-use Rattle.value_numbering.specs.Narrow.{extended_from, masked_from, low_of}
+use Rattle.value_numbering.specs.Reused.{extended_from, masked_from, low_of}
 use Rattle.value_numbering.proofs.Extending.{gives_one}
 
 -- ---- numbers

@@ -11,7 +11,7 @@ use Rattle.rv_isa.specs.declared.instruction.RegWOp.TheVariants.{Addw}
 use Rattle.vcode.specs.declared.line.Operation.{Operation}
 use Rattle.vcode.specs.declared.line.Operation.TheVariants.{Reg, RegW}
 use Rattle.vcode.specs.Prelude.{operate, operated}
-use Rattle.value_numbering.specs.Regrouped.{is_sum}
+use Rattle.value_numbering.specs.Reused.{is_sum}
 
 abbrev modulus : ℕ
 modulus = 2 ^ 64

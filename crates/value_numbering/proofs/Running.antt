@@ -47,12 +47,9 @@ use Rattle.value_numbering.proofs.Counting.{number, nothing_more, whole_grows, i
 use Rattle.value_numbering.proofs.Narrowing.{narrow_same}
 use Rattle.value_numbering.specs.Extensions.{other_way}
 use Rattle.value_numbering.proofs.Extending.{itself_same, reloaded_same, gives_one}
-use Rattle.value_numbering.specs.Narrow.{IsNarrow}
-use Rattle.value_numbering.specs.Regrouped.{is_sum, Adds, IsSum, InOrder, Turned, IsRegrouped}
+use Rattle.value_numbering.specs.Reused.{IsNarrow, is_sum, Adds, IsSum, InOrder, Turned, IsRegrouped, Holds, Found, Already, Counted, Made, Itself, Copy, Narrow, FirstRegrouped, SecondRegrouped, Halfway, Reloaded, Again, claims_at, order_of, before, next, is_least, is_most, at_least, at_most, order_met, order_missed, IsKnown, Listed, OfCopies, Bounded, Above, holds_word, is_limit, limits, bounds, exceeds, AllKnown, LeadsWell, AreReused, AllReused, IsHalfway}
 use Rattle.value_numbering.proofs.Regrouping.{turned as sum_turned, regrouped}
-use Rattle.value_numbering.specs.Shifts.{IsHalfway}
 use Rattle.value_numbering.proofs.Shifting.{less_back}
-use Rattle.value_numbering.specs.Reused.{Holds, Found, Already, Counted, Made, Itself, Copy, Narrow, FirstRegrouped, SecondRegrouped, Halfway, Reloaded, Again, claims_at, order_of, before, next, is_least, is_most, at_least, at_most, order_met, order_missed, IsKnown, Listed, OfCopies, Bounded, Above, holds_word, is_limit, limits, bounds, exceeds, AllKnown, LeadsWell, AreReused, AllReused}
 use Rattle.il_ast.proofs.Truth.{equal_turned}
 
 -- ---- all facts are true

@@ -1,22 +1,25 @@
 -- Code in which lines that compute what a register holds are copies of it.
-use Rattle.std.specs.Prelude.{◌≡◌, ℕ, ◌+◌, ◌-◌, ◌%◌, ◌^◌, ◌<◌, Bool, true, false, ◌&&◌, ◌||◌, nat_eq, if◌then◌else◌, List, [], ◌∷◌, slice_get, Option, Some, None}
-use Rattle.std.specs.Option.{option_map_or}
+use Rattle.std.specs.Prelude.{◌≡◌, ℕ, ◌-◌, ◌<◌, List, ◌&&◌, nat_eq, if◌then◌else◌, Option, Some, None, slice_get, Bool, true, false, ◌+◌, ◌%◌, ◌^◌, ◌||◌, [], ◌∷◌}
 use Rattle.vcode.specs.declared.place.Operand.{Operand}
-use Rattle.vcode.specs.declared.place.Operand.TheVariants.{At, Number, Name}
+use Rattle.vcode.specs.declared.place.Operand.TheVariants.{Number, At, Name}
+use Rattle.vcode.specs.declared.line.Operation.TheVariants.{Reg, RegW}
+use Rattle.rv_isa.specs.declared.instruction.RegOp.TheVariants.{Sll, Srl, And, Add}
+use Rattle.value_numbering.specs.declared.fact.Expression.TheVariants.{Operated, Extended, Growing}
+use Rattle.value_numbering.specs.declared.fact.Fact.{Fact}
+use Rattle.value_numbering.specs.Known.{IsIn, is_back, first_of, copied, computed, names, source, canonical}
+use Rattle.il_ast.specs.declared.operation.Size.{Size}
+use Rattle.il_ast.specs.declared.operation.Size.TheVariants.{Byte, Half, Word, Long}
+use Rattle.value_numbering.specs.declared.fact.Expression.{Expression}
+use Rattle.vcode.specs.declared.line.Operation.{Operation}
+use Rattle.vcode.specs.Prelude.{operand_keeps, is_below, is_paid}
+use Rattle.rv_isa.specs.declared.instruction.RegWOp.TheVariants.{Addw}
+use Rattle.std.specs.Option.{option_map_or}
 use Rattle.vcode.specs.declared.line.Line.{Line}
 use Rattle.vcode.specs.declared.line.Line.TheVariants.{Set, Operate, Load, Store}
-use Rattle.vcode.specs.declared.line.Operation.{Operation}
-use Rattle.vcode.specs.declared.line.Operation.TheVariants.{Reg}
 use Rattle.rv_isa.specs.declared.instruction.LoadOp.{LoadOp}
-use Rattle.rv_isa.specs.declared.instruction.RegOp.TheVariants.{Sll, Srl}
 use Rattle.vcode.specs.declared.line.Jump.{Jump}
 use Rattle.vcode.specs.declared.line.Jump.TheVariants.{Goto, Branch, Return, Halt}
 use Rattle.vcode.specs.declared.code.Block.{Block}
-use Rattle.vcode.specs.Prelude.{is_paid}
-use Rattle.value_numbering.specs.declared.fact.Expression.{Expression}
-use Rattle.value_numbering.specs.declared.fact.Expression.TheVariants.{Operated, Growing}
-use Rattle.value_numbering.specs.declared.fact.Fact.{Fact}
-use Rattle.il_ast.specs.declared.operation.Size.{Size}
 use Rattle.vcode.specs.declared.place.Address.{Address}
 use Rattle.il_ast.specs.declared.operation.Class.TheVariants.{W, L}
 use Rattle.il_ast.specs.declared.operation.Class.{Class}
@@ -24,12 +27,78 @@ use Rattle.il_ast.specs.declared.operation.Condition.{Condition}
 use Rattle.il_ast.specs.declared.operation.Condition.TheVariants.{SignedLessEqual, SignedLess, SignedGreaterEqual, SignedGreater}
 use Rattle.value_numbering.specs.declared.ways.Order.{Order}
 use Rattle.sign_extensions.specs.Whole.{is_marked}
-use Rattle.value_numbering.specs.Known.{IsIn, computed, names, source, canonical}
 use Rattle.value_numbering.specs.Steps.{linear_in, stands, is_word, after}
-use Rattle.value_numbering.specs.Narrow.{IsNarrow}
 use Rattle.value_numbering.specs.Extensions.{IsItself, IsReloaded}
-use Rattle.value_numbering.specs.Regrouped.{IsRegrouped}
-use Rattle.value_numbering.specs.Shifts.{IsHalfway}
+
+-- ---- extensions by zeros that are shifted to the left
+
+-- the register is known to hold an operand shifted to the left by so many bits and back by zeros,
+-- and `whole` what that is before it is shifted back: so the register, shifted to the left by fewer
+-- bits, is `whole`, shifted back by the rest of them
+pub record IsHalfway (registers : ℕ) (facts : List Fact) (r by whole rest : ℕ) : Type 0 where
+  pub operand : Operand ℕ
+  pub bits : ℕ
+  pub extended : IsIn (record { register = r; value = Extended Srl operand bits }) facts
+  pub shifted : IsIn (record { register = whole; value = Operated (Reg Sll) operand (Number bits) })
+      facts
+  pub within : bits < 64
+  pub fewer : by < bits
+  pub left : rest ≡ bits - by
+  pub low : whole < registers
+
+-- ---- registers whose low bits are another's, as far as a store writes them
+
+-- the register of which a value is the extension, back from so many bits further left
+abbrev pub extended_from : Expression → (bits : ℕ) → Option ℕ
+extended_from (Extended op (At q) k) n = if nat_eq k n && is_back op then Some q else None
+extended_from e n = None
+
+-- the register of which a value is the low byte
+abbrev pub masked_from : Expression → Option ℕ
+masked_from (Operated (Reg And) (At q) (Number n)) = if nat_eq n 255 then Some q else None
+masked_from e = None
+
+-- the register that has the low bits of a value, as many as a store of this size writes
+abbrev pub low_of : Size → Expression → Option ℕ
+low_of Byte e = first_of (masked_from e) (extended_from e 56)
+low_of Half e = extended_from e 48
+low_of Word e = extended_from e 32
+low_of Long e = None
+
+-- the register may be stored in the place of the operand
+abbrev pub IsNarrow : List Fact → Size → Operand ℕ → ℕ → Type 0
+IsNarrow facts size (At r) q =
+    (k : ℕ) × (e : Expression) ×
+    ((slice_get facts k ≡ Some (record { register = r; value = e })) × (low_of size e ≡ Some q))
+IsNarrow facts size a q = ⊥
+
+-- ---- sums of three that are added in another order
+
+-- it adds: longs, or words
+abbrev pub is_sum : Operation → Bool
+is_sum (Reg Add) = true
+is_sum (RegW Addw) = true
+is_sum op = false
+
+-- it is a fact that the register holds this sum
+abbrev pub Adds : List Fact → Operation → ℕ → (left right : Operand ℕ) → Type 0
+Adds facts op r a b = IsIn (record { register = r; value = Operated op a b }) facts
+
+-- the register is known to hold the sum, in either order
+pub data IsSum (facts : List Fact) (op : Operation) (r : ℕ) (a b : Operand ℕ) : Type 0 where
+  InOrder : Adds facts op r a b → IsSum facts op r a b
+  Turned : Adds facts op r b a → IsSum facts op r a b
+
+-- y is known as the sum of two, and the sum of one of them and of what is added is known: so the sum
+-- of y and of what is added is that of `part` and of the other one
+pub record IsRegrouped (registers : ℕ) (facts : List Fact) (op : Operation) (y : ℕ)
+    (added : Operand ℕ) (part : ℕ) (rest : Operand ℕ) : Type 0 where
+  pub kept : Operand ℕ
+  pub adds : is_sum op ≡ true
+  pub sum : IsSum facts op y kept rest
+  pub known : IsSum facts op part kept (copied facts added)
+  pub first : part < registers
+  pub second : operand_keeps (is_below registers) rest ≡ true
 
 -- the register holds what the expression gives
 pub data Holds (facts : List Fact) (r : ℕ) (e : Expression) : Type 0 where

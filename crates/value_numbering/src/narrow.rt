@@ -1,7 +1,7 @@
 //! Registers whose low bits are another's, for stores that write no more than these.
 ghost use Rattle.std.specs.Prelude.{◌≡◌, ◌<◌, IfSome};
 ghost use Rattle.vcode.specs.declared.place.Operand.TheVariants.{At};
-ghost use Rattle.value_numbering.specs.Narrow.{extended_from, masked_from, low_of, IsNarrow};
+ghost use Rattle.value_numbering.specs.Reused.{extended_from, masked_from, low_of, IsNarrow};
 
 use crate::fact::{Expression, Fact};
 use crate::known::is_back;

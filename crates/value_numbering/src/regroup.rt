@@ -5,8 +5,7 @@ ghost use Rattle.vcode.specs.declared.line.Line.TheVariants.{Operate};
 ghost use Rattle.vcode.specs.declared.place.Operand.TheVariants.{At};
 ghost use Rattle.value_numbering.specs.declared.fact.Expression.TheVariants.{Operated};
 ghost use Rattle.value_numbering.specs.Known.{copied};
-ghost use Rattle.value_numbering.specs.Regrouped.{is_sum, Adds, IsSum, IsRegrouped};
-ghost use Rattle.value_numbering.specs.Reused.{Made};
+ghost use Rattle.value_numbering.specs.Reused.{is_sum, Adds, IsSum, IsRegrouped, Made};
 
 use crate::fact::{Expression, Fact};
 use crate::known::{copied, holder, source};

@@ -6,8 +6,7 @@ ghost use Rattle.vcode.specs.declared.line.Operation.TheVariants.{Reg};
 ghost use Rattle.vcode.specs.declared.place.Operand.TheVariants.{At, Number};
 ghost use Rattle.value_numbering.specs.declared.fact.Expression.TheVariants.{Operated, Extended};
 ghost use Rattle.value_numbering.specs.Known.{IsIn, source};
-ghost use Rattle.value_numbering.specs.Shifts.{IsHalfway};
-ghost use Rattle.value_numbering.specs.Reused.{Made};
+ghost use Rattle.value_numbering.specs.Reused.{IsHalfway, Made};
 
 use crate::fact::{Expression, Fact};
 use crate::known::{holder, source};

@@ -6,7 +6,7 @@ use Rattle.il_ast.specs.declared.value.Value.{Value}
 use Rattle.il_ast.specs.Prelude.{in_place, Keeps, IsCodeOf}
 use Rattle.il_ast.specs.declared.function.Func.{Func}
 use Rattle.vcode.specs.Types.{VFunc, LFunc}
-use Rattle.vcode.specs.Coded.{virtual_code, location_code}
+use Rattle.vcode.specs.Rewrites.{virtual_code, location_code}
 use Rattle.vcode.specs.Operations.{held}
 
 -- what was written as a value of either class is read as the word that was given

@@ -10,15 +10,8 @@ pub mod ExampleCodes
 pub mod Examples
 pub mod Laws
 pub mod Outgoing
-pub mod Coded
-pub mod Becomes
 pub mod Replaced
-pub mod Writes
-pub mod Acts
-pub mod Claims
-pub mod Follows
 pub mod Rewrites
-pub mod Facts
 pub mod InPlace
 pub mod Types
 pub mod Prelude

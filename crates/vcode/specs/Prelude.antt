@@ -1,14 +1,9 @@
 -- The definitions that the code, proofs and crates above cite, passed on from one place. Declares nothing.
-pub use Rattle.vcode.specs.Acts.{Act, Answers, Asks, Enters, Fails, Gives, Halts, Leaves, Lost, Makes, Spends, Way, act, answering, asked, entering, given, left, way, written}
+pub use Rattle.vcode.specs.Rewrites.{Act, Answers, Asks, Enters, Fails, Gives, Halts, Leaves, Lost, Makes, Spends, Way, act, answering, asked, entering, given, left, way, written, Alike, Arrives, BehindCall, Both, Come, DoAlike, FirstOn, Follows, Gone, Jumps, LeadAlike, Less, MayCome, MayGo, OnlyGives, SecondOn, Rewrites, classes_in, coded, location_code, virtual_code, Claims, Facts, claimed, Becomes, with_these, line_writes, place_of}
 pub use Rattle.vcode.specs.Addresses.{at_once, beyond, distance, low}
-pub use Rattle.vcode.specs.Becomes.{Becomes, with_these}
-pub use Rattle.vcode.specs.Claims.{Claims}
-pub use Rattle.vcode.specs.Coded.{classes_in, coded, location_code, virtual_code}
 pub use Rattle.vcode.specs.Cost.{affords, branch_cost, is_immediate, is_paid, jump_cost, line_cost, operand_cost, operation_cost, place_cost}
 pub use Rattle.vcode.specs.ExampleCodes.{block, code, destination, returned, straight}
 pub use Rattle.vcode.specs.Examples.{Examples}
-pub use Rattle.vcode.specs.Facts.{Facts, claimed}
-pub use Rattle.vcode.specs.Follows.{Alike, Arrives, BehindCall, Both, Come, DoAlike, FirstOn, Follows, Gone, Jumps, LeadAlike, Less, MayCome, MayGo, OnlyGives, SecondOn}
 pub use Rattle.vcode.specs.InPlace.{GoesSo, HasRoom, IsCheaper, KeepsIn, KeepsRuns, RunsAs}
 pub use Rattle.vcode.specs.Laws.{PassesCompose, PlacingStays, VirtualPassesStay, WordsAreRead}
 pub use Rattle.vcode.specs.Named.{are_distinct, are_low, are_near, block_keeps, is_below, is_near, is_place, jump_keeps, keeps_places, line_keeps, made_keeps, operand_keeps, wanted_keeps}
@@ -18,9 +13,7 @@ pub use Rattle.vcode.specs.Outgoing.{args_on_stack, frame_bound, most_in_blocks,
 pub use Rattle.vcode.specs.Places.{Places, Values, assign, is_callers, kept, located, put, same_location, unknown, virtual}
 pub use Rattle.vcode.specs.Regular.{IsRegular, alloc_bytes, allocs_first, area, code_weight, is_alloc, is_target, leads_inside, passes_few, turns_of, weight_of}
 pub use Rattle.vcode.specs.Replaced.{Replacing, with_argument, with_base, with_comparison, with_jump, with_line, with_returned}
-pub use Rattle.vcode.specs.Rewrites.{Rewrites}
 pub use Rattle.vcode.specs.Spent.{spent}
 pub use Rattle.vcode.specs.Step.{State, address_of, begin, block_step, bound, branches, calls, changes, compared, enters, fails, goes_on, made_in, operated, read, read_all, read_argument, read_result, receives, resumes, returns, sets, step_in, takes, ticks, value_of, weighs}
 unfoldable pub use Rattle.vcode.specs.Step.{jump_step, line_step, step}
 pub use Rattle.vcode.specs.Types.{Address, Alloc, Argument, At, Blit, Block, Branch, Call, Code, Compare, Destination, Goto, Halt, Jump, Line, Load, Name, Number, Operand, Operate, PLACES, Reg, Return, Set, Store, Tick, VFunc}
-pub use Rattle.vcode.specs.Writes.{line_writes, place_of}

@@ -1,7 +1,6 @@
 //! Blocks in an order.
 ghost use Rattle.std.specs.Prelude.{◌≡◌, ◌&&◌, ℕ, map, IfOk};
-ghost use Rattle.block_layout.specs.Ordered.{block_at, led, placed};
-ghost use Rattle.block_layout.specs.Placed.{ArePlaces};
+ghost use Rattle.block_layout.specs.Ordered.{block_at, led, placed, ArePlaces};
 
 use crate::placement::places::place;
 use il_ast::Seq;

@@ -2,8 +2,7 @@
 ghost use Rattle.std.specs.Prelude.{◌≡◌, true, false, IfOk, IfSome, MatchOption, IsTrue};
 ghost use Rattle.il_ast.specs.Prelude.{Keeps};
 ghost use Rattle.vcode.specs.Prelude.{virtual_code};
-ghost use Rattle.block_layout.specs.Ordered.{in_order, is_order, IsOrdered};
-ghost use Rattle.block_layout.specs.Placed.{ArePlaces};
+ghost use Rattle.block_layout.specs.Ordered.{in_order, is_order, IsOrdered, ArePlaces};
 
 use crate::placement::blocks::blocks_in_order;
 use crate::placement::choice::chains::chained;

@@ -1,8 +1,7 @@
 //! Where blocks stand in an order, and whether it is one.
 ghost use Rattle.std.specs.Prelude.{◌≡◌, ◌<◌, ◌+◌, ◌&&◌, ℕ, true, false, nat_lt, length, IsTrue, IfOk, MatchOption};
 ghost use Rattle.std.specs.List.{list_all};
-ghost use Rattle.block_layout.specs.Ordered.{place_in, is_named, block_at, begins, names_once, leads_within, is_order};
-ghost use Rattle.block_layout.specs.Placed.{AreUnset, ArePlaces, names_blocks};
+ghost use Rattle.block_layout.specs.Ordered.{place_in, is_named, block_at, begins, names_once, leads_within, is_order, AreUnset, ArePlaces, names_blocks};
 
 use std::alloc::{AllocError, Global};
 use vcode::{Block, Jump};

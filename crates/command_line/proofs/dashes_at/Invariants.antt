@@ -1,5 +1,5 @@
 use Rattle.std.specs.Prelude.{◌≡◌, ◌≤◌, ◌+◌, ◌-◌, length, map, drop}
-use Rattle.command_line.specs.Words.{dashes_at}
+use Rattle.command_line.specs.Asked.{dashes_at}
 use Rattle.command_line.proofs.dashes_at.Given as goal
 
 -- none of the words so far is it

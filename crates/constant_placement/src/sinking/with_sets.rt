@@ -1,8 +1,7 @@
 //! Blocks that set registers where they begin.
 ghost use Rattle.std.specs.Prelude.{◌≡◌, ◌++◌, ◌≤◌, length, take, map, true, IfOk, IfSome, OnOk};
 ghost use Rattle.std.specs.List.{list_all};
-ghost use Rattle.constant_placement.specs.Known.{plan_at, stay_known};
-ghost use Rattle.constant_placement.specs.Sunk.{set_line, with_sets, is_low, Sinks, IsSunk, AllSunk};
+ghost use Rattle.constant_placement.specs.Known.{plan_at, stay_known, set_line, with_sets, is_low, Sinks, IsSunk, AllSunk};
 
 use crate::sinking::known::{Known, Plan, leads_well, place_at, plan_at, stay_known};
 use il_ast::Seq;

@@ -2,7 +2,7 @@
 ghost use Rattle.std.specs.Prelude.{◌≡◌, true, Some};
 ghost use Rattle.propagation.specs.declared.constants.fact.Fact.TheVariants.{Same};
 ghost use Rattle.propagation.specs.FactTable.{facts_of};
-ghost use Rattle.propagation.specs.Claimed.{claims_at, AreKnown, LeadsWell};
+ghost use Rattle.propagation.specs.Forwarded.{claims_at, AreKnown, LeadsWell};
 
 use crate::constants::fact::Fact;
 use crate::constants::table::FactTable;

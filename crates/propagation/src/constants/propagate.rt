@@ -6,9 +6,7 @@ ghost use Rattle.vcode.specs.declared.line.Jump.{Jump as AJump};
 ghost use Rattle.vcode.specs.Prelude.{virtual_code};
 ghost use Rattle.propagation.specs.declared.constants.claim.Entry.{Entry};
 ghost use Rattle.propagation.specs.FactTable.{facts_of, IsTable};
-ghost use Rattle.propagation.specs.Claimed.{claimed};
-ghost use Rattle.propagation.specs.Forwarded.{IsPut, IsPutJump, AreForwarded, IsForwarded, AllForwarded};
-ghost use Rattle.propagation.specs.After.{changes_memory, sum_of, fact_of, after};
+ghost use Rattle.propagation.specs.Forwarded.{claimed, IsPut, IsPutJump, AreForwarded, IsForwarded, AllForwarded, changes_memory, sum_of, fact_of, after};
 
 use crate::constants::claim::{Claim, Entry, claims_at, leads_well};
 use crate::constants::entries::entries;

@@ -4,10 +4,8 @@ ghost use Rattle.std.specs.Option.{option_map, option_map_or};
 ghost use Rattle.vcode.specs.declared.place.Operand.TheVariants.{At};
 ghost use Rattle.vcode.specs.declared.line.Jump.TheVariants.{Branch};
 ghost use Rattle.vcode.specs.Prelude.{distance, is_immediate, with_base, with_returned, with_comparison};
-ghost use Rattle.propagation.specs.FactTable.{facts_of};
-ghost use Rattle.propagation.specs.Forwarded.{is_short, propagate, regrouped, grouped, operands_of, further, with_address, with_line, tested_by, afforded, with_test, with_branch, numbers_hold, with_outcome, with_jump};
-ghost use Rattle.propagation.specs.Shortened.{shortened};
-ghost use Rattle.propagation.specs.After.{is_add};
+ghost use Rattle.propagation.specs.FactTable.{facts_of, shortened};
+ghost use Rattle.propagation.specs.Forwarded.{is_short, propagate, regrouped, grouped, operands_of, further, with_address, with_line, tested_by, afforded, with_test, with_branch, numbers_hold, with_outcome, with_jump, is_add};
 
 use crate::constants::fact::Fact;
 use crate::constants::strength_reduction::shortened;

@@ -2,7 +2,7 @@
 ghost use Rattle.std.specs.Prelude.{◌≡◌, ◌<◌, ◌-◌, ◌^◌};
 ghost use Rattle.rv_isa.specs.declared.instruction.RegOp.TheVariants.{And};
 ghost use Rattle.vcode.specs.declared.line.Operation.TheVariants.{Reg};
-ghost use Rattle.propagation.specs.Shortened.{result_of, with_result, computed, exponent, if_below, by_power, with_operation, by_shift, shortened};
+ghost use Rattle.propagation.specs.FactTable.{result_of, with_result, computed, exponent, if_below, by_power, with_operation, by_shift, shortened};
 
 use il_ast::condition::numbers_hold;
 use rv_isa::arithmetic::{reg_value, regw_value};

@@ -1,7 +1,6 @@
 //! What is known of each register.
 ghost use Rattle.std.specs.Prelude.{◌≡◌, ◌+◌, ◌*◌, ◌^◌, ◌<◌, ◌≤◌, ℕ, true, false, not, ◌&&◌, ◌||◌, nat_le, length, slice_get, slice_set, IfOk, Some, None, option_map};
-ghost use Rattle.propagation.specs.Facts.{names_it, fact_names, kept_if};
-ghost use Rattle.propagation.specs.FactTable.{cell, is_fresh, stands, counted, facts_of, copy_of, IsTable, IsAtLine, changed, over};
+ghost use Rattle.propagation.specs.FactTable.{names_it, fact_names, kept_if, cell, is_fresh, stands, counted, facts_of, copy_of, IsTable, IsAtLine, changed, over};
 
 use crate::constants::fact::{DatedFact, Fact};
 use std::alloc::{AllocError, Global};

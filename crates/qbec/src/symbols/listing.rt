@@ -4,11 +4,9 @@ ghost use Rattle.std.specs.List.{concat};
 ghost use Rattle.il_ast.specs.declared.program.Program.{Program};
 ghost use Rattle.obj_link.specs.Prelude.{IsProgram, program};
 ghost use Rattle.qbec.specs.declared.error.CompileError.TheVariants.{Memory};
-ghost use Rattle.qbec.specs.Codes.{AreGood, AreWords};
-ghost use Rattle.qbec.specs.Refusals.{Refuses};
-ghost use Rattle.qbec.specs.Texts.{AreProgram};
-ghost use Rattle.qbec.specs.Listing.{IsFileListed, IsListedFile, letter, listing_of, symbol_line};
-ghost use Rattle.qbec.specs.Symbols.{entry};
+ghost use Rattle.qbec.specs.Pipeline.{AreGood, AreWords};
+ghost use Rattle.qbec.specs.Refusals.{Refuses, AreProgram};
+ghost use Rattle.qbec.specs.Symbols.{IsFileListed, IsListedFile, letter, listing_of, symbol_line, entry};
 
 use crate::codes::codes_of;
 use crate::compile::file_of;

@@ -2,7 +2,7 @@
 ghost use Rattle.std.specs.Prelude.{◌≡◌, ◌+◌, ◌-◌, ◌^◌, ◌<◌, ◌≤◌, ◌++◌, length, map, IfOk, OnOk};
 ghost use Rattle.il_ast.specs.Prelude.{round_16};
 ghost use Rattle.obj_link.specs.Prelude.{code_start, round_to_page, functions_start, object_size, function_addresses, functions_end, objects_end, object_addresses, IsProgram, program, shown};
-ghost use Rattle.qbec.specs.Codes.{AreWords};
+ghost use Rattle.qbec.specs.Pipeline.{AreWords};
 ghost use Rattle.qbec.specs.Symbols.{entry, function_entries, object_entries, symbols_of};
 
 use crate::symbols::symbol::{Kind, Symbol, name_in};

@@ -2,7 +2,7 @@ use Rattle.std.proofs.Common.{◌+◌, ◌++◌, [], ◌∷◌, drop, get_or, le
 use Rattle.std.proofs.lemmas.List.{drop_all, drop_more, append-nil}
 use Rattle.rv_isa.specs.declared.abi.TheConstants.{STACK_POINTER}
 use Rattle.rv_isa.specs.declared.labelled.Item.{Item}
-use Rattle.operation_code.specs.Fields.{load_8}
+use Rattle.operation_code.specs.Constants.{load_8}
 use Rattle.abi_frames.specs.Emission.{restore_all}
 use Rattle.abi_frames.proofs.Walking.{code_next}
 use Rattle.abi_frames.proofs.ends.push_restores.Goals as goal

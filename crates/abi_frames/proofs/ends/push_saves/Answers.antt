@@ -2,7 +2,7 @@ use Rattle.std.proofs.Common.{◌+◌, ◌++◌, [], ◌∷◌, drop, get_or, le
 use Rattle.std.proofs.lemmas.List.{drop_all, drop_more, append-nil}
 use Rattle.rv_isa.specs.declared.abi.TheConstants.{STACK_POINTER}
 use Rattle.rv_isa.specs.declared.labelled.Item.{Item}
-use Rattle.operation_code.specs.Fields.{store_8}
+use Rattle.operation_code.specs.Constants.{store_8}
 use Rattle.abi_frames.specs.Emission.{save_all}
 use Rattle.abi_frames.proofs.Walking.{code_next}
 use Rattle.abi_frames.proofs.ends.push_saves.Goals as goal

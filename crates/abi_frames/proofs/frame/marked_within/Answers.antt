@@ -3,9 +3,7 @@ use Rattle.il_ast.specs.declared.limits.TheConstants.{FUNCTION_WEIGHT}
 use Rattle.rv_isa.specs.Prelude.{IsLabelled, longest_size}
 use Rattle.vcode.specs.Prelude.{code_weight}
 use Rattle.abi_frames.proofs.Shared.{Item, Location, Block, leb-true}
-use Rattle.abi_frames.specs.Functions.{price}
-use Rattle.abi_frames.specs.Parts.{marked_code}
-use Rattle.abi_frames.specs.Frames.{IsFrameOf}
+use Rattle.abi_frames.specs.Functions.{price, marked_code, IsFrameOf}
 use Rattle.abi_frames.proofs.Promising.{code_of, marked_are_labelled, marked_perform}
 use Rattle.abi_frames.proofs.frame.marked_within.Goals as goal
 

@@ -2,8 +2,7 @@ use Rattle.std.proofs.Common.{◌≡◌, ◌+◌, ◌*◌, ◌≤◌, ◌∙◌,
 use Rattle.rv_isa.specs.Prelude.{IsLabelled, longest_size}
 use Rattle.abi_frames.proofs.Shared.{Item, Location, Block}
 use Rattle.vcode.specs.Prelude.{code_weight}
-use Rattle.abi_frames.specs.Functions.{frame_items}
-use Rattle.abi_frames.specs.Frames.{IsFrameOf}
+use Rattle.abi_frames.specs.Functions.{frame_items, IsFrameOf}
 use Rattle.abi_frames.proofs.Promising.{code_of, frames_are_labelled, frames_are_small, frames_perform}
 use Rattle.abi_frames.proofs.frame.usual_frame.Goals as goal
 

@@ -1,5 +1,5 @@
 use Rattle.std.proofs.Common.{refl, lit<}
-use Rattle.abi_frames.specs.Layout.{saved_registers}
+use Rattle.abi_frames.specs.Performs.{saved_registers}
 use Rattle.abi_frames.proofs.laws.example_is_code.Goals as goal
 
 pub returns : goal.returns

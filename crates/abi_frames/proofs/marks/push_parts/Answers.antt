@@ -5,7 +5,7 @@ use Rattle.abi_frames.proofs.Shared.{Label, Location, Block}
 use Rattle.vcode.specs.Prelude.{alloc_bytes, passes_few}
 use Rattle.vcode.proofs.Lists.{item_next}
 use Rattle.abi_frames.specs.Emission.{rows}
-use Rattle.abi_frames.specs.Parts.{part_items, marked_body}
+use Rattle.abi_frames.specs.Functions.{part_items, marked_body}
 use Rattle.abi_frames.proofs.Walking.{all_next, sum_next, code_next}
 use Rattle.abi_frames.proofs.marks.push_parts.Goals as goal
 

@@ -3,7 +3,7 @@ use Rattle.std.proofs.Common.{◌≡◌, ◌≤◌, ◌++◌, drop, true}
 use Rattle.std.specs.List.{list_all, sum_by}
 use Rattle.vcode.specs.Prelude.{alloc_bytes, passes_few}
 use Rattle.abi_frames.specs.Emission.{rows}
-use Rattle.abi_frames.specs.Parts.{marked_body}
+use Rattle.abi_frames.specs.Functions.{marked_body}
 use Rattle.abi_frames.proofs.marks.push_parts.Given as goal
 
 abbrev pub invariant-loop-number : goal.invariant-loop-number

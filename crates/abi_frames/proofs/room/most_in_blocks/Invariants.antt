@@ -1,5 +1,5 @@
 use Rattle.std.proofs.Common.{◌≡◌, drop, max}
-use Rattle.abi_frames.specs.Layout.{most_in_blocks}
+use Rattle.abi_frames.specs.Performs.{most_in_blocks}
 use Rattle.abi_frames.proofs.room.most_in_blocks.Given as goal
 
 abbrev pub invariant-loop-block : goal.invariant-loop-block

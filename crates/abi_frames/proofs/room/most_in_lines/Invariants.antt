@@ -1,5 +1,5 @@
 use Rattle.std.proofs.Common.{◌≡◌, drop, max}
-use Rattle.abi_frames.specs.Layout.{most_in_lines}
+use Rattle.abi_frames.specs.Performs.{most_in_lines}
 use Rattle.abi_frames.proofs.room.most_in_lines.Given as goal
 
 abbrev pub invariant-loop-line : goal.invariant-loop-line

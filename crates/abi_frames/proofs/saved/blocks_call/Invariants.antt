@@ -1,6 +1,6 @@
 use Rattle.std.proofs.Common.{◌≡◌, drop}
 use Rattle.std.specs.List.{list_any}
-use Rattle.abi_frames.specs.Layout.{block_calls}
+use Rattle.abi_frames.specs.Performs.{block_calls}
 use Rattle.abi_frames.proofs.saved.blocks_call.Given as goal
 
 abbrev pub invariant-loop-block : goal.invariant-loop-block

@@ -1,6 +1,6 @@
 use Rattle.std.proofs.Common.{◌≡◌, drop}
 use Rattle.std.specs.List.{list_any}
-use Rattle.abi_frames.specs.Layout.{is_call}
+use Rattle.abi_frames.specs.Performs.{is_call}
 use Rattle.abi_frames.proofs.saved.lines_call.Given as goal
 
 abbrev pub invariant-loop-line : goal.invariant-loop-line

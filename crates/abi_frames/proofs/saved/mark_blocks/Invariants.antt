@@ -1,7 +1,6 @@
 use Rattle.std.proofs.Common.{◌≡◌, ◌<◌, ◌||◌, ℕ, drop, length}
 use Rattle.std.specs.List.{list_any}
-use Rattle.abi_frames.specs.Layout.{block_writes}
-use Rattle.abi_frames.specs.Marked.{is_marked}
+use Rattle.abi_frames.specs.Performs.{block_writes, is_marked}
 use Rattle.abi_frames.proofs.saved.mark_blocks.Given as goal
 
 abbrev pub invariant-loop-block : goal.invariant-loop-block

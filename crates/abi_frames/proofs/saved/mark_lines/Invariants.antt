@@ -1,7 +1,6 @@
 use Rattle.std.proofs.Common.{◌≡◌, ◌<◌, ◌||◌, ℕ, drop, length}
 use Rattle.std.specs.List.{list_any}
-use Rattle.abi_frames.specs.Layout.{writes}
-use Rattle.abi_frames.specs.Marked.{is_marked}
+use Rattle.abi_frames.specs.Performs.{writes, is_marked}
 use Rattle.abi_frames.proofs.saved.mark_lines.Given as goal
 
 abbrev pub invariant-loop-line : goal.invariant-loop-line

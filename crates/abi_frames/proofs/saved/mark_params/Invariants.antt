@@ -1,7 +1,6 @@
 use Rattle.std.proofs.Common.{◌≡◌, ◌<◌, ◌||◌, ℕ, drop, length}
 use Rattle.std.specs.List.{list_any}
-use Rattle.abi_frames.specs.Layout.{is_register}
-use Rattle.abi_frames.specs.Marked.{is_marked}
+use Rattle.abi_frames.specs.Performs.{is_register, is_marked}
 use Rattle.abi_frames.proofs.saved.mark_params.Given as goal
 
 abbrev pub invariant-loop-parameter : goal.invariant-loop-parameter

@@ -1,5 +1,5 @@
 use Rattle.std.proofs.Common.{◌≡◌, ◌++◌, drop, filter}
-use Rattle.abi_frames.specs.Marked.{is_marked}
+use Rattle.abi_frames.specs.Performs.{is_marked}
 use Rattle.abi_frames.proofs.saved.push_marked.Given as goal
 
 abbrev pub invariant-loop-number : goal.invariant-loop-number

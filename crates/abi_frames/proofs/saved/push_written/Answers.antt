@@ -1,5 +1,5 @@
 use Rattle.std.proofs.Common.{◌∙◌, ap}
-use Rattle.abi_frames.specs.Marked.{is_marked}
+use Rattle.abi_frames.specs.Performs.{is_marked}
 use Rattle.abi_frames.proofs.Marking.{unmarked}
 use Rattle.abi_frames.proofs.saved.push_written.Goals as goal
 

@@ -1,6 +1,6 @@
 use Rattle.std.proofs.Common.{◌≡◌, ℕ, List, [], ◌++◌, ◌∙◌, ap}
 use Rattle.abi_frames.proofs.Shared.{Location, Code}
-use Rattle.abi_frames.specs.Layout.{written_of, callee_saved, return_address, saved_registers}
+use Rattle.abi_frames.specs.Performs.{written_of, callee_saved, return_address, saved_registers}
 use Rattle.abi_frames.proofs.saved.saved_registers.Goals as goal
 
 -- the return address, and the registers that are written

@@ -1,7 +1,7 @@
 use Rattle.std.proofs.Common.{rules, ◌≡◌, ◌+◌, ◌++◌, [], ◌∷◌, length, drop, sym, ap, ◌∙◌, append_assoc}
 use Rattle.std.proofs.lemmas.List.{drop_all, append-nil}
 use Rattle.vcode.proofs.Lists.{item_next}
-use Rattle.cfg_live.specs.Points.{with_block, with_blocks, starts_after}
+use Rattle.cfg_live.specs.Rows.{with_block, with_blocks, starts_after}
 use Rattle.cfg_live.proofs.points.push_blocks.Goals as goal
 
 pub loop-block-preserved : goal.loop-block-preserved

@@ -1,5 +1,5 @@
 use Rattle.std.proofs.Common.{◌≡◌, ◌++◌, drop}
-use Rattle.cfg_live.specs.Points.{with_blocks, starts_after}
+use Rattle.cfg_live.specs.Rows.{with_blocks, starts_after}
 use Rattle.cfg_live.proofs.points.push_blocks.Given as goal
 
 abbrev pub invariant-loop-block : goal.invariant-loop-block

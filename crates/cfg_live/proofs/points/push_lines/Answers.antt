@@ -1,7 +1,7 @@
 use Rattle.std.proofs.Common.{◌+◌, drop, sym, ap, ◌∙◌}
 use Rattle.std.proofs.lemmas.List.{drop_all}
 use Rattle.vcode.proofs.Lists.{item_next}
-use Rattle.cfg_live.specs.Points.{with_lines}
+use Rattle.cfg_live.specs.Rows.{with_lines}
 use Rattle.cfg_live.proofs.points.push_lines.Goals as goal
 
 pub loop-line-preserved : goal.loop-line-preserved

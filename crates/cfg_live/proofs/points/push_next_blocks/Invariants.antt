@@ -1,5 +1,5 @@
 use Rattle.std.proofs.Common.{◌≡◌, drop}
-use Rattle.cfg_live.specs.Points.{next_blocks}
+use Rattle.cfg_live.specs.Rows.{next_blocks}
 use Rattle.cfg_live.proofs.points.push_next_blocks.Given as goal
 
 abbrev pub invariant-loop-block : goal.invariant-loop-block

@@ -1,5 +1,5 @@
 use Rattle.std.proofs.Common.{◌≡◌, drop}
-use Rattle.cfg_live.specs.Points.{next_lines}
+use Rattle.cfg_live.specs.Rows.{next_lines}
 use Rattle.cfg_live.proofs.points.push_next_lines.Given as goal
 
 abbrev pub invariant-loop-line : goal.invariant-loop-line

@@ -1,7 +1,7 @@
 use Rattle.std.proofs.Common.{refl}
 use Rattle.std.specs.Fmt.{digits}
 use Rattle.shell.specs.Digits.{sixteen_digits}
-use Rattle.commands.specs.Examples.{Examples}
+use Rattle.commands.specs.Messages.{Examples}
 use Rattle.commands.proofs.laws.examples_are_computed.Goals as goal
 
 examples : Examples

@@ -1,8 +1,7 @@
 use Rattle.std.proofs.Common.{arith, subst, sym}
 use Rattle.std.proofs.lemmas.Result.{err_from_is_err_and}
 use Rattle.rv_isa.specs.Prelude.{State}
-use Rattle.rv_machine.specs.Decoded.{IsDecoded}
-use Rattle.rv_machine.specs.Machine.{view}
+use Rattle.rv_machine.specs.Entries.{IsDecoded, view}
 use Rattle.commands.proofs.Sending.{ran_on, ran_to_end, ran_to_stop, run_broke}
 use Rattle.commands.proofs.pieces.run_machine.Goals as goal
 

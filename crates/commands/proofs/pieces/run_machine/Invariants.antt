@@ -1,6 +1,5 @@
 use Rattle.std.proofs.Common.{◌<◌, ◌≤◌}
-use Rattle.rv_machine.specs.Decoded.{IsDecoded}
-use Rattle.rv_machine.specs.Machine.{view}
+use Rattle.rv_machine.specs.Entries.{IsDecoded, view}
 use Rattle.commands.specs.declared.pieces.TheConstants.{PIECE}
 use Rattle.commands.proofs.Sending.{RunsSoFar}
 use Rattle.commands.proofs.pieces.run_machine.Given as goal

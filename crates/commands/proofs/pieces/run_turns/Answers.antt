@@ -1,7 +1,7 @@
 use Rattle.std.proofs.Common.{arith, inl, inr, refl, subst, sym}
 use Rattle.std.proofs.lemmas.Result.{err_from_is_err_and}
 use Rattle.il_ast.specs.declared.value.End.{End}
-use Rattle.il_interp.specs.Pieces.{comes_to}
+use Rattle.il_interp.specs.Machine.{comes_to}
 use Rattle.commands.specs.Pieces.{Sent}
 use Rattle.commands.proofs.Sending.{cut_off, sending_broke, sent_to_end, sent_to_over, went_further}
 use Rattle.commands.proofs.pieces.run_turns.Goals as goal

@@ -1,5 +1,5 @@
 use Rattle.std.proofs.Common.{◌<◌, ◌≤◌}
-use Rattle.il_interp.specs.Pieces.{comes_to}
+use Rattle.il_interp.specs.Machine.{comes_to}
 use Rattle.commands.specs.declared.pieces.TheConstants.{PIECE}
 use Rattle.commands.proofs.Sending.{TurnsSoFar}
 use Rattle.commands.proofs.pieces.run_turns.Given as goal

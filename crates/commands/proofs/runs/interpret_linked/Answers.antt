@@ -2,7 +2,7 @@ use Rattle.std.proofs.Common.{◌∙◌, ap, map, List, ℕ, Bor, inr}
 use Rattle.std.proofs.lemmas.Result.{IfErr-weaker}
 use Rattle.il_ast.specs.Prelude.{meaning}
 use Rattle.obj_link.specs.Prelude.{program}
-use Rattle.il_interp.specs.Pieces.{begun_as, comes_to}
+use Rattle.il_interp.specs.Machine.{begun_as, comes_to}
 use Rattle.commands.proofs.Ending.{fails_as}
 use Rattle.commands.proofs.runs.interpret_linked.Goals as goal
 

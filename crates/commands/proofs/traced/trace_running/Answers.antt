@@ -1,6 +1,6 @@
 use Rattle.std.proofs.Common.{sym}
 use Rattle.std.proofs.lemmas.Result.{err_from_is_err_and}
-use Rattle.il_interp.specs.Pieces.{comes_to}
+use Rattle.il_interp.specs.Machine.{comes_to}
 use Rattle.commands.proofs.Ending.{fails_as}
 use Rattle.commands.proofs.traced.trace_running.Goals as goal
 

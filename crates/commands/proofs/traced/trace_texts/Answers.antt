@@ -1,5 +1,5 @@
 use Rattle.std.proofs.Common.{ℕ, List, Bor, map, refl, subst, sym}
-use Rattle.qbec.specs.Texts.{AreTexts}
+use Rattle.qbec.specs.Refusals.{AreTexts}
 use Rattle.commands.specs.Refusals.{compile_refusal}
 use Rattle.commands.proofs.Ending.{texts_refused}
 use Rattle.commands.proofs.Refusing.{as_compiled}

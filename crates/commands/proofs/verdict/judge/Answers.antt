@@ -1,7 +1,7 @@
 use Rattle.std.proofs.Common.{◌≡◌, [], sym, subst, ap, ◌∙◌, Vec, Global}
 use Rattle.std.proofs.lemmas.List.{nil_from_length}
 use Rattle.il_types.specs.declared.checked.Checked.{Checked}
-use Rattle.qbec.specs.Texts.{AreTexts}
+use Rattle.qbec.specs.Refusals.{AreTexts}
 use Rattle.qbec.proofs.TextLemmas.{bytes_of, text_more, all_found}
 use Rattle.commands.specs.declared.verdict.Finding.{Finding}
 use Rattle.commands.specs.Verdicts.{AreTrue}

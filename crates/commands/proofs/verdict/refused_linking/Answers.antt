@@ -1,5 +1,5 @@
 use Rattle.std.proofs.Common.{◌≢◌, ℕ, List, [], rules}
-use Rattle.qbec.specs.Texts.{AreTexts}
+use Rattle.qbec.specs.Refusals.{AreTexts}
 use Rattle.commands.specs.Verdicts.{AreTrue}
 use Rattle.commands.proofs.Judging.{texts_told}
 use Rattle.commands.proofs.verdict.refused_linking.Goals as goal

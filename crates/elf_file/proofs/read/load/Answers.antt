@@ -1,5 +1,5 @@
 use Rattle.std.proofs.Common.{sym, ap, ◌∙◌}
-use Rattle.elf_file.specs.Loaded.{has_entry}
+use Rattle.elf_file.specs.Conditions.{has_entry}
 use Rattle.elf_file.proofs.Reading.{IsExecutable-from_segments}
 use Rattle.elf_file.proofs.read.load.Goals as goal
 

@@ -1,6 +1,6 @@
 use Rattle.std.proofs.Common.{◌≡◌, drop}
 use Rattle.std.specs.List.{list_all}
-use Rattle.frame_ways.specs.Bare.{is_bare_place}
+use Rattle.frame_ways.specs.Plans.{is_bare_place}
 use Rattle.frame_ways.proofs.bare.are_bare_params.Given as goal
 
 abbrev pub invariant-loop-parameter : goal.invariant-loop-parameter

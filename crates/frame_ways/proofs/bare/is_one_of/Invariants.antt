@@ -1,6 +1,6 @@
 use Rattle.std.proofs.Common.{◌≡◌, drop}
 use Rattle.std.specs.List.{list_any}
-use Rattle.frame_ways.specs.Written.{is_register}
+use Rattle.frame_ways.specs.Plans.{is_register}
 use Rattle.frame_ways.proofs.bare.is_one_of.Given as goal
 
 abbrev pub invariant-loop-number : goal.invariant-loop-number

@@ -1,6 +1,6 @@
 use Rattle.std.proofs.Common.{◌≡◌, drop}
 use Rattle.std.specs.List.{list_any}
-use Rattle.frame_ways.specs.Written.{writes}
+use Rattle.frame_ways.specs.Plans.{writes}
 use Rattle.frame_ways.proofs.bare.writes_one_of.Given as goal
 
 abbrev pub invariant-loop-number : goal.invariant-loop-number

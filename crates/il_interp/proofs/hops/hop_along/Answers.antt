@@ -1,6 +1,6 @@
 use Rattle.std.proofs.Common.{◌≡◌, ◌∙◌, ◌+◌, ◌-◌, ◌≤◌, subst, arith}
 use Rattle.std.proofs.lemmas.Grind.{common_steps}
-use Rattle.il_interp.specs.Prepared.{program_of}
+use Rattle.il_interp.specs.Machine.{program_of}
 use Rattle.il_interp.specs.Hops.{GoesAlong}
 use Rattle.il_interp.proofs.HopLemmas.{along_further}
 use Rattle.il_interp.proofs.hops.hop_along.Goals as goal

@@ -1,5 +1,5 @@
 use Rattle.std.proofs.Common.{◌≡◌, ◌-◌, ◌≤◌}
-use Rattle.il_interp.specs.Prepared.{program_of}
+use Rattle.il_interp.specs.Machine.{program_of}
 use Rattle.il_interp.specs.Hops.{GoesAlong}
 use Rattle.il_interp.proofs.hops.hop_along.Given as goal
 

@@ -2,7 +2,7 @@ use Rattle.std.proofs.Common.{◌≡◌, ◌∙◌, ◌-◌, ap, subst, sym, Boo
 use Rattle.std.proofs.lemmas.Grind.{common_steps}
 use Rattle.std.proofs.lemmas.Option.{slice_get_past}
 use Rattle.obj_link.specs.Prelude.{shown}
-use Rattle.il_interp.specs.Prepared.{program_of}
+use Rattle.il_interp.specs.Machine.{program_of}
 use Rattle.il_interp.specs.Hops.{Ends, GoesAlong}
 use Rattle.il_interp.proofs.HopLemmas.{along_further, along_hop, along_row}
 use Rattle.il_interp.proofs.hops.turns_in_block.Goals as goal

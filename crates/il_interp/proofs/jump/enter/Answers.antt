@@ -3,8 +3,7 @@ use Rattle.il_ast.specs.declared.value.Value.{Value}
 use Rattle.il_ast.specs.Prelude.{phi_values, with_phis}
 use Rattle.obj_link.specs.Prelude.{shown}
 use Rattle.il_types.specs.Prelude.{are_all_distinct}
-use Rattle.il_interp.specs.Prepared.{program_of}
-use Rattle.il_interp.specs.Machine.{On, env_of}
+use Rattle.il_interp.specs.Machine.{program_of, On, env_of}
 use Rattle.il_interp.proofs.HopLemmas.{entering, entering_none}
 use Rattle.il_interp.proofs.LabelLemmas.{program_distinct}
 use Rattle.il_interp.proofs.jump.enter.Goals as goal

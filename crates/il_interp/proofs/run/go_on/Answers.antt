@@ -1,7 +1,5 @@
 use Rattle.std.proofs.Common.{◌+◌, ◌-◌, ◌∙◌, ap, sym}
-use Rattle.il_interp.specs.Prepared.{program_of}
-use Rattle.il_interp.specs.Machine.{machine}
-use Rattle.il_interp.specs.Pieces.{rest_of}
+use Rattle.il_interp.specs.Machine.{program_of, machine, rest_of}
 use Rattle.il_interp.proofs.RowLemmas.{gone_on}
 use Rattle.il_interp.proofs.run.go_on.Goals as goal
 

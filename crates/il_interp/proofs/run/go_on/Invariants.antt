@@ -1,6 +1,5 @@
 use Rattle.std.proofs.Common.{◌≡◌, ◌+◌, ℕ}
-use Rattle.il_interp.specs.Prepared.{program_of}
-use Rattle.il_interp.specs.Machine.{machine}
+use Rattle.il_interp.specs.Machine.{program_of, machine}
 use Rattle.il_interp.proofs.run.go_on.Given as goal
 
 abbrev pub invariant-loop-left : goal.invariant-loop-left

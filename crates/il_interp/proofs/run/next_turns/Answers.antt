@@ -1,4 +1,4 @@
-use Rattle.il_interp.specs.Prepared.{program_of}
+use Rattle.il_interp.specs.Machine.{program_of}
 use Rattle.il_interp.proofs.HopLemmas.{along_turn}
 use Rattle.il_interp.proofs.run.next_turns.Goals as goal
 

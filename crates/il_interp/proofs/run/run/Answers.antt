@@ -1,5 +1,5 @@
 use Rattle.std.proofs.Common.{◌∙◌, ap₂, sym}
-use Rattle.il_interp.specs.Prepared.{program_of}
+use Rattle.il_interp.specs.Machine.{program_of}
 use Rattle.il_interp.proofs.RunLemmas.{behaves, whole_run}
 use Rattle.il_interp.proofs.run.run.Goals as goal
 

@@ -1,6 +1,5 @@
 use Rattle.std.proofs.Common.{◌+◌, ◌∙◌, ap, arith}
-use Rattle.il_interp.specs.Prepared.{program_of}
-use Rattle.il_interp.specs.Machine.{machine, stepped}
+use Rattle.il_interp.specs.Machine.{program_of, machine, stepped}
 use Rattle.il_interp.proofs.RunLemmas.{all_done, goes_on, is_over}
 use Rattle.il_interp.proofs.trace.go_on_watched.Goals as goal
 

@@ -5,8 +5,7 @@ use Rattle.il_ast.specs.declared.instruction.Jump.{Jump}
 use Rattle.il_ast.specs.declared.instruction.Lined.{Lined}
 use Rattle.il_ast.specs.Prelude.{turn_in, end_effect}
 use Rattle.obj_link.specs.Prelude.{shown}
-use Rattle.il_interp.specs.Prepared.{program_of}
-use Rattle.il_interp.specs.Machine.{act_of, env_of, locals_of, react, stepped}
+use Rattle.il_interp.specs.Machine.{program_of, act_of, env_of, locals_of, react, stepped}
 use Rattle.il_interp.proofs.turn.turn_in_block.Goals as goal
 use Rattle.il_ast.proofs.Listed.{get_there}
 

@@ -1,6 +1,6 @@
 use Rattle.std.proofs.Common.{◌≡◌, Bool, true, false, not, length, sym, ap, refl, arith}
 use Rattle.std.proofs.lemmas.List.Sums.{prefix_len_is}
-use Rattle.il_lex.specs.Bytes.{is_in_comment}
+use Rattle.il_lex.specs.Quoted.{is_in_comment}
 use Rattle.il_lex.proofs.bytes.comment_len.Goals as goal
 
 not_true : (b : Bool) → ¬ (b ≡ true) → not b ≡ true

@@ -1,5 +1,5 @@
 use Rattle.std.proofs.Common.{◌+◌, ◌-◌, ◌≤◌, length, vec_capacity}
-use Rattle.il_mem.specs.Shown.{ShowsSame}
+use Rattle.il_mem.specs.Joined.{ShowsSame}
 use Rattle.il_mem.proofs.block.grow.Given as goal
 
 abbrev pub invariant-loop-values : goal.invariant-loop-values

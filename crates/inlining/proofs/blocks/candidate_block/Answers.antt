@@ -2,8 +2,7 @@ use Rattle.std.proofs.Common.{◌≡◌, ◌∙◌, ◌++◌, ℕ, List, map, ap
 use Rattle.vcode.specs.declared.code.Block.{Block}
 use Rattle.vcode.specs.declared.line.Line.{Line}
 use Rattle.vcode.specs.declared.line.Jump.{Jump}
-use Rattle.inlining.specs.Moved.{moved_line}
-use Rattle.inlining.specs.InPlace.{result_brought}
+use Rattle.inlining.specs.InPlace.{moved_line, result_brought}
 use Rattle.inlining.proofs.blocks.candidate_block.Goals as goal
 
 abbrev with_jump : List (Line ℕ) → Jump ℕ → Block ℕ

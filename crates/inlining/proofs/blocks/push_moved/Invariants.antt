@@ -1,5 +1,5 @@
 use Rattle.std.proofs.Common.{◌≡◌, ◌++◌, map, drop}
-use Rattle.inlining.specs.Moved.{moved_line}
+use Rattle.inlining.specs.InPlace.{moved_line}
 use Rattle.inlining.proofs.blocks.push_moved.Given as goal
 
 abbrev pub invariant-loop-line : goal.invariant-loop-line

@@ -1,5 +1,5 @@
 use Rattle.std.proofs.Common.{◌≡◌, false, drop}
-use Rattle.inlining.specs.Candidates.{calm_behind}
+use Rattle.inlining.specs.InPlace.{calm_behind}
 use Rattle.inlining.proofs.candidate.are_calm.Given as goal
 
 abbrev pub invariant-loop-line : goal.invariant-loop-line

@@ -1,5 +1,5 @@
 use Rattle.std.proofs.Common.{◌≡◌, slice_get, Some, refl, sym, ap, ◌∙◌}
-use Rattle.inlining.specs.Placed.{site_of}
+use Rattle.inlining.specs.InPlace.{site_of}
 use Rattle.inlining.proofs.Cutting.{cut_of}
 use Rattle.inlining.proofs.cut.cut_at_call.Goals as goal
 use Rattle.il_ast.proofs.Listed.{get_there}

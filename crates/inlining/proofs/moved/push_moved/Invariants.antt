@@ -1,6 +1,6 @@
 use Rattle.std.proofs.Common.{◌≡◌, ◌++◌, map, drop}
 use Rattle.vcode.specs.Prelude.{with_argument}
-use Rattle.inlining.specs.Moved.{moved}
+use Rattle.inlining.specs.InPlace.{moved}
 use Rattle.inlining.proofs.moved.push_moved.Given as goal
 
 abbrev pub invariant-loop-arg : goal.invariant-loop-arg

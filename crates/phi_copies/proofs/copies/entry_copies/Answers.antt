@@ -2,8 +2,7 @@ use Rattle.std.proofs.Common.{◌≡◌, length, map, sym, ◌∙◌, ap, subst,
 use Rattle.std.proofs.lemmas.List.{length-map}
 use Rattle.il_types.specs.Prelude.{are_all_distinct}
 use Rattle.phi_copies.specs.Copies.{AreCopies}
-use Rattle.phi_copies.specs.Moves.{HasDistinctDestinations, IsUnnamed}
-use Rattle.phi_copies.specs.Together.{wanted, moves_in, first_in, IsInOrder}
+use Rattle.phi_copies.specs.Together.{HasDistinctDestinations, IsUnnamed, wanted, moves_in, first_in, IsInOrder}
 use Rattle.phi_copies.proofs.EntryCopies.{entered, collected, apart, unnamed, entry_are, nothing}
 use Rattle.phi_copies.proofs.EntryNumbers.{entry_small, entry_unnumbered}
 use Rattle.phi_copies.proofs.GoodPhis.{good_distinct}

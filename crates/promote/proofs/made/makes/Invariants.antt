@@ -1,5 +1,5 @@
 use Rattle.std.proofs.Common.{◌≡◌, drop}
-use Rattle.promote.specs.Made.{makes}
+use Rattle.promote.specs.Uses.{makes}
 use Rattle.promote.proofs.made.makes.Given as goal
 
 abbrev pub invariant-loop-inst : goal.invariant-loop-inst

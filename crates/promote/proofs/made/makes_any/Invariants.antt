@@ -1,5 +1,5 @@
 use Rattle.std.proofs.Common.{◌≡◌, drop}
-use Rattle.promote.specs.Made.{makes_any}
+use Rattle.promote.specs.Uses.{makes_any}
 use Rattle.promote.proofs.made.makes_any.Given as goal
 
 abbrev pub invariant-loop-block : goal.invariant-loop-block

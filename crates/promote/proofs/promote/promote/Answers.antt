@@ -6,9 +6,7 @@ use Rattle.il_ast.specs.Prelude.{come_after, temps_of, labels_of, are_distinct, 
 use Rattle.promote.specs.declared.mention.Mention.{Mention}
 use Rattle.promote.specs.declared.standing.Standing.{Standing}
 use Rattle.promote.specs.declared.standing.Standing.TheVariants.{Unseen}
-use Rattle.promote.specs.Uses.{mentions_of, width_in, roles}
-use Rattle.promote.specs.Tables.{standing_at, seen_all, widths_by}
-use Rattle.promote.specs.Promoted.{promoted_block}
+use Rattle.promote.specs.Uses.{mentions_of, width_in, roles, promoted_block, standing_at, seen_all, widths_by}
 use Rattle.promote.proofs.Choosing.{widths_known}
 use Rattle.promote.proofs.Ordering.{order_stays, labels_stay, block_stays, arguments_stay}
 use Rattle.promote.proofs.promote.promote.Goals as goal

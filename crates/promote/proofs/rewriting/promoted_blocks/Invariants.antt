@@ -1,6 +1,5 @@
 use Rattle.std.proofs.Common.{◌≡◌, take, map}
-use Rattle.promote.specs.Tables.{widths_by}
-use Rattle.promote.specs.Promoted.{promoted_block}
+use Rattle.promote.specs.Uses.{widths_by, promoted_block}
 use Rattle.promote.proofs.rewriting.promoted_blocks.Given as goal
 
 abbrev pub invariant-loop-block : goal.invariant-loop-block

@@ -1,5 +1,5 @@
 use Rattle.std.proofs.Common.{◌≡◌, ℕ, ◌+◌, ◌-◌, length}
-use Rattle.promote.specs.Tables.{standing_at}
+use Rattle.promote.specs.Uses.{standing_at}
 use Rattle.promote.proofs.standing.note.Given as goal
 
 abbrev pub invariant-loop-table : goal.invariant-loop-table

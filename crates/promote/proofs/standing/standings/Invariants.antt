@@ -1,6 +1,5 @@
 use Rattle.std.proofs.Common.{◌≡◌, ℕ, drop}
-use Rattle.promote.specs.Tables.{seen_all, standing_at}
-use Rattle.promote.specs.Uses.{roles}
+use Rattle.promote.specs.Uses.{seen_all, standing_at, roles}
 use Rattle.promote.specs.declared.standing.Standing.TheVariants.{Unseen}
 use Rattle.promote.proofs.standing.standings.Given as goal
 

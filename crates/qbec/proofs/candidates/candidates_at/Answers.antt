@@ -1,6 +1,6 @@
 use Rattle.std.proofs.lemmas.Result.{IfOk-weaker}
 use Rattle.obj_link.specs.Prelude.{program}
-use Rattle.qbec.specs.Candidates.{AreCandidatesMeant, AreCandidatesAt}
+use Rattle.qbec.specs.Pipeline.{AreCandidatesMeant, AreCandidatesAt}
 use Rattle.qbec.proofs.Placing.{candidates_are_at}
 use Rattle.qbec.proofs.candidates.candidates_at.Goals as goal
 

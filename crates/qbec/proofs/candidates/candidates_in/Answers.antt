@@ -1,5 +1,5 @@
 use Rattle.std.proofs.Common.{sym, subst}
-use Rattle.qbec.specs.Candidates.{AreCandidatesAt}
+use Rattle.qbec.specs.Pipeline.{AreCandidatesAt}
 use Rattle.qbec.proofs.Placing.{got_at, got_mapped, no_candidates}
 use Rattle.qbec.proofs.candidates.candidates_in.Goals as goal
 

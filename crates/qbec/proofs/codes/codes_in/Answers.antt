@@ -5,8 +5,7 @@ use Rattle.il_ast.specs.declared.program.InText.{InText}
 use Rattle.il_ast.specs.declared.program.Program.{Program}
 use Rattle.obj_link.specs.Prelude.{program, shown}
 use Rattle.vcode.specs.declared.function.VFunc.{VFunc}
-use Rattle.qbec.specs.Codes.{AreGood, AreWords, AreWordsIn}
-use Rattle.qbec.specs.Candidates.{AreCandidatesIn}
+use Rattle.qbec.specs.Pipeline.{AreGood, AreWords, AreWordsIn, AreCandidatesIn}
 use Rattle.qbec.proofs.codes.codes_in.Goals as goal
 
 pub codes_with-requires : goal.codes_with-requires

@@ -2,7 +2,7 @@ use Rattle.std.proofs.Common.{◌≡◌, true}
 use Rattle.std.proofs.lemmas.Result.{IfOk-weaker}
 use Rattle.obj_link.specs.Prelude.{calls_reach, program}
 use Rattle.asm_layout.specs.declared.call.CallForm.TheVariants.{Far}
-use Rattle.qbec.specs.Codes.{AllHaveForm}
+use Rattle.qbec.specs.Pipeline.{AllHaveForm}
 use Rattle.qbec.proofs.Reaching.{far_calls_reach}
 use Rattle.qbec.proofs.codes.codes_of.Goals as goal
 

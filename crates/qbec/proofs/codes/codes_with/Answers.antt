@@ -1,7 +1,7 @@
 use Rattle.std.proofs.Common.{◌≡◌, List, Some, slice_get, sym, ◌∙◌, ap, subst}
 use Rattle.std.proofs.lemmas.Option.{slice_get-get_or}
 use Rattle.rv_isa.specs.Prelude.{Words}
-use Rattle.qbec.specs.Codes.{AllHaveForm}
+use Rattle.qbec.specs.Pipeline.{AllHaveForm}
 use Rattle.qbec.proofs.CodeLemmas.{CodesSoFar, no_codes, all_codes, one_more_code}
 use Rattle.qbec.proofs.Reaching.{one_more_form}
 use Rattle.qbec.proofs.codes.codes_with.Goals as goal

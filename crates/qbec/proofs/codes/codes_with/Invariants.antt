@@ -1,7 +1,6 @@
 use Rattle.std.proofs.Common.{map}
 use Rattle.il_ast.specs.declared.program.Program.{Program}
-use Rattle.qbec.specs.Candidates.{AreCandidatesIn}
-use Rattle.qbec.specs.Codes.{AllHaveForm}
+use Rattle.qbec.specs.Pipeline.{AreCandidatesIn, AllHaveForm}
 use Rattle.qbec.proofs.CodeLemmas.{CodesSoFar}
 use Rattle.qbec.proofs.codes.codes_with.Given as goal
 

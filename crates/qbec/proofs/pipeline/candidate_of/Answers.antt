@@ -1,5 +1,5 @@
 use Rattle.std.specs.Prelude.{IsTrue}
-use Rattle.inlining.specs.Candidates.{is_candidate}
+use Rattle.inlining.specs.InPlace.{is_candidate}
 use Rattle.qbec.proofs.pipeline.candidate_of.Goals as goal
 
 pub returns-then-is_candidate : goal.returns-then-is_candidate

@@ -2,7 +2,7 @@ use Rattle.std.proofs.Common.{◌+◌, ◌*◌, ◌≤◌, length, arith}
 use Rattle.std.proofs.lemmas.Result.{IfOk-weaker}
 use Rattle.il_ast.specs.declared.function.Func.{Func}
 use Rattle.il_ast.specs.Prelude.{weight}
-use Rattle.promote.specs.Promoted.{IsPromoted}
+use Rattle.promote.specs.Uses.{IsPromoted}
 use Rattle.asm_layout.specs.Forms.{HaveForm}
 use Rattle.qbec.specs.Pipeline.{StandWith, StandWithin}
 use Rattle.qbec.proofs.PromotedFunctions.{still_good, same_weights}

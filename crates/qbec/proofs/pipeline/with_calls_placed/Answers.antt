@@ -1,6 +1,6 @@
 use Rattle.std.proofs.lemmas.Result.{IfOk-weaker}
 use Rattle.vcode.specs.Prelude.{virtual_code}
-use Rattle.inlining.specs.Placed.{KeepsCalls}
+use Rattle.inlining.specs.InPlace.{KeepsCalls}
 use Rattle.qbec.specs.Pipeline.{IsCodeWith}
 use Rattle.qbec.proofs.Placing.{placed_is}
 use Rattle.qbec.proofs.pipeline.with_calls_placed.Goals as goal

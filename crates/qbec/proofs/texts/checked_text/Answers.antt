@@ -1,7 +1,7 @@
 use Rattle.std.proofs.Common.{sym, ◌∙◌, subst, ap}
 use Rattle.il_types.specs.Prelude.{IsGood}
 use Rattle.qbec.specs.declared.error.CompileError.{CompileError}
-use Rattle.qbec.specs.Reasons.{RefusesText, read_refusal, check_refusal}
+use Rattle.qbec.specs.Refusals.{RefusesText, read_refusal, check_refusal}
 use Rattle.qbec.proofs.TextLemmas.{read_says, check_says}
 use Rattle.qbec.proofs.texts.checked_text.Goals as goal
 

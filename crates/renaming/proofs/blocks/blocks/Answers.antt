@@ -4,8 +4,7 @@ use Rattle.vcode.specs.declared.code.Block.{Block}
 use Rattle.vcode.proofs.Lists.{item_next}
 use Rattle.il_ast.proofs.Listed.{append_one}
 use Rattle.renaming.specs.declared.plan.Renamed.{Renamed}
-use Rattle.renaming.specs.Renamed.{Owners, IsRenamedBlock, AllRenamed}
-use Rattle.renaming.specs.Named.{owners_of}
+use Rattle.renaming.specs.Renamed.{Owners, IsRenamedBlock, AllRenamed, owners_of}
 use Rattle.renaming.proofs.blocks.blocks.Goals as goal
 
 -- one block more

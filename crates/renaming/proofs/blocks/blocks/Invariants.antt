@@ -1,7 +1,6 @@
 use Rattle.std.proofs.Common.{◌≡◌, ℕ, List, ◌++◌, drop}
 use Rattle.vcode.specs.declared.code.Block.{Block}
-use Rattle.renaming.specs.Renamed.{AllRenamed}
-use Rattle.renaming.specs.Named.{owners_of}
+use Rattle.renaming.specs.Renamed.{AllRenamed, owners_of}
 use Rattle.renaming.proofs.blocks.blocks.Given as goal
 
 abbrev pub invariant-loop-number : goal.invariant-loop-number

@@ -1,8 +1,7 @@
 use Rattle.std.proofs.Common.{◌≡◌, ℕ, suc, ◌+◌, List, [], ◌∷◌, ◌++◌, take, sym, ◌∙◌, ap, subst, arith, rules}
 use Rattle.std.proofs.Math.Seq.{take-suc}
 use Rattle.vcode.specs.declared.line.Line.{Line}
-use Rattle.renaming.specs.Renamed.{Owners, IsRenamed, AreRenamed, NoLines, OneMore}
-use Rattle.renaming.specs.Named.{owners_of, names_of}
+use Rattle.renaming.specs.Renamed.{Owners, IsRenamed, AreRenamed, NoLines, OneMore, owners_of, names_of}
 use Rattle.renaming.proofs.blocks.lines.Goals as goal
 
 pub loop-number-init : goal.loop-number-init

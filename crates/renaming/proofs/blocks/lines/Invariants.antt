@@ -1,6 +1,5 @@
 use Rattle.std.proofs.Common.{◌≡◌, take}
-use Rattle.renaming.specs.Renamed.{AreRenamed}
-use Rattle.renaming.specs.Named.{owners_of, names_of}
+use Rattle.renaming.specs.Renamed.{AreRenamed, owners_of, names_of}
 use Rattle.renaming.proofs.blocks.lines.Given as goal
 
 abbrev pub invariant-loop-number : goal.invariant-loop-number

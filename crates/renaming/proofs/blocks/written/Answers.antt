@@ -1,7 +1,6 @@
 use Rattle.std.proofs.Common.{◌≡◌, ℕ, true, Option, ap, sym, ◌∙◌, rules}
 use Rattle.std.specs.Option.{option_map_or}
-use Rattle.renaming.specs.Renamed.{is_name, behind, with_destination}
-use Rattle.renaming.specs.Named.{owners_of, names_of}
+use Rattle.renaming.specs.Renamed.{is_name, behind, with_destination, owners_of, names_of}
 use Rattle.renaming.proofs.blocks.written.Goals as goal
 
 pub returns-then-is_called-clause-line : goal.returns-then-is_called-clause-line

@@ -2,8 +2,7 @@ use Rattle.std.proofs.Common.{◌≡◌, ℕ, ◌≤◌, true, List, IfSome, sym
 use Rattle.vcode.specs.declared.code.Block.{Block}
 use Rattle.vcode.specs.Prelude.{Becomes}
 use Rattle.vcode.proofs.Results.{becomes}
-use Rattle.renaming.specs.Renamed.{Owners, total, AllRenamed, start_at, keep_names}
-use Rattle.renaming.specs.Named.{owners_of}
+use Rattle.renaming.specs.Renamed.{Owners, total, AllRenamed, start_at, keep_names, owners_of}
 use Rattle.renaming.proofs.Keeping.{owed}
 use Rattle.renaming.proofs.rename.apply.Goals as goal
 

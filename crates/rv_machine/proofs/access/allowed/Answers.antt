@@ -1,6 +1,6 @@
 use Rattle.std.proofs.Common.{◌≡◌, ℕ, ◌+◌, ◌≤◌, ◌^◌, Bool, true, false, arith, sym, ◌∙◌, ap, refl}
 use Rattle.rv_isa.specs.Prelude.{each_of}
-use Rattle.rv_machine.specs.Access.{permits}
+use Rattle.rv_machine.specs.Entries.{permits}
 use Rattle.rv_machine.proofs.Spans.{each_goes_on, each_fails, each_done, allowed_none, allowed_is}
 use Rattle.rv_machine.proofs.MappedSpans.{each_mapped}
 use Rattle.rv_machine.proofs.access.allowed.Goals as goal

@@ -1,6 +1,6 @@
 use Rattle.std.proofs.Common.{◌≡◌, ◌+◌, ◌-◌, ℕ, Bool}
 use Rattle.rv_isa.specs.Prelude.{each_of}
-use Rattle.rv_machine.specs.Access.{permits}
+use Rattle.rv_machine.specs.Entries.{permits}
 use Rattle.rv_machine.proofs.access.allowed.Given as goal
 
 -- what is tested from here on is what is tested from the start

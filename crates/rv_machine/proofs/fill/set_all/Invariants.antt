@@ -1,5 +1,5 @@
 use Rattle.std.proofs.Common.{◌≡◌, ◌+◌, drop}
-use Rattle.rv_machine.specs.Start.{filled}
+use Rattle.rv_machine.specs.Steps.{filled}
 use Rattle.rv_machine.proofs.fill.set_all.Given as goal
 
 -- what is filled from here on is what is filled from the start

@@ -1,5 +1,5 @@
 use Rattle.std.proofs.Common.{◌≡◌, ◌++◌, drop}
-use Rattle.scheduling.specs.Scheduled.{scheduled_blocks}
+use Rattle.scheduling.specs.Independent.{scheduled_blocks}
 use Rattle.scheduling.proofs.swaps.push_scheduled.Given as goal
 
 abbrev pub invariant-loop-number : goal.invariant-loop-number

@@ -1,5 +1,5 @@
 use Rattle.std.proofs.Common.{◌≡◌, drop}
-use Rattle.scheduling.specs.Scheduled.{reordered}
+use Rattle.scheduling.specs.Independent.{reordered}
 use Rattle.scheduling.proofs.swaps.reorder.Given as goal
 
 abbrev pub invariant-loop-at : goal.invariant-loop-at

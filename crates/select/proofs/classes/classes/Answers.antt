@@ -1,5 +1,5 @@
 use Rattle.std.proofs.Common.{◌++◌, ◌∙◌, ap, length, flat_map}
-use Rattle.select.specs.Tables.{listed, phi_classes}
+use Rattle.select.specs.Narrow.{listed, phi_classes}
 use Rattle.select.proofs.TableOf.{table_long, table_is}
 use Rattle.select.proofs.classes.classes.Goals as goal
 

@@ -1,5 +1,5 @@
 use Rattle.std.proofs.Common.{◌≡◌, ◌++◌, take, flat_map}
-use Rattle.select.specs.Tables.{block_destinations}
+use Rattle.select.specs.Narrow.{block_destinations}
 use Rattle.select.proofs.classes.collect_blocks.Given as goal
 
 abbrev pub invariant-loop-block : goal.invariant-loop-block

@@ -1,5 +1,5 @@
 use Rattle.std.proofs.Common.{◌≡◌, ◌++◌, take, flat_map}
-use Rattle.select.specs.Tables.{inst_destinations}
+use Rattle.select.specs.Narrow.{inst_destinations}
 use Rattle.select.proofs.classes.collect_insts.Given as goal
 
 abbrev pub invariant-loop-inst : goal.invariant-loop-inst

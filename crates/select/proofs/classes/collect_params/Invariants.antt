@@ -1,5 +1,5 @@
 use Rattle.std.proofs.Common.{◌≡◌, ◌++◌, map, drop}
-use Rattle.select.specs.Tables.{param_destination}
+use Rattle.select.specs.Narrow.{param_destination}
 use Rattle.select.proofs.classes.collect_params.Given as goal
 
 abbrev pub invariant-loop-param : goal.invariant-loop-param

@@ -1,5 +1,5 @@
 use Rattle.std.proofs.Common.{◌≡◌, ◌++◌, map, drop}
-use Rattle.select.specs.Tables.{phi_destination}
+use Rattle.select.specs.Narrow.{phi_destination}
 use Rattle.select.proofs.classes.collect_phis.Given as goal
 
 abbrev pub invariant-loop-phi : goal.invariant-loop-phi

@@ -4,7 +4,7 @@ use Rattle.il_ast.specs.declared.operation.Class.{Class}
 use Rattle.il_ast.specs.declared.operation.Class.TheVariants.{W}
 use Rattle.il_ast.specs.declared.operand.Dest.{Dest}
 use Rattle.il_ast.specs.Prelude.{same_class}
-use Rattle.select.specs.Tables.{listed, has_word}
+use Rattle.select.specs.Narrow.{listed, has_word}
 use Rattle.select.proofs.classes.mark_words.Goals as goal
 
 -- one destination more

@@ -1,6 +1,6 @@
 use Rattle.std.proofs.Common.{◌≡◌, ◌<◌, ℕ, length, take, if◌then◌else◌}
 use Rattle.il_ast.specs.declared.operation.Class.TheVariants.{W}
-use Rattle.select.specs.Tables.{listed, has_word}
+use Rattle.select.specs.Narrow.{listed, has_word}
 use Rattle.select.proofs.classes.mark_words.Given as goal
 
 abbrev pub invariant-loop-to : goal.invariant-loop-to

@@ -1,6 +1,6 @@
 use Rattle.std.proofs.Common.{◌<◌, sym, ◌∙◌, ap, subst}
 use Rattle.std.proofs.lemmas.Result.{IfOk-weaker}
-use Rattle.select.specs.Tables.{has_word, word_or_long}
+use Rattle.select.specs.Narrow.{has_word, word_or_long}
 use Rattle.select.proofs.classes.own_classes.Goals as goal
 
 pub returns-clause-entries : goal.returns-clause-entries

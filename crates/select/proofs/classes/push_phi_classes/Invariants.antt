@@ -1,5 +1,5 @@
 use Rattle.std.proofs.Common.{◌≡◌, ◌++◌, take, flat_map}
-use Rattle.select.specs.Tables.{phi_classes}
+use Rattle.select.specs.Narrow.{phi_classes}
 use Rattle.select.proofs.classes.push_phi_classes.Given as goal
 
 abbrev pub invariant-loop-block : goal.invariant-loop-block

@@ -1,6 +1,5 @@
 use Rattle.std.proofs.Common.{◌≡◌, ◌++◌, drop}
-use Rattle.select.specs.Tables.{listed}
-use Rattle.select.specs.Narrow.{narrow_turns}
+use Rattle.select.specs.Narrow.{listed, narrow_turns}
 use Rattle.select.proofs.instruction.push_turns.Given as goal
 
 abbrev pub invariant-loop-inst : goal.invariant-loop-inst

@@ -1,4 +1,4 @@
-use Rattle.select.specs.Classes.{classes_in}
+use Rattle.select.specs.Selected.{classes_in}
 use Rattle.select.proofs.Stack.{takes_no_more}
 use Rattle.select.proofs.Weights.{weighs_no_more}
 use Rattle.select.proofs.WholeKept.{is_code}

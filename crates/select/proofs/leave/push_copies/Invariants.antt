@@ -1,6 +1,5 @@
 use Rattle.std.proofs.Common.{◌≡◌, ◌++◌, drop}
-use Rattle.select.specs.Tables.{listed}
-use Rattle.select.specs.Narrow.{narrow_copies}
+use Rattle.select.specs.Narrow.{listed, narrow_copies}
 use Rattle.select.proofs.leave.push_copies.Given as goal
 
 abbrev pub invariant-loop-assignment : goal.invariant-loop-assignment

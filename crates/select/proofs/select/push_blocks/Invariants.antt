@@ -1,6 +1,5 @@
 use Rattle.std.proofs.Common.{◌≡◌, ◌++◌, drop}
-use Rattle.select.specs.Tables.{listed}
-use Rattle.select.specs.Narrow.{narrow_blocks}
+use Rattle.select.specs.Narrow.{listed, narrow_blocks}
 use Rattle.select.proofs.select.push_blocks.Given as goal
 
 abbrev pub invariant-loop-number : goal.invariant-loop-number

@@ -1,6 +1,5 @@
 use Rattle.std.proofs.Common.{◌≡◌, ◌++◌, map, drop}
-use Rattle.select.specs.Tables.{listed}
-use Rattle.select.specs.Narrow.{narrow_edge}
+use Rattle.select.specs.Narrow.{listed, narrow_edge}
 use Rattle.select.proofs.select.push_edges.Given as goal
 
 abbrev pub invariant-loop-ending : goal.invariant-loop-ending

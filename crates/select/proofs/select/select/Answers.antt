@@ -5,8 +5,7 @@ use Rattle.phi_copies.specs.Endings.{Endings}
 use Rattle.phi_copies.proofs.Counting.{is_small}
 use Rattle.vcode.specs.declared.code.Code.{Code}
 use Rattle.vcode.specs.Prelude.{coded, frame_bound, virtual, code_weight}
-use Rattle.select.specs.Classes.{classes_in}
-use Rattle.select.specs.Invariants.{IsVirtual}
+use Rattle.select.specs.Selected.{classes_in, IsVirtual}
 use Rattle.select.proofs.Narrowing.{small, light, is_selected_by}
 use Rattle.select.proofs.Stack.{takes_no_more}
 use Rattle.select.proofs.Weights.{weighs_no_more}

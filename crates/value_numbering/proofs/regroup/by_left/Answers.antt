@@ -3,8 +3,7 @@ use Rattle.vcode.specs.declared.line.Line.{Line}
 use Rattle.vcode.specs.declared.line.Line.TheVariants.{Operate}
 use Rattle.vcode.specs.declared.place.Operand.{Operand}
 use Rattle.vcode.specs.declared.place.Operand.TheVariants.{At}
-use Rattle.value_numbering.specs.Regrouped.{IsRegrouped}
-use Rattle.value_numbering.specs.Reused.{Made, FirstRegrouped}
+use Rattle.value_numbering.specs.Reused.{IsRegrouped, Made, FirstRegrouped}
 use Rattle.value_numbering.proofs.regroup.by_left.Goals as goal
 
 pub returns-in-Some : goal.returns-in-Some

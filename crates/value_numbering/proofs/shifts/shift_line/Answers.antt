@@ -4,8 +4,7 @@ use Rattle.vcode.specs.declared.line.Line.{Line}
 use Rattle.vcode.specs.declared.line.Line.TheVariants.{Operate}
 use Rattle.vcode.specs.declared.line.Operation.TheVariants.{Reg}
 use Rattle.vcode.specs.declared.place.Operand.TheVariants.{At, Number}
-use Rattle.value_numbering.specs.Shifts.{IsHalfway}
-use Rattle.value_numbering.specs.Reused.{Made, Halfway}
+use Rattle.value_numbering.specs.Reused.{IsHalfway, Made, Halfway}
 use Rattle.value_numbering.proofs.shifts.shift_line.Goals as goal
 
 pub returns-in-Some : goal.returns-in-Some

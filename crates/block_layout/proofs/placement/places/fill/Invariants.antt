@@ -1,6 +1,5 @@
 use Rattle.std.proofs.Common.{◌≡◌, ℕ, ◌+◌, true, length, drop}
-use Rattle.block_layout.specs.Ordered.{place_in}
-use Rattle.block_layout.specs.Placed.{kept_place, names_blocks}
+use Rattle.block_layout.specs.Ordered.{place_in, kept_place, names_blocks}
 use Rattle.block_layout.proofs.placement.places.fill.Given as goal
 
 abbrev pub invariant-loop-i : goal.invariant-loop-i

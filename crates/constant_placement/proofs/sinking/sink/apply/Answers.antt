@@ -2,8 +2,7 @@ use Rattle.std.proofs.Common.{◌≡◌, ℕ, Option, IfSome, Vec, Global, List,
 use Rattle.vcode.specs.declared.code.Block.{Block}
 use Rattle.vcode.proofs.Results.{becomes_these}
 use Rattle.constant_placement.specs.declared.sinking.known.Known.{Known}
-use Rattle.constant_placement.specs.Known.{plan_at}
-use Rattle.constant_placement.specs.Sunk.{AllSunk}
+use Rattle.constant_placement.specs.Known.{plan_at, AllSunk}
 use Rattle.constant_placement.proofs.KeepingSunk.{owed}
 use Rattle.constant_placement.proofs.sinking.sink.apply.Goals as goal
 

@@ -4,8 +4,7 @@ use Rattle.vcode.specs.declared.code.Block.{Block}
 use Rattle.vcode.proofs.Lists.{item_next}
 use Rattle.constant_placement.specs.declared.sinking.known.Known.{Known}
 use Rattle.constant_placement.specs.declared.sinking.known.Plan.{Plan}
-use Rattle.constant_placement.specs.Known.{plan_at}
-use Rattle.constant_placement.specs.Sunk.{Sinks, IsSunk, AllSunk}
+use Rattle.constant_placement.specs.Known.{plan_at, Sinks, IsSunk, AllSunk}
 use Rattle.constant_placement.proofs.sinking.with_sets.all_sunk.Goals as goal
 use Rattle.il_ast.proofs.Listed.{append_one}
 

@@ -1,6 +1,6 @@
 use Rattle.std.proofs.Common.{ℕ, List, ◌++◌, drop}
 use Rattle.vcode.specs.declared.code.Block.{Block}
-use Rattle.constant_placement.specs.Sunk.{AllSunk}
+use Rattle.constant_placement.specs.Known.{AllSunk}
 use Rattle.constant_placement.proofs.sinking.with_sets.all_sunk.Given as goal
 
 abbrev pub invariant-loop-number : goal.invariant-loop-number

@@ -1,5 +1,5 @@
 use Rattle.std.proofs.Common.{◌≡◌, ◌++◌, map, take}
-use Rattle.constant_placement.specs.Sunk.{set_line}
+use Rattle.constant_placement.specs.Known.{set_line}
 use Rattle.constant_placement.proofs.sinking.with_sets.push_sets.Given as goal
 
 abbrev pub invariant-loop-known : goal.invariant-loop-known

@@ -1,7 +1,6 @@
 use Rattle.std.proofs.Common.{◌≡◌, true, List, ℕ, refl, sym, subst, take}
 use Rattle.vcode.specs.declared.line.Line.{Line}
-use Rattle.constant_placement.specs.Known.{stay_known}
-use Rattle.constant_placement.specs.Sunk.{Sets}
+use Rattle.constant_placement.specs.Known.{stay_known, Sets}
 use Rattle.constant_placement.proofs.sinking.with_sets.sinks.Goals as goal
 
 pub returns-then-is_paid : goal.returns-then-is_paid

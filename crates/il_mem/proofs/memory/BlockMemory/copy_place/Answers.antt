@@ -1,9 +1,6 @@
 use Rattle.std.proofs.Common.{subst, length-set, slice_set}
 use Rattle.il_ast.specs.Prelude.{Memory}
-use Rattle.il_mem.specs.Blocks.{blocks}
-use Rattle.il_mem.specs.Changed.{within_put}
-use Rattle.il_mem.specs.Found.{found}
-use Rattle.il_mem.specs.Places.{copied_place, Gives}
+use Rattle.il_mem.specs.Changed.{blocks, within_put, copied_place, Gives, found}
 use Rattle.il_mem.proofs.BlocksLemmas.{same_count, gives_nothing, copy_from_none, copy_to_none, copy_within_is}
 use Rattle.il_mem.proofs.FoundLemmas.{numbered_set, gives_set, gives_across, was_made, same_block, block_missing}
 use Rattle.il_mem.proofs.memory.BlockMemory.copy_place.Goals as goal

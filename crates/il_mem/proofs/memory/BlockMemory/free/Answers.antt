@@ -1,4 +1,4 @@
-use Rattle.il_mem.specs.Found.{found}
+use Rattle.il_mem.specs.Changed.{found}
 use Rattle.il_mem.proofs.BlocksLemmas.{same_count}
 use Rattle.il_mem.proofs.FoundLemmas.{numbered_less, freed, block_missing, dead_already}
 use Rattle.il_mem.proofs.memory.BlockMemory.free.Goals as goal

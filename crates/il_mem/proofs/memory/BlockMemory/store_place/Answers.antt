@@ -1,9 +1,6 @@
 use Rattle.std.proofs.Common.{subst, length-set, slice_set, option_and_then}
 use Rattle.il_ast.specs.Prelude.{byte_count, Memory, write_at, cells_for}
-use Rattle.il_mem.specs.Blocks.{blocks}
-use Rattle.il_mem.specs.Changed.{value_put}
-use Rattle.il_mem.specs.Found.{found}
-use Rattle.il_mem.specs.Places.{Gives}
+use Rattle.il_mem.specs.Changed.{blocks, value_put, Gives, found}
 use Rattle.il_mem.proofs.BlocksLemmas.{same_count, gives_nothing, put_made, put_none}
 use Rattle.il_mem.proofs.FoundLemmas.{numbered_set, gives_set, was_made, block_missing}
 use Rattle.il_mem.proofs.memory.BlockMemory.store_place.Goals as goal

@@ -1,6 +1,6 @@
 use Rattle.std.proofs.Common.{drop}
 use Rattle.propagation.specs.FactTable.{facts_of}
-use Rattle.propagation.specs.Claimed.{AreKnown}
+use Rattle.propagation.specs.Forwarded.{AreKnown}
 use Rattle.propagation.proofs.constants.claim.are_known.Given as goal
 
 abbrev pub invariant-loop-claim : goal.invariant-loop-claim

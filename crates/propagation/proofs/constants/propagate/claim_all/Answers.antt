@@ -2,10 +2,8 @@ use Rattle.std.proofs.Common.{◌≡◌, List, ◌+◌, length, drop, sym, ap, �
 use Rattle.std.proofs.Math.Path.{fun_ext}
 use Rattle.vcode.proofs.Lists.{item_next}
 use Rattle.propagation.specs.declared.constants.claim.Claim.{Claim}
-use Rattle.propagation.specs.Facts.{Facts}
-use Rattle.propagation.specs.FactTable.{facts_of}
-use Rattle.propagation.specs.After.{after}
-use Rattle.propagation.specs.Claimed.{making, claimed}
+use Rattle.propagation.specs.FactTable.{Facts, facts_of}
+use Rattle.propagation.specs.Forwarded.{after, making, claimed}
 use Rattle.propagation.proofs.constants.propagate.claim_all.Goals as goal
 
 pub loop-claim-preserved : goal.loop-claim-preserved

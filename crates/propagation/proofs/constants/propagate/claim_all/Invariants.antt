@@ -1,6 +1,6 @@
 use Rattle.std.proofs.Common.{◌≡◌, ◌<◌, ◌^◌, ◌+◌, length, drop}
 use Rattle.propagation.specs.FactTable.{facts_of, IsTable}
-use Rattle.propagation.specs.Claimed.{claimed}
+use Rattle.propagation.specs.Forwarded.{claimed}
 use Rattle.propagation.proofs.constants.propagate.claim_all.Given as goal
 
 abbrev pub invariant-loop-claim : goal.invariant-loop-claim

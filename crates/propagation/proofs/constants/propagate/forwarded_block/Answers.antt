@@ -5,10 +5,8 @@ use Rattle.vcode.specs.declared.line.Jump.{Jump}
 use Rattle.vcode.specs.declared.code.Block.{Block}
 use Rattle.propagation.specs.declared.constants.claim.Claim.{Claim}
 use Rattle.propagation.specs.declared.constants.claim.Entry.{Entry}
-use Rattle.propagation.specs.Facts.{Facts}
-use Rattle.propagation.specs.FactTable.{facts_of}
-use Rattle.propagation.specs.Claimed.{claimed, known_at}
-use Rattle.propagation.specs.Forwarded.{IsPutJump, AreForwarded, IsForwarded}
+use Rattle.propagation.specs.FactTable.{Facts, facts_of}
+use Rattle.propagation.specs.Forwarded.{claimed, known_at, IsPutJump, AreForwarded, IsForwarded}
 use Rattle.propagation.proofs.MakingFacts.{as_it_was}
 use Rattle.propagation.proofs.constants.propagate.forwarded_block.Goals as goal
 

@@ -2,8 +2,7 @@ use Rattle.std.proofs.Common.{◌≡◌, ℕ, List, [], ◌∷◌, ◌++◌, len
 use Rattle.std.proofs.lemmas.List.{drop_all, append-nil}
 use Rattle.vcode.specs.declared.line.Line.{Line}
 use Rattle.propagation.specs.FactTable.{facts_of}
-use Rattle.propagation.specs.Forwarded.{AreForwarded}
-use Rattle.propagation.specs.After.{after}
+use Rattle.propagation.specs.Forwarded.{AreForwarded, after}
 use Rattle.propagation.proofs.MakingFacts.{lines_on}
 use Rattle.propagation.proofs.constants.propagate.forwarded_lines.Goals as goal
 use Rattle.il_ast.proofs.Listed.{append_one}

@@ -1,8 +1,7 @@
 use Rattle.std.proofs.Common.{length, sym, ◌∙◌, ap}
 use Rattle.std.proofs.Math.Path.{fun_ext}
-use Rattle.propagation.specs.Facts.{Facts}
-use Rattle.propagation.specs.FactTable.{facts_of, changed, over}
-use Rattle.propagation.specs.After.{fact_of}
+use Rattle.propagation.specs.FactTable.{Facts, facts_of, changed, over}
+use Rattle.propagation.specs.Forwarded.{fact_of}
 use Rattle.propagation.proofs.Writing.{known_low}
 use Rattle.propagation.proofs.MakingFacts.{after_write, after_nothing}
 use Rattle.propagation.proofs.constants.propagate.pass.Goals as goal

@@ -3,8 +3,7 @@ use Rattle.vcode.specs.declared.code.Block.{Block}
 use Rattle.vcode.proofs.Results.{becomes}
 use Rattle.propagation.specs.declared.constants.claim.Claim.{Claim}
 use Rattle.propagation.specs.declared.constants.claim.Entry.{Entry}
-use Rattle.propagation.specs.Claimed.{claims_at}
-use Rattle.propagation.specs.Forwarded.{AllForwarded}
+use Rattle.propagation.specs.Forwarded.{claims_at, AllForwarded}
 use Rattle.propagation.proofs.KeepingFacts.{owed}
 use Rattle.propagation.proofs.constants.propagate.propagated.Goals as goal
 

@@ -1,7 +1,6 @@
 use Rattle.std.proofs.Common.{◌≡◌, ◌++◌, drop, map}
 use Rattle.std.specs.List.{concat}
-use Rattle.qbec.specs.Listing.{symbol_line}
-use Rattle.qbec.specs.Symbols.{entry}
+use Rattle.qbec.specs.Symbols.{symbol_line, entry}
 use Rattle.qbec.proofs.symbols.listing.lines_of.Given as goal
 
 abbrev pub invariant-loop-symbol : goal.invariant-loop-symbol

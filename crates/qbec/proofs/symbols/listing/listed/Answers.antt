@@ -3,7 +3,7 @@ use Rattle.rv_isa.specs.Prelude.{Words}
 use Rattle.obj_link.specs.Prelude.{contents_of, program}
 use Rattle.elf_file.specs.Conditions.{Loads}
 use Rattle.elf_file.specs.File.{executable_of}
-use Rattle.qbec.specs.Listing.{listing_of}
+use Rattle.qbec.specs.Symbols.{listing_of}
 use Rattle.qbec.proofs.symbols.listing.listed.Goals as goal
 
 pub returns : goal.returns

@@ -1,7 +1,6 @@
 use Rattle.std.proofs.Common.{◌≡◌, ℕ, [], zero, suc, true, if◌then◌else◌, slice_get, Option, Some, None, IfOk, refl, ap, ◌∙◌, subst}
 use Rattle.std.proofs.Math.Path.{fun_ext}
-use Rattle.renaming.specs.Renamed.{Names, is_plain, plain_names, all_called}
-use Rattle.renaming.specs.Named.{owners_of, listed, names_of}
+use Rattle.renaming.specs.Renamed.{Names, is_plain, plain_names, all_called, owners_of, listed, names_of}
 use Rattle.renaming.proofs.names.Names.begin.Goals as goal
 
 none_listed : (o : Option ℕ) (r : ℕ) → listed [] o r ≡ None

@@ -1,6 +1,5 @@
 use Rattle.std.proofs.Common.{◌≡◌, drop, true}
-use Rattle.renaming.specs.Renamed.{all_called, are_names}
-use Rattle.renaming.specs.Named.{owners_of, names_of}
+use Rattle.renaming.specs.Renamed.{all_called, are_names, owners_of, names_of}
 use Rattle.renaming.proofs.names.Names.call_all.Given as goal
 
 abbrev pub invariant-loop-renamed : goal.invariant-loop-renamed

@@ -1,7 +1,7 @@
 use Rattle.std.proofs.Common.{◌≡◌, ℕ, sym, ◌∙◌, ap, subst, to_z, of_z, ℤ, w32}
 use Rattle.rv_isa.specs.Prelude.{State, register, moved, load, store, act, environment_call}
 use Rattle.rv_isa.specs.declared.instruction.Instr.{Instr}
-use Rattle.rv_machine.specs.Machine.{view}
+use Rattle.rv_machine.specs.Entries.{view}
 use Rattle.rv_machine.specs.Steps.{MayWant}
 use Rattle.rv_machine.proofs.AtOnce.{narrow16, narrow32}
 use Rattle.rv_machine.proofs.StepLaws.{gives_by}

@@ -1,6 +1,6 @@
 use Rattle.std.proofs.Common.{◌≡◌, true, sym, ◌∙◌}
 use Rattle.rv_isa.specs.Prelude.{can_read}
-use Rattle.rv_machine.specs.Machine.{view}
+use Rattle.rv_machine.specs.Entries.{view}
 use Rattle.rv_machine.proofs.StepLaws.{load_gives}
 use Rattle.rv_machine.proofs.machine.Machine.load_by_bytes.Goals as goal
 

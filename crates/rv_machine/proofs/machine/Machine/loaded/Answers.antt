@@ -1,7 +1,7 @@
 -- What the memory answered at once may be read.
 use Rattle.std.proofs.Common.{ap, sym}
 use Rattle.rv_isa.specs.Prelude.{load_size}
-use Rattle.rv_machine.specs.Machine.{view}
+use Rattle.rv_machine.specs.Entries.{view}
 use Rattle.rv_machine.proofs.AtOnce.{may_read}
 use Rattle.rv_machine.proofs.machine.Machine.loaded.Goals as goal
 

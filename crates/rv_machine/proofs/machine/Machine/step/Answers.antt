@@ -1,6 +1,6 @@
 use Rattle.std.proofs.Common.{◌≡◌, true, sym, ◌∙◌, refl}
 use Rattle.rv_isa.specs.Prelude.{can_execute, act, step}
-use Rattle.rv_machine.specs.Machine.{view}
+use Rattle.rv_machine.specs.Entries.{view}
 use Rattle.rv_machine.proofs.StepLaws.{gives_by, step_refused, step_unknown, step_known}
 use Rattle.rv_machine.proofs.machine.Machine.step.Goals as goal
 

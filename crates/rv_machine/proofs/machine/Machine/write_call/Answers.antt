@@ -1,6 +1,6 @@
 use Rattle.std.proofs.Common.{◌≡◌, ℕ, true, sym, ◌∙◌, ap, List, ◌++◌, ◌%◌, ◌^◌}
 use Rattle.rv_isa.specs.Prelude.{State, register, a0, bytes_at, can_read}
-use Rattle.rv_machine.specs.Machine.{view}
+use Rattle.rv_machine.specs.Entries.{view}
 use Rattle.rv_machine.proofs.StepLaws.{write_done}
 use Rattle.rv_machine.proofs.machine.Machine.write_call.Goals as goal
 
