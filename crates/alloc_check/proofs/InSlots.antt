@@ -4,7 +4,8 @@ use Rattle.il_ast.specs.declared.operation.Class.{Class}
 use Rattle.il_ast.specs.declared.value.Value.{Value}
 use Rattle.il_ast.specs.declared.value.Value.TheVariants.{Integer, Pointer, Function}
 use Rattle.il_ast.specs.declared.value.End.TheVariants.{Turns}
-use Rattle.il_ast.specs.Prelude.{in_place, byte_count, Memory, store, copy, fresh, stored_class, one_turn, both, Outcome, Returned, Ended, Over, Event, Does, Calls, Asked, Given, Fine, TogetherNext, Together, Lockstep}
+use Rattle.il_ast.specs.Prelude.{in_place, byte_count, Memory, store, copy, fresh, stored_class, one_turn, both, Outcome, Returned, Ended, Over, Event, Does, Calls, Asked, Given, Fine}
+use Rattle.il_ast.proofs.Simulation.{TogetherNext, Together, Lockstep}
 use Rattle.il_ast.proofs.Simulated.{lockstep_keeps}
 use Rattle.vcode.specs.declared.place.Location.{Location}
 use Rattle.vcode.specs.declared.place.Location.TheVariants.{Slot}

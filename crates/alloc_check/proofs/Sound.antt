@@ -7,7 +7,8 @@ use Rattle.il_ast.specs.declared.operation.Class.{Class}
 use Rattle.il_ast.specs.declared.value.Value.{Value}
 use Rattle.il_ast.specs.declared.value.Value.TheVariants.{Integer, Pointer, Function}
 use Rattle.il_ast.specs.declared.value.End.TheVariants.{Turns}
-use Rattle.il_ast.specs.Prelude.{byte_count, Memory, store, copy, fresh, stored_class, one_turn, both, Outcome, Returned, Ended, Next, On, Over, Event, Does, Calls, Asked, Given, Fine, AreArgs, Leads, Matches, MatchesEvent, Simulates, TogetherNext, Together}
+use Rattle.il_ast.specs.Prelude.{byte_count, Memory, store, copy, fresh, stored_class, one_turn, both, Outcome, Returned, Ended, Next, On, Over, Event, Does, Calls, Asked, Given, Fine, AreArgs}
+use Rattle.il_ast.proofs.Simulation.{Leads, Matches, MatchesEvent, Simulates, TogetherNext, Together}
 use Rattle.il_ast.proofs.Simulated.{simulation_keeps}
 use Rattle.vcode.specs.declared.place.Location.{Location}
 use Rattle.vcode.specs.declared.place.Operand.{Operand}

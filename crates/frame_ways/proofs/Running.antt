@@ -4,7 +4,8 @@ use Rattle.std.proofs.lemmas.Bool.{and_parts, eqb-true}
 use Rattle.il_ast.proofs.Listed.{get_mapped}
 use Rattle.il_ast.specs.declared.operation.Class.{Class}
 use Rattle.il_ast.specs.declared.value.End.TheVariants.{Turns}
-use Rattle.il_ast.specs.Prelude.{On, Over, Does, Entry, Logged, one_turn, both, Matches, MatchesEvent, Simulates, TogetherNext, Together}
+use Rattle.il_ast.specs.Prelude.{On, Over, Does, Entry, Logged, one_turn, both}
+use Rattle.il_ast.proofs.Simulation.{Matches, MatchesEvent, Simulates, TogetherNext, Together}
 use Rattle.il_ast.proofs.Simulated.{simulated, event_together}
 use Rattle.vcode.specs.declared.place.Location.{Location}
 use Rattle.vcode.specs.declared.place.Destination.{Destination}

@@ -11,3 +11,4 @@ pub mod Listed
 pub mod Alike
 pub mod Measured
 pub mod Wrapping
+pub mod Simulation

@@ -1,6 +1,7 @@
 -- A code that simulates another keeps it; what keeps is composed.
 use Rattle.std.proofs.Common.{◌≡◌, ℕ, zero, suc, List, [], ◌∷◌, refl, sym, subst}
-use Rattle.il_ast.specs.Prelude.{Class, Next, On, Over, Event, Does, Calls, Entry, LoggedNext, LoggedEvent, Logged, Outcome, Asked, Given, AreArgs, Body, Fine, KeepsMeaning, KeepsCode, Leads, Matches, MatchesEvent, Simulates, TogetherNext, Together, Lockstep}
+use Rattle.il_ast.specs.Prelude.{Class, Next, On, Over, Event, Does, Calls, Entry, LoggedNext, LoggedEvent, Logged, Outcome, Asked, Given, AreArgs, Body, Fine, KeepsMeaning, KeepsCode}
+use Rattle.il_ast.proofs.Simulation.{Leads, Matches, MatchesEvent, Simulates, TogetherNext, Together, Lockstep}
 
 -- ---- composing
 

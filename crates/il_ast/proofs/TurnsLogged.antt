@@ -1,6 +1,7 @@
 -- A code that takes each turn of a function's body keeps what the body means.
 use Rattle.std.proofs.Common.{◌≡◌, ℕ, zero, suc, ◌+◌, ◌-◌, ◌≤◌, List, [], ◌∷◌, ◌++◌, refl, sym, ◌∙◌, ap, subst, arith, Some, None, append-nil, append_assoc, Option}
-use Rattle.il_ast.specs.Prelude.{Dest, Class, Value, End, Exit, Halt, Undefined, Stack, Turns, Memory, Env, Activation, Effect, Goes, Returns, Ends, assign, effect, Spent, nothing, one_turn, both, Outcome, Returned, Ended, after, Callees, Rest, receive, resume, perform, run, begun, body, Next, On, Over, Event, Calls, Asked, Given, AreArgs, Fine, Log, AllGo, KeepsMeaning, Leads, Stands, ComesTo, EndsIn, Receives, Resumes, TakesTurn, Takes, TakesTurns}
+use Rattle.il_ast.specs.Prelude.{Dest, Class, Value, End, Exit, Halt, Undefined, Stack, Turns, Memory, Env, Activation, Effect, Goes, Returns, Ends, assign, effect, Spent, nothing, one_turn, both, Outcome, Returned, Ended, after, Callees, Rest, receive, resume, perform, run, begun, body, Next, On, Over, Event, Calls, Asked, Given, AreArgs, Fine, Log, AllGo, KeepsMeaning}
+use Rattle.il_ast.proofs.Simulation.{Leads, Stands, ComesTo, EndsIn, Receives, Resumes, TakesTurn, Takes, TakesTurns}
 use Rattle.il_ast.specs.Effect.{Calls as CallsFor}
 use Rattle.il_ast.proofs.Simulated.{LoggedFrom, lead_back, call_back}
 

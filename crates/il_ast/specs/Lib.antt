@@ -13,7 +13,6 @@ pub mod ExamplePrograms
 pub mod Examples
 pub mod Logged
 pub mod Keeps
-pub mod Simulation
 pub mod Written
 pub mod Passes
 pub mod Types

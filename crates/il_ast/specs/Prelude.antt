@@ -18,7 +18,6 @@ unfoldable pub use Rattle.il_ast.specs.Operations.{operate_one, operate_two}
 pub use Rattle.il_ast.specs.Passes.{Coded, IsCodeOf, Keeps, body_of, classes_of}
 pub use Rattle.il_ast.specs.Run.{Callees, Ended, Outcome, Rest, Returned, Spent, after, begun, body, both, nothing, one_call, one_turn, perform, price, receive, resume, with_args}
 unfoldable pub use Rattle.il_ast.specs.Run.{run}
-pub use Rattle.il_ast.specs.Simulation.{ComesTo, EndsIn, Leads, Lockstep, Matches, MatchesEvent, Receives, Resumes, Simulates, Stands, Takes, TakesTurn, TakesTurns, Together, TogetherNext}
 pub use Rattle.il_ast.specs.Start.{address_cells, field_cells, globals_of, item_cells, list_cells, object_cells, pointers_from, start_memory, target_value, values_of, word_cells}
 pub use Rattle.il_ast.specs.Symbols.{symbols_at_end, symbols_in_block, symbols_in_definition, symbols_in_field, symbols_in_inst, symbols_in_item, symbols_in_jump, symbols_in_phi, symbols_in_value, symbols_of}
 pub use Rattle.il_ast.specs.Types.{Block, Branch, Callee, Class, Defined, Dest, End, Exit, Func, Function, Goto, Halt, InText, Inst, Integer, Jump, L, Lined, Param, Phi, Pointer, Program, Return, Stack, SystemExit, SystemWrite, Turns, Undefined, Val, Value, W}

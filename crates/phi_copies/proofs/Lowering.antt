@@ -18,7 +18,8 @@ use Rattle.il_ast.specs.declared.function.Func.{Func}
 use Rattle.il_ast.specs.declared.value.Value.{Value}
 use Rattle.il_ast.specs.declared.value.Value.TheVariants.{Integer, Pointer, Function}
 use Rattle.il_ast.specs.declared.value.End.TheVariants.{Turns}
-use Rattle.il_ast.specs.Prelude.{in_place, Memory, phi_count, Env, Activation, InstEffect, Done, Asks, Fails, value_at, operand, assign, inst_effect, phi_values, with_phis, place_of, entered, enter_at, enter_place, enter, branched, returned, return_value, jump_effect, end_effect, after_inst, turn_in, turn_of, effect, branch_to, Spent, nothing, one_turn, both, Outcome, Returned, Ended, with_args, begun, Next, On, Over, Event, Does, Calls, Asked, Given, Leads, ComesTo, Receives, Resumes, TakesTurn, Takes, TakesTurns, classes_of}
+use Rattle.il_ast.specs.Prelude.{in_place, Memory, phi_count, Env, Activation, InstEffect, Done, Asks, Fails, value_at, operand, assign, inst_effect, phi_values, with_phis, place_of, entered, enter_at, enter_place, enter, branched, returned, return_value, jump_effect, end_effect, after_inst, turn_in, turn_of, effect, branch_to, Spent, nothing, one_turn, both, Outcome, Returned, Ended, with_args, begun, Next, On, Over, Event, Does, Calls, Asked, Given, classes_of}
+use Rattle.il_ast.proofs.Simulation.{Leads, ComesTo, Receives, Resumes, TakesTurn, Takes, TakesTurns}
 use Rattle.il_ast.proofs.TurnsLogged.{turns_keep, both_assoc}
 use Rattle.phi_copies.specs.declared.ending.Leave.TheVariants.{Goto as GotoBlock, Branch as BranchTo, Return as ReturnWith, Halt as HaltRun}
 use Rattle.phi_copies.specs.declared.ending.Ending.{Ending}

@@ -28,7 +28,8 @@ use Rattle.propagation.specs.declared.constants.fact.Fact.TheVariants.{Same, Sum
 use Rattle.propagation.specs.declared.constants.claim.Claim.{Claim}
 use Rattle.propagation.specs.declared.constants.claim.Entry.{Entry}
 use Rattle.propagation.specs.Forwarded.{claims_at, making, claimed, known_at, is_short, copied, propagate, regrouped, grouped, folded, operands_of, further, from_base, with_address, with_line, test_of, tested_by, with_test, with_branch, numbers_hold, decided, with_jump, IsPut, IsPutJump, AreForwarded, IsForwarded, AllForwarded, is_add, writes_it, fact_of, leaves, after}
-use Rattle.propagation.specs.FactTable.{Facts, operand_below, fact_below, kept_if, AreBelow, shortened}
+use Rattle.propagation.specs.FactTable.{Facts, operand_below, fact_below, kept_if, shortened}
+use Rattle.propagation.proofs.Meant.{AreBelow}
 use Rattle.propagation.proofs.Computing.{unchanged, any_cheaper}
 use Rattle.propagation.proofs.RunningFacts.{runs}
 

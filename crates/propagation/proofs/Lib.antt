@@ -7,3 +7,4 @@ pub mod KeepingFacts
 pub mod RunningCopies
 pub mod KeepingCopies
 pub mod MakingCopies
+pub mod Meant

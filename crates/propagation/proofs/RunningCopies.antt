@@ -9,7 +9,8 @@ use Rattle.vcode.specs.declared.line.Line.{Line}
 use Rattle.vcode.specs.declared.line.Line.TheVariants.{Tick, Set, Operate, Load, Store, Alloc, Blit, Call}
 use Rattle.vcode.specs.declared.line.Jump.{Jump}
 use Rattle.vcode.specs.declared.code.Code.{Code}
-use Rattle.vcode.specs.Prelude.{Values, virtual, classes_in, begin, step, with_line, with_jump, line_writes, Act, act, written, Way, Lost, Enters, Answers, Halts, way, Follows, Jumps, Both, Rewrites, Facts, claimed}
+use Rattle.vcode.specs.Prelude.{Values, virtual, classes_in, begin, step, with_line, with_jump, line_writes, Act, act, written, Way, Lost, Enters, Answers, Halts, way, Follows, Jumps, Both, Rewrites}
+use Rattle.vcode.proofs.Facts.{Facts, claimed}
 use Rattle.vcode.proofs.Alike.{MayLeave}
 use Rattle.vcode.proofs.SameReads.{SameValue}
 use Rattle.vcode.proofs.SameActs.{reads_every, jump_reads_every, act_same, way_same, writes_stay}

@@ -26,7 +26,8 @@ use Rattle.vcode.specs.declared.line.Jump.TheVariants.{Goto, Branch, Return, Hal
 use Rattle.vcode.specs.declared.line.Operation.TheVariants.{Reg, RegW, Compare}
 use Rattle.vcode.specs.declared.code.Block.{Block}
 use Rattle.vcode.specs.declared.code.Code.{Code}
-use Rattle.vcode.specs.Prelude.{is_immediate, affords, low, distance, beyond, operate, loaded, passed as passed_value, Values, assign, virtual, unknown, classes_in, State, begin, bound, value_of, read, read_result, operated, address_of, compared, step, Replacing, with_base, with_comparison, line_writes, Act, Gives, given, left, act, written, Way, Enters, entering, answering, way, Alike, LeadAlike, Follows, Jumps, Both, Facts as About, claimed}
+use Rattle.vcode.specs.Prelude.{is_immediate, affords, low, distance, beyond, operate, loaded, passed as passed_value, Values, assign, virtual, unknown, classes_in, State, begin, bound, value_of, read, read_result, operated, address_of, compared, step, Replacing, with_base, with_comparison, line_writes, Act, Gives, given, left, act, written, Way, Enters, entering, answering, way, Alike, LeadAlike, Follows, Jumps, Both}
+use Rattle.vcode.proofs.Facts.{Facts as About, claimed}
 use Rattle.vcode.proofs.SameReads.{SameValue, two_same}
 use Rattle.vcode.proofs.SameActs.{reads_every, act_same}
 use Rattle.vcode.proofs.Alike.{MayLeave}
@@ -38,7 +39,8 @@ use Rattle.propagation.specs.declared.constants.fact.Fact.TheVariants.{Same, Sum
 use Rattle.propagation.specs.declared.constants.claim.Claim.{Claim}
 use Rattle.propagation.specs.declared.constants.claim.Entry.{Entry}
 use Rattle.propagation.specs.Forwarded.{claims_at, making, claimed as claimed_in, known_at, AreKnown, LeadsWell, is_short, copied, propagate, regrouped, grouped, folded, further, from_base, with_address, with_line, test_of, tested_by, with_test, with_branch, numbers_hold, decided, with_jump, IsPut, IsPutJump, AreForwarded, AllForwarded, is_add, sum_of, changes_memory, writes_it, fact_of, leaves, after}
-use Rattle.propagation.specs.FactTable.{Facts, names_it, fact_names, asks_memory, kept_if, fact_below, summed, Truth, AreTrue}
+use Rattle.propagation.specs.FactTable.{Facts, names_it, fact_names, asks_memory, kept_if, fact_below}
+use Rattle.propagation.proofs.Meant.{summed, Truth, AreTrue}
 use Rattle.propagation.proofs.Computing.{numbers_compared, unchanged, shortened_act}
 use Rattle.il_ast.proofs.Truth.{equals_itself, equal_turned}
 use Rattle.il_ast.proofs.Wrapping.{further_sum}

@@ -1,13 +1,11 @@
 -- What registers are known to hold, as a table has it: facts with the times since when they are
 -- known, and when registers and memory were last written.
-use Rattle.std.specs.Prelude.{◌≡◌, ℕ, Bool, true, false, ◌&&◌, ◌||◌, nat_eq, nat_lt, if◌then◌else◌, List, [], ◌%◌, ◌^◌, Option, Some, None, ◌<◌, ◌≤◌, not, nat_le, length, slice_get, ◌-◌, option_and_then}
-use Rattle.il_ast.specs.declared.value.Value.{Value}
-use Rattle.il_ast.specs.declared.value.Value.TheVariants.{Integer}
+use Rattle.std.specs.Prelude.{◌≡◌, ℕ, Bool, true, false, ◌&&◌, ◌||◌, nat_eq, nat_lt, if◌then◌else◌, List, ◌%◌, ◌^◌, Option, Some, None, ◌<◌, ◌≤◌, not, nat_le, length, slice_get, ◌-◌, option_and_then}
 use Rattle.vcode.specs.declared.place.Operand.{Operand}
 use Rattle.vcode.specs.declared.place.Operand.TheVariants.{At, Number}
-use Rattle.rv_isa.specs.declared.instruction.RegOp.TheVariants.{Add, Sll, Srl, And, Mul, Divu, Remu}
+use Rattle.rv_isa.specs.declared.instruction.RegOp.TheVariants.{Sll, Srl, And, Mul, Divu, Remu}
 use Rattle.vcode.specs.declared.line.Operation.TheVariants.{Reg, RegW, Compare}
-use Rattle.vcode.specs.Prelude.{State, value_of, operated, compared, line_cost}
+use Rattle.vcode.specs.Prelude.{line_cost}
 use Rattle.propagation.specs.declared.constants.fact.Fact.{Fact}
 use Rattle.propagation.specs.declared.constants.fact.Fact.TheVariants.{Same, Sum, Test}
 use Rattle.std.specs.Option.{option_map_or}
@@ -42,20 +40,6 @@ asks_memory (Same a) = false
 asks_memory (Sum a n) = false
 asks_memory (Test c) = true
 
--- the sum of a value and a number, which asks no memory
-abbrev pub summed : Option Value → ℕ → Option Value
-summed o n = operated [] (Reg Add) o (Some (Integer (n % 2 ^ 64)))
-
--- the register holds what the operand does, the sum of that and the number, or what the comparison
--- gives
-abbrev pub Truth : List Value → State ℕ → ℕ → Fact → Type 0
-Truth globals s r (Same a) = s.values r ≡ value_of globals s.values a
-Truth globals s r (Sum a n) = s.values r ≡ summed (value_of globals s.values a) n
-Truth globals s r (Test c) = s.values r ≡ compared globals s c
-
-abbrev pub AreTrue : List Value → State ℕ → Facts → Type 0
-AreTrue globals s fs = (r : ℕ) (f : Fact) → fs r ≡ Some f → Truth globals s r f
-
 -- a fact, if it passes the test
 abbrev pub kept_if : (Fact → Bool) → Option Fact → Option Fact
 kept_if test None = None
@@ -70,9 +54,6 @@ abbrev pub fact_below : (n : ℕ) → Fact → Bool
 fact_below n (Same a) = operand_below n a
 fact_below n (Sum a m) = operand_below n a
 fact_below n (Test c) = operand_below n c.left && operand_below n c.right
-
-abbrev pub AreBelow : (n : ℕ) → Facts → Type 0
-AreBelow n fs = (r : ℕ) (f : Fact) → fs r ≡ Some f → fact_below n f ≡ true
 
 abbrev pub cell : List (Option DatedFact) → ℕ → Option DatedFact
 cell cells r = option_map_or (λ (k : Option DatedFact). k) (slice_get cells r) None

@@ -5,7 +5,8 @@ use Rattle.il_ast.specs.declared.operation.Class.{Class}
 use Rattle.il_ast.specs.declared.value.Value.{Value}
 use Rattle.il_ast.specs.declared.value.Value.TheVariants.{Integer, Pointer, Function}
 use Rattle.il_ast.specs.declared.value.End.TheVariants.{Turns}
-use Rattle.il_ast.specs.Prelude.{Memory, one_turn, both, Outcome, Returned, Ended, Next, On, Over, Event, Does, Calls, Asked, Given, Fine, KeepsCode, Keeps, MatchesEvent, Simulates, TogetherNext, Together}
+use Rattle.il_ast.specs.Prelude.{Memory, one_turn, both, Outcome, Returned, Ended, Next, On, Over, Event, Does, Calls, Asked, Given, Fine, KeepsCode, Keeps}
+use Rattle.il_ast.proofs.Simulation.{MatchesEvent, Simulates, TogetherNext, Together}
 use Rattle.il_ast.proofs.Simulated.{event_together, simulation_keeps, codes_compose}
 use Rattle.vcode.specs.declared.place.Location.{Location}
 use Rattle.vcode.specs.declared.place.Destination.{Destination}

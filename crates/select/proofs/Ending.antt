@@ -14,7 +14,8 @@ use Rattle.il_ast.specs.declared.function.Func.{Func}
 use Rattle.il_ast.specs.declared.value.Value.{Value}
 use Rattle.il_ast.specs.declared.value.Value.TheVariants.{Integer, Pointer, Function}
 use Rattle.il_ast.specs.declared.value.End.TheVariants.{Halt as Halted, Turns}
-use Rattle.il_ast.specs.Prelude.{free_all, truth, operate_two, operand, inst_effect, Spent, one_turn, both, Outcome, Returned, Ended, with_args, Next, On, Over, Event, Does, Calls, Asked, Fine, Leads, MatchesEvent, Simulates, classes_of}
+use Rattle.il_ast.specs.Prelude.{free_all, truth, operate_two, operand, inst_effect, Spent, one_turn, both, Outcome, Returned, Ended, with_args, Next, On, Over, Event, Does, Calls, Asked, Fine, classes_of}
+use Rattle.il_ast.proofs.Simulation.{Leads, MatchesEvent, Simulates}
 use Rattle.il_ast.proofs.Simulated.{simulation_keeps}
 use Rattle.phi_copies.specs.declared.ending.Assignment.{Assignment}
 use Rattle.phi_copies.specs.declared.ending.Leave.{Leave}

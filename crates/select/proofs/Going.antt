@@ -1,7 +1,8 @@
 -- Lines of a block, done one after another.
 use Rattle.std.proofs.Common.{◌≡◌, ℕ, ◌+◌, List, [], ◌∷◌, ◌++◌, length, refl, sym, ◌∙◌, ap, subst, arith, append_assoc, slice_get, Some, None, length-append, append-nil}
 use Rattle.il_ast.specs.declared.value.Value.{Value}
-use Rattle.il_ast.specs.Prelude.{Outcome, On, Event, Does, Asked, Given, Leads}
+use Rattle.il_ast.specs.Prelude.{Outcome, On, Event, Does, Asked, Given}
+use Rattle.il_ast.proofs.Simulation.{Leads}
 use Rattle.vcode.specs.declared.line.Line.{Line}
 use Rattle.vcode.specs.declared.code.Block.{Block}
 use Rattle.vcode.specs.declared.code.Code.{Code}

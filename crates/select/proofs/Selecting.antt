@@ -13,7 +13,8 @@ use Rattle.il_ast.specs.declared.function.Func.{Func}
 use Rattle.il_ast.specs.declared.value.Value.{Value}
 use Rattle.il_ast.specs.declared.value.Value.TheVariants.{Integer, Pointer, Function}
 use Rattle.il_ast.specs.declared.value.End.TheVariants.{Turns}
-use Rattle.il_ast.specs.Prelude.{byte_count, Memory, store, copy, fresh, inst_weight, operand_class, left_class, right_class, operate_one, operate_two, InstEffect, operand, all_operands, assigned, changed, stored_class, blit_weight, call_weight, call_effect, inst_effect, Spent, one_turn, both, Outcome, Returned, Ended, On, Over, Event, Does, Calls, Asked, Given, Fine, Leads, Matches, MatchesEvent}
+use Rattle.il_ast.specs.Prelude.{byte_count, Memory, store, copy, fresh, inst_weight, operand_class, left_class, right_class, operate_one, operate_two, InstEffect, operand, all_operands, assigned, changed, stored_class, blit_weight, call_weight, call_effect, inst_effect, Spent, one_turn, both, Outcome, Returned, Ended, On, Over, Event, Does, Calls, Asked, Given, Fine}
+use Rattle.il_ast.proofs.Simulation.{Leads, Matches, MatchesEvent}
 use Rattle.phi_copies.specs.Endings.{Endings, State as Source, goes_on, resumes as source_resumes}
 use Rattle.vcode.specs.declared.place.Destination.{Destination}
 use Rattle.vcode.specs.declared.place.Argument.{Argument}

@@ -15,7 +15,7 @@ use Rattle.rv_isa.specs.declared.instruction.RegWOp.TheVariants.{Addw}
 use Rattle.rv_isa.specs.Prelude.{reg_value, regw_value, word_value}
 use Rattle.vcode.specs.declared.line.Operation.TheVariants.{Reg, RegW}
 use Rattle.vcode.specs.Prelude.{operate, operated}
-use Rattle.value_numbering.specs.Known.{linear, grows}
+use Rattle.value_numbering.proofs.Meant.{linear, grows}
 use Rattle.value_numbering.specs.Steps.{stands, further, behind}
 use Rattle.value_numbering.specs.Reused.{before, next, is_least, is_most}
 use Rattle.il_ast.proofs.Wrapping.{further_sum}

@@ -23,7 +23,7 @@ use Rattle.vcode.specs.Prelude.{operate, loaded, extended, narrowed, Values, val
 use Rattle.value_numbering.specs.declared.fact.Expression.{Expression}
 use Rattle.value_numbering.specs.declared.fact.Expression.TheVariants.{Same, Operated, Extended, Loaded, Linear, Growing}
 use Rattle.value_numbering.specs.declared.extensions.Extension.{Extension}
-use Rattle.value_numbering.specs.Known.{gives, reached}
+use Rattle.value_numbering.proofs.Meant.{gives, reached}
 use Rattle.value_numbering.specs.Extensions.{extended_as, by_shifts, by_mask, by_sum, extension_with, extension_in, width, room, loads_zeros, loads_signs, covers, covers_some, covers_words, is_extended, other_way}
 use Rattle.value_numbering.proofs.Counting.{number, IsWord, word_given}
 

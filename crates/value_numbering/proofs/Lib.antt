@@ -7,3 +7,4 @@ pub mod Shifting
 pub mod Running
 pub mod Keeping
 pub mod Ticking
+pub mod Meant

@@ -21,7 +21,8 @@ use Rattle.vcode.specs.declared.line.Line.TheVariants.{Store}
 use Rattle.vcode.specs.Prelude.{operate, Values, operated, address_of, Gives, left, act}
 use Rattle.value_numbering.specs.declared.fact.Expression.{Expression}
 use Rattle.value_numbering.specs.declared.fact.Expression.TheVariants.{Same, Operated, Extended, Loaded, Linear, Growing}
-use Rattle.value_numbering.specs.Known.{gives, is_back, first_of}
+use Rattle.value_numbering.specs.Known.{is_back, first_of}
+use Rattle.value_numbering.proofs.Meant.{gives}
 use Rattle.value_numbering.specs.Reused.{extended_from, masked_from, low_of}
 use Rattle.value_numbering.proofs.Extending.{gives_one}
 

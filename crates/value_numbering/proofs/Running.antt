@@ -27,7 +27,8 @@ use Rattle.vcode.specs.declared.line.Jump.{Jump}
 use Rattle.vcode.specs.declared.line.Jump.TheVariants.{Goto, Branch, Return, Halt}
 use Rattle.vcode.specs.declared.code.Block.{Block}
 use Rattle.vcode.specs.declared.code.Code.{Code}
-use Rattle.vcode.specs.Prelude.{distance, operate, reg_on_places, loaded, Values, virtual, unknown, classes_in, begin, step, bound, value_of, operated, address_of, read_result, line_writes, Act, Gives, given, act, written, way, entering, answering, Alike, Follows, Jumps, Both, Facts as About, claimed}
+use Rattle.vcode.specs.Prelude.{distance, operate, reg_on_places, loaded, Values, virtual, unknown, classes_in, begin, step, bound, value_of, operated, address_of, read_result, line_writes, Act, Gives, given, act, written, way, entering, answering, Alike, Follows, Jumps, Both}
+use Rattle.vcode.proofs.Facts.{Facts as About, claimed}
 use Rattle.vcode.proofs.Alike.{MayLeave}
 use Rattle.vcode.proofs.Factual.{fact_line, fact_jump, facts_rewrite, Claimed}
 use Rattle.vcode.proofs.Rewriting.{rewrites_keep}
@@ -38,7 +39,8 @@ use Rattle.value_numbering.specs.declared.fact.Fact.{Fact}
 use Rattle.value_numbering.specs.declared.steps.Multiple.{Multiple}
 use Rattle.value_numbering.specs.declared.steps.Increment.{Increment}
 use Rattle.value_numbering.specs.declared.ways.Order.{Order}
-use Rattle.value_numbering.specs.Known.{reached, linear, grows, only_if, gives, IsTrueOf, computed, names, reads, asks_memory, changes_memory, spares, stays, copied_from, source_by, source, copied, shifted_in, first_of, shifted, is_back, extended_by, grows_as, grows_in, widened, joined, canonical, is_plain, kept_fact, known_by}
+use Rattle.value_numbering.specs.Known.{computed, names, reads, asks_memory, changes_memory, spares, stays, copied_from, source_by, source, copied, shifted_in, first_of, shifted, is_back, extended_by, grows_as, grows_in, widened, joined, canonical, is_plain, kept_fact, known_by}
+use Rattle.value_numbering.proofs.Meant.{reached, linear, only_if, gives, IsTrueOf, grows}
 use Rattle.value_numbering.specs.Steps.{product_in, product, product_of, beyond, linear_in, linear_note, word_in, is_word, is_word_by, is_own, word_of, makes_word, word_note, noted, other_by, added_to, ahead, growth, increment_of, increment_by, further, behind, with_offset, moved_linear, moved, if_stays, with_front, carried, kept, with_fact, after}
 use Rattle.sign_extensions.specs.Whole.{is_marked, takes_whole, keeps_marks, are_closed}
 use Rattle.sign_extensions.proofs.Values.{IfWhole, AreWhole, whole_number}

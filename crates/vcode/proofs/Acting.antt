@@ -5,7 +5,8 @@ use Rattle.il_ast.specs.declared.operation.Class.{Class}
 use Rattle.il_ast.specs.declared.value.Value.{Value}
 use Rattle.il_ast.specs.declared.value.Value.TheVariants.{Integer, Pointer, Function}
 use Rattle.il_ast.specs.declared.value.End.TheVariants.{Halt as Halted, Undefined, Turns}
-use Rattle.il_ast.specs.Prelude.{byte_count, Memory, store, copy, fresh, free_all, Call as Calling, stored_class, one_turn, both, Outcome, Returned, Ended, Next, On, Over, Event, Does, Calls, Asked, Given, Fine, TogetherNext, Together}
+use Rattle.il_ast.specs.Prelude.{byte_count, Memory, store, copy, fresh, free_all, Call as Calling, stored_class, one_turn, both, Outcome, Returned, Ended, Next, On, Over, Event, Does, Calls, Asked, Given, Fine}
+use Rattle.il_ast.proofs.Simulation.{TogetherNext, Together}
 use Rattle.vcode.specs.Prelude.{Destination, Argument, Line, Tick, Set, Operate, Load, Store, Alloc, Blit, Call, Jump, Goto, Branch, Return, Halt, held, loaded, Values, virtual, State, value_of, read, read_result, read_all, address_of, fails, goes_on, sets, changes, weighs, ticks, resumes, calls, line_step, enters, compared, branches, returns, jump_step, place_of, line_writes, Act, Fails, Spends, Gives, Leaves, Makes, Asks, given, left, asked, act, written, Way, Lost, Enters, Answers, Halts, entering, answering, way, BehindCall, DoAlike}
 
 -- ---- what a line's act performs

@@ -3,7 +3,8 @@ use Rattle.std.proofs.Common.{◌≡◌, ℕ, List, Option, Some, slice_get, ref
 use Rattle.il_ast.specs.declared.operation.Class.{Class}
 use Rattle.il_ast.specs.declared.value.Value.{Value}
 use Rattle.il_ast.specs.Prelude.{Memory, Given}
-use Rattle.vcode.specs.Prelude.{Line, Jump, Block, Code, Values, virtual, unknown, bound, line_writes, act, written, Way, Lost, Enters, Answers, Halts, way, Alike, Arrives, LeadAlike, Follows, Rewrites, Facts, claimed}
+use Rattle.vcode.specs.Prelude.{Line, Jump, Block, Code, Values, virtual, unknown, bound, line_writes, act, written, Way, Lost, Enters, Answers, Halts, way, Alike, Arrives, LeadAlike, Follows, Rewrites}
+use Rattle.vcode.proofs.Facts.{Facts, claimed}
 use Rattle.vcode.proofs.Alike.{Works, MayLeave, lines_alike}
 
 -- a line that does the same where the facts hold, and writes the same register; then other facts hold

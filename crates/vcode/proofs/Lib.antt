@@ -18,3 +18,4 @@ pub mod Measuring
 pub mod Results
 pub mod InPlace
 pub mod Weaker
+pub mod Facts

@@ -2,7 +2,8 @@
 use Rattle.std.proofs.Common.{◌≡◌, ℕ, ◌+◌, List, [], ◌∷◌, drop, Option, Some, None, slice_get, refl, sym, ◌∙◌, ap, subst}
 use Rattle.il_ast.specs.declared.operation.Class.{Class}
 use Rattle.il_ast.specs.declared.value.Value.{Value}
-use Rattle.il_ast.specs.Prelude.{Outcome, Event, Asked, Given, Fine, KeepsCode, Together, MatchesEvent, Simulates}
+use Rattle.il_ast.specs.Prelude.{Outcome, Event, Asked, Given, Fine, KeepsCode}
+use Rattle.il_ast.proofs.Simulation.{Together, MatchesEvent, Simulates}
 use Rattle.il_ast.proofs.Simulated.{event_together, step_before, simulation_keeps}
 use Rattle.vcode.specs.Prelude.{Line, Jump, Goto, Block, Code, classes_in, Values, virtual, State, begin, jump_step, step, line_writes, Act, Fails, Spends, Gives, Leaves, Makes, Asks, act, written, Way, Lost, Enters, Answers, Halts, way, Claims, OnlyGives, Arrives, Follows, Jumps, Both, Gone, Come, FirstOn, SecondOn, Less, Rewrites}
 use Rattle.vcode.proofs.Lists.{head_at, tail_at, nothing_at}

@@ -1,5 +1,5 @@
 -- The definitions that the code, proofs and crates above cite, passed on from one place. Declares nothing.
-pub use Rattle.vcode.specs.Rewrites.{Act, Answers, Asks, Enters, Fails, Gives, Halts, Leaves, Lost, Makes, Spends, Way, act, answering, asked, entering, given, left, way, written, Alike, Arrives, BehindCall, Both, Come, DoAlike, FirstOn, Follows, Gone, Jumps, LeadAlike, Less, MayCome, MayGo, OnlyGives, SecondOn, Rewrites, classes_in, coded, location_code, virtual_code, Claims, Facts, claimed, Becomes, with_these, line_writes, place_of}
+pub use Rattle.vcode.specs.Rewrites.{Act, Answers, Asks, Enters, Fails, Gives, Halts, Leaves, Lost, Makes, Spends, Way, act, answering, asked, entering, given, left, way, written, Alike, Arrives, BehindCall, Both, Come, DoAlike, FirstOn, Follows, Gone, Jumps, LeadAlike, Less, MayCome, MayGo, OnlyGives, SecondOn, Rewrites, classes_in, coded, location_code, virtual_code, Claims, Becomes, with_these, line_writes, place_of}
 pub use Rattle.vcode.specs.Addresses.{at_once, beyond, distance, low}
 pub use Rattle.vcode.specs.Cost.{affords, branch_cost, is_immediate, is_paid, jump_cost, line_cost, operand_cost, operation_cost, place_cost}
 pub use Rattle.vcode.specs.ExampleCodes.{block, code, destination, returned, straight}

@@ -252,22 +252,6 @@ pub record Rewrites (c : Claims) (v w : Code ℕ) : Type 0 where
       → (d : Block ℕ)
       × ((slice_get w.blocks n ≡ Some d) × Follows c v w p b.lines b.jump d.lines d.jump)
 
--- ---- claims of passes whose code is in the same state as the code before: facts on registers and
--- memory, known at the start of each block.
-pub record Facts : Type 1 where
-  pub Known : Type 0
-  pub hold : Known → List Value → Memory → Values ℕ → Type 0
-  pub at_start : (block : ℕ) → Known
-
--- registers hold the same, and what is known is true
-abbrev pub claimed : Facts → Claims
-claimed f =
-    record {
-      Claim = f.Known;
-      holds = λ q globals memory before after. (after ≡ before) × f.hold q globals memory before;
-      arrives = λ q k n. (n ≡ k) × (q ≡ f.at_start k);
-    }
-
 -- ---- what a pass owes of the blocks that it makes of a function's
 
 -- the code with other blocks

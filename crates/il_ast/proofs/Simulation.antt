@@ -13,8 +13,6 @@ Leads {T} {I} {O} step zero x y = x ≡ y
 Leads {T} {I} {O} step (suc k) x y =
     (t : T) × (x ≡ On t) × ((z : Next T O) × (step t ≡ Does z) × Leads step k z y)
 
--- ---- a code beside another, whose states are related
-
 -- the second comes to a related state, or to the same end; nothing is owed for an end that isn't
 -- fine
 abbrev pub Matches : {S T I O : Type 0} → (S → T → Type 0) → (O → Type 0) → (T → Event T I O) →
@@ -56,8 +54,6 @@ abbrev pub Lockstep : {S T I O : Type 0} → (S → T → Type 0) → (O → Typ
     (T → Event T I O) → Type 0
 Lockstep {S} {T} related fine step step2 =
     (s : S) (t : T) → related s t → Together related fine (step s) (step2 t)
-
--- ---- a code beside a function's body, by turns
 
 -- an activation and its memory, after so much was spent, and a state of the code
 abbrev pub Stands : Type 0 → Type 1
