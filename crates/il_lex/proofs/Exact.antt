@@ -6,7 +6,8 @@ use Rattle.std.proofs.lemmas.List.Sums.{prefix_len-le-length}
 use Rattle.std.proofs.lemmas.Bool.{and_parts}
 use Rattle.std.proofs.lemmas.Bool.Decides.{nat_tests, Decides-eqb}
 use Rattle.il_lex.specs.Quoted.{is_spacing, is_digit, is_word_start, is_in_comment, is_symbol, ends_token, IsString}
-use Rattle.il_lex.specs.Scan.{IsDigits, symbol_byte, IsText, IsWord, IsSpacing, IsBlank, IsGap, IsEnded, IsApart, IsNext, IsEnd, IsBad, IsAhead, lexeme, symbol_of, line_end, comment, is_ended, ended, symbol_or, scan_from, scan, items, string_bytes, OneNext, EndIsEnd, OneReading}
+use Rattle.il_lex.specs.Next.{IsDigits, symbol_byte, IsText, IsWord, IsSpacing, IsBlank, IsGap, IsEnded, IsApart, IsNext, IsEnd, IsBad, IsAhead, OneNext, EndIsEnd, OneReading}
+use Rattle.il_lex.specs.Scan.{lexeme, symbol_of, line_end, comment, is_ended, ended, symbol_or, scan_from, scan, items, string_bytes}
 use Rattle.il_lex.specs.declared.kind.Symbol.{Symbol as TheSymbol}
 use Rattle.il_lex.specs.declared.kind.Symbol.TheVariants.{Comma, Equals, LeftBrace, RightBrace, LeftParen, RightParen, Plus}
 use Rattle.il_lex.specs.declared.kind.Kind.{Kind}

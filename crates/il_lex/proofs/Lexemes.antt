@@ -6,7 +6,8 @@ use Rattle.std.proofs.lemmas.List.Sums.{prefix_len-le-length}
 use Rattle.std.proofs.lemmas.Bool.{and_parts, and_from}
 use Rattle.std.proofs.lemmas.Bool.Decides.{nat_tests, Decides-eqb}
 use Rattle.il_lex.specs.Quoted.{is_digit, is_word_start, is_word_part, ends_token, Spells}
-use Rattle.il_lex.specs.Scan.{decimal, IsDigits, IsNatural, IsWord, IsText, IsEnded, number_from, items_len, items, begins_word, begins_quote, natural, name, negative, quoted, lexeme}
+use Rattle.il_lex.specs.Next.{decimal, IsDigits, IsNatural, IsWord, IsText, IsEnded}
+use Rattle.il_lex.specs.Scan.{number_from, items_len, items, begins_word, begins_quote, natural, name, negative, quoted, lexeme}
 use Rattle.il_lex.specs.declared.kind.Kind.{Kind}
 use Rattle.il_lex.specs.declared.kind.Kind.TheVariants.{Symbol, Newline, Word, Global, Temp, Label, Natural, Negative, Quoted}
 use Rattle.il_lex.proofs.Runs.{cond_cases, Stops, prefix_yes, run_passes, run_len}

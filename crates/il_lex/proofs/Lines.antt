@@ -5,7 +5,7 @@ use Rattle.std.proofs.lemmas.List.Sums.{sum_by-append, sum_by-cons}
 use Rattle.std.proofs.lemmas.Bool.{and_parts}
 use Rattle.std.proofs.lemmas.Bool.Decides.{nat_tests, Decides-eqb}
 use Rattle.il_lex.specs.Quoted.{is_spacing, is_digit, is_octal, is_word_start, is_word_part, is_in_comment, is_plain, escaped, IsItem, Spells}
-use Rattle.il_lex.specs.Scan.{symbol_byte, IsText, IsWord, IsBlank, IsGap, lines_in, line_ends}
+use Rattle.il_lex.specs.Next.{symbol_byte, IsText, IsWord, IsBlank, IsGap, lines_in, line_ends}
 use Rattle.il_lex.specs.declared.kind.Symbol.{Symbol as TheSymbol}
 use Rattle.il_lex.specs.declared.kind.Symbol.TheVariants.{Comma, Equals, LeftBrace, RightBrace, LeftParen, RightParen, Plus}
 use Rattle.il_lex.specs.declared.kind.Kind.{Kind}

@@ -1,7 +1,7 @@
 -- What a token that was found behind a place says of its text.
 use Rattle.std.proofs.Common.{◌≡◌, ℕ, zero, suc, ◌+◌, ◌-◌, ◌<◌, ◌≤◌, List, [], ◌∷◌, ◌++◌, length, take, drop, slice_range, refl, sym, ap, ◌∙◌, arith, length-drop, zero-add, drop-drop}
 use Rattle.std.proofs.Math.Nat.{suc-add}
-use Rattle.il_lex.specs.Scan.{lines_in, line_at, line_ends, IsNext, IsAhead}
+use Rattle.il_lex.specs.Next.{lines_in, line_at, line_ends, IsNext, IsAhead}
 use Rattle.il_lex.specs.declared.kind.Kind.{Kind}
 use Rattle.il_lex.specs.declared.scan.Ahead.TheVariants.{Found}
 use Rattle.il_lex.proofs.Lines.{lines-append, lines_gap, lines_text}

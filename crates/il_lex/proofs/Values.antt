@@ -1,7 +1,8 @@
 -- Numbers: the value that is counted digit by digit is that of all digits.
 use Rattle.std.proofs.Common.{◌≡◌, ℕ, ◌+◌, ◌-◌, ◌*◌, ◌^◌, ◌<◌, ◌≤◌, ltb, List, [], ◌∷◌, Option, Some, None, refl, sym, ap, ◌∙◌, arith, fold}
 use Rattle.std.proofs.lemmas.Bool.Decides.{nat_tests, Decides-ltb}
-use Rattle.il_lex.specs.Scan.{decimal, number_from}
+use Rattle.il_lex.specs.Next.{decimal}
+use Rattle.il_lex.specs.Scan.{number_from}
 use Rattle.il_lex.proofs.Runs.{cond_cases}
 
 -- the value of digits behind digits of value n

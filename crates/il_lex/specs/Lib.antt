@@ -1,4 +1,5 @@
 pub mod Quoted
+pub mod Next
 pub mod Place
 pub mod Token
 pub mod Scan

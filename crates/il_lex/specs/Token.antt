@@ -1,6 +1,6 @@
 -- Tokens one after another in a text.
 use Rattle.std.specs.Prelude.{◌≡◌, ◌<◌, ◌≤◌, length, Option, Some, None, Result, Ok, Err, slice_range}
-use Rattle.il_lex.specs.Scan.{line_at, IsNext, IsEnd, IsBad}
+use Rattle.il_lex.specs.Next.{line_at, IsNext, IsEnd, IsBad}
 use Rattle.il_lex.specs.Place.{Place, left}
 use Rattle.il_lex.specs.declared.tokens.Token.{Token}
 use Rattle.il_lex.specs.declared.tokens.LexError.{LexError}

@@ -1,6 +1,6 @@
 //! Laws of tokens, each the contract of a function that does nothing.
 
-ghost use Rattle.il_lex.specs.Scan.{OneNext, EndIsEnd, OneReading};
+ghost use Rattle.il_lex.specs.Next.{OneNext, EndIsEnd, OneReading};
 
 /// At most one token stands next in a list of bytes, with one gap, one text and one rest.
 pub fn one_token()

@@ -1,7 +1,8 @@
 //! The next token of a list of bytes.
 
 ghost use Rattle.std.specs.Prelude.{◌≡◌, ◌+◌, ◌-◌, ◌^◌, ◌<◌, ◌≤◌, length, IfSome};
-ghost use Rattle.il_lex.specs.Scan.{IsAhead, scan, scan_from, comment, ended, natural, name, negative, quoted, lexeme, symbol_of, number_from, line_end};
+ghost use Rattle.il_lex.specs.Next.{IsAhead};
+ghost use Rattle.il_lex.specs.Scan.{scan, scan_from, comment, ended, natural, name, negative, quoted, lexeme, symbol_of, number_from, line_end};
 
 use crate::bytes::{
     begins_quote, begins_word, comment_len, digits_len, is_ended, is_word_start, spacing_len,

@@ -1,7 +1,7 @@
 //! The tokens of a text, one after another.
 
 ghost use Rattle.std.specs.Prelude.{◌≡◌};
-ghost use Rattle.il_lex.specs.Scan.{line_ends};
+ghost use Rattle.il_lex.specs.Next.{line_ends};
 
 use crate::kind::Kind;
 use crate::scan::{Ahead, scan};

@@ -5,7 +5,8 @@ use Rattle.std.proofs.lemmas.Option.{option_and_then_some, some_pair_parts}
 use Rattle.il_lex.specs.declared.kind.Kind.{Kind}
 use Rattle.il_lex.specs.declared.scan.Ahead.{Ahead}
 use Rattle.il_lex.specs.declared.scan.Ahead.TheVariants.{End, Bad, Found}
-use Rattle.il_lex.specs.Scan.{IsNext, IsAhead, scan, line_ends}
+use Rattle.il_lex.specs.Next.{IsNext, IsAhead, line_ends}
+use Rattle.il_lex.specs.Scan.{scan}
 use Rattle.il_lex.proofs.Runs.{cond_cases}
 use Rattle.il_lex.proofs.Exact.{scan_meaning, next_complete}
 use Rattle.il_reader.specs.Prelude.{State}

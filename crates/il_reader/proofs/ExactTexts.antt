@@ -7,7 +7,8 @@ use Rattle.il_lex.proofs.Exact.{end_complete, scan_meaning}
 use Rattle.il_lex.specs.declared.scan.Ahead.{Ahead}
 use Rattle.il_lex.specs.declared.scan.Ahead.TheVariants.{End, Bad, Found}
 use Rattle.il_lex.specs.declared.kind.Kind.TheVariants.{Word as WordKind, Newline}
-use Rattle.il_lex.specs.Scan.{IsEnd, IsAhead, scan, lines_in}
+use Rattle.il_lex.specs.Next.{IsEnd, IsAhead, lines_in}
+use Rattle.il_lex.specs.Scan.{scan}
 use Rattle.il_ast.specs.declared.datum.DataDef.{DataDef}
 use Rattle.il_ast.specs.declared.text.Definition.{Definition}
 use Rattle.il_ast.specs.declared.text.Definition.TheVariants.{Function, Object}

@@ -1,6 +1,7 @@
 -- The token at the front lies within the bytes that are left.
 use Rattle.std.proofs.Common.{◌≡◌, ℕ, ◌+◌, ◌<◌, ◌≤◌, List, length, sym, subst, arith}
-use Rattle.il_lex.specs.Scan.{line_ends, IsAhead, scan}
+use Rattle.il_lex.specs.Next.{line_ends, IsAhead}
+use Rattle.il_lex.specs.Scan.{scan}
 use Rattle.il_lex.specs.declared.kind.Kind.{Kind}
 use Rattle.il_lex.specs.declared.kind.Kind.TheVariants.{Symbol, Newline, Word, Global, Temp, Label, Natural, Negative, Quoted}
 use Rattle.il_lex.specs.declared.scan.Ahead.{Ahead}

@@ -9,7 +9,8 @@ use Rattle.il_lex.specs.declared.kind.Symbol.{Symbol as Mark}
 use Rattle.il_lex.specs.declared.kind.Symbol.TheVariants.{Comma, Equals, LeftBrace, RightBrace, LeftParen, RightParen, Plus}
 use Rattle.il_lex.specs.declared.kind.Kind.{Kind}
 use Rattle.il_lex.specs.declared.kind.Kind.TheVariants.{Symbol, Newline, Word, Global, Temp, Label, Natural, Negative, Quoted}
-use Rattle.il_lex.specs.Scan.{symbol_byte, IsName, symbol_of, string_bytes}
+use Rattle.il_lex.specs.Next.{symbol_byte, IsName}
+use Rattle.il_lex.specs.Scan.{symbol_of, string_bytes}
 use Rattle.il_lex.specs.Quoted.{IsString}
 use Rattle.il_lex.proofs.Exact.{string_complete}
 use Rattle.il_reader.specs.Prelude.{State, place, with_name}

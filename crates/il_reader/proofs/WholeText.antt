@@ -1,7 +1,8 @@
 -- A text that is read up to its end.
 use Rattle.std.proofs.Common.{◌≡◌, ℕ, ◌+◌, Bool, true, false, cond, List, length, Option, Some, None, refl, ap, option_and_then}
 use Rattle.std.proofs.lemmas.Option.{same_Some}
-use Rattle.il_lex.specs.Scan.{scan, lines_in}
+use Rattle.il_lex.specs.Scan.{scan}
+use Rattle.il_lex.specs.Next.{lines_in}
 use Rattle.il_reader.specs.Prelude.{State, start, DefinitionParts, TextParts, definitions, is_end, whole, text_step, to_the_end, whole_text}
 
 abbrev Read : Type 0

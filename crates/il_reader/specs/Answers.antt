@@ -1,6 +1,6 @@
 -- What reading a text answers.
 use Rattle.std.specs.Prelude.{◌≡◌, ℕ, ◌+◌, ◌≤◌, List, Result, MatchResult}
-use Rattle.il_lex.specs.Scan.{lines_in}
+use Rattle.il_lex.specs.Next.{lines_in}
 use Rattle.il_ast.specs.declared.text.Text.{Text}
 use Rattle.il_reader.specs.declared.error.ReadError.{ReadError}
 use Rattle.il_reader.specs.declared.error.ReadError.TheVariants.{Syntax, Memory}

@@ -15,7 +15,8 @@ use Rattle.il_reader.specs.declared.statement.Operation.{Operation}
 use Rattle.il_reader.specs.declared.statement.Operation.TheVariants.{Phi as PhiWord, Call as CallWord, Alloc as AllocWord, Unary as UnaryWord, Binary as BinaryWord}
 use Rattle.il_reader.specs.declared.statement.Statement.{Statement}
 use Rattle.il_reader.specs.declared.statement.Statement.TheVariants.{Phi as PhiLine, Inst as InstLine}
-use Rattle.il_reader.specs.Steps.{State, Step, ◌>>=◌, ◌>>◌, give, piece, keyword, word, natural, commas, maybe, either, sees, label}
+use Rattle.il_reader.specs.State.{State}
+use Rattle.il_reader.specs.Steps.{Step, ◌>>=◌, ◌>>◌, give, piece, keyword, word, natural, commas, maybe, either, sees, label}
 use Rattle.il_reader.specs.Reading.{is_text, is_temp, is_label, is_comma, is_word, sees_word, alloc_of, unary_of, binary_of, store_of, value, comma, destination, phi_argument, arguments, storing, blit, jump, line, lined, line_ends, on_line}
 
 -- ---- one line

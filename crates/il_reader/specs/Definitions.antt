@@ -5,7 +5,8 @@ use Rattle.il_lex.specs.declared.kind.Kind.{Kind}
 use Rattle.il_lex.specs.declared.kind.Kind.TheVariants.{Symbol, Natural, Negative, Global as GlobalKind, Quoted}
 use Rattle.il_lex.specs.declared.scan.Ahead.{Ahead}
 use Rattle.il_lex.specs.declared.scan.Ahead.TheVariants.{End, Bad, Found}
-use Rattle.il_lex.specs.Scan.{scan, lines_in}
+use Rattle.il_lex.specs.Scan.{scan}
+use Rattle.il_lex.specs.Next.{lines_in}
 use Rattle.il_ast.specs.declared.operation.Class.{Class}
 use Rattle.il_ast.specs.declared.block.Block.{Block}
 use Rattle.il_ast.specs.declared.function.Param.{Param}
@@ -20,8 +21,9 @@ use Rattle.il_ast.specs.declared.text.Definition.TheVariants.{Function, Object}
 use Rattle.il_ast.specs.declared.text.Text.{Text}
 use Rattle.il_reader.specs.declared.fault.Unread.{Unread}
 use Rattle.il_reader.specs.declared.fault.Unread.TheVariants.{Syntax}
-use Rattle.il_reader.specs.Steps.{State, start, Step, ◌>>=◌, ◌>>◌, give, piece, keyword, word, natural, integer, string, temp, symbol, newline, many, commas, maybe, either, sees}
+use Rattle.il_reader.specs.State.{State, start}
 use Rattle.il_reader.specs.Reads.{falling}
+use Rattle.il_reader.specs.Steps.{Step, ◌>>=◌, ◌>>◌, give, piece, keyword, word, natural, integer, string, temp, symbol, newline, many, commas, maybe, either, sees}
 use Rattle.il_reader.specs.Reading.{size_of, is_text, is_label, is_comma, is_word, is_number, is_newline, sees_word, class, comma, line, line_ends}
 use Rattle.il_reader.specs.Blocks.{block}
 

@@ -11,10 +11,11 @@ use Rattle.il_ast.specs.declared.instruction.Inst.{Inst}
 use Rattle.il_ast.specs.declared.text.Definition.{Definition}
 use Rattle.il_reader.specs.declared.statement.Statement.{Statement}
 use Rattle.il_reader.specs.declared.statement.Statement.TheVariants.{Phi as PhiLine, Inst as InstLine}
-use Rattle.il_reader.specs.Steps.{State, Step, ◌>>=◌, give, many, commas, sees}
+use Rattle.il_reader.specs.State.{State}
 use Rattle.il_reader.specs.Reads.{falling, jump_to}
 use Rattle.il_reader.specs.Blocks.{Lines}
 use Rattle.il_reader.specs.Definitions.{blocks, between, definition, DefinitionParts, definition_parts, definitions, is_end}
+use Rattle.il_reader.specs.Steps.{Step, ◌>>=◌, give, many, commas, sees}
 use Rattle.il_reader.specs.Reading.{is_newline, is_word}
 
 -- what a step reads and the state afterwards, and a syntax error only where the step reads nothing

@@ -19,7 +19,7 @@ use Rattle.il_ast.specs.declared.instruction.Jump.{Jump}
 use Rattle.il_ast.specs.declared.instruction.Jump.TheVariants.{Goto, Branch, Return, Halt}
 use Rattle.il_ast.specs.declared.block.Phi.{Phi}
 use Rattle.il_ast.specs.declared.block.PhiArg.{PhiArg}
-use Rattle.il_reader.specs.Operands.{class_word, unary_word, binary_word, alloc_word, store_word}
+use Rattle.il_reader.specs.Words.{class_word, unary_word, binary_word, alloc_word, store_word}
 use Rattle.il_reader.specs.Rules.{Rule, ◌>>=◌, ◌>>◌, ◌∥◌, give, maybe, commas, listed, line, piece, word, natural, integer, temp, label, symbol}
 
 abbrev pub class : Rule Class

@@ -1,5 +1,7 @@
+pub mod State
 pub mod Keys
 pub mod Rules
+pub mod Words
 pub mod Grammar
 pub mod Reads
 pub mod Steps

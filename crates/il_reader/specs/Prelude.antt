@@ -10,5 +10,6 @@ pub use Rattle.il_reader.specs.Laws.{OneTree}
 pub use Rattle.il_reader.specs.Reading.{alloc_of, argument, arguments, binary_of, blit, branch, class, class_of, comma, destination, goto, is_comma, is_label, is_newline, is_number, is_temp, is_text, is_value, is_word, jump, line_ends, lined, on_line, phi_argument, returning, sees_word, size_of, store_of, storing, unary_of, value}
 pub use Rattle.il_reader.specs.Reads.{Reads, falling, jump_to}
 pub use Rattle.il_reader.specs.Rules.{many}
-pub use Rattle.il_reader.specs.Steps.{State, place, start, with_name, Step, commas, give, integer, integer_test, keyword, kind_is, label, label_test, maybe, natural, natural_test, newline, newline_test, next, piece, piece_test, repeated, sees, separated, string, string_test, symbol, symbol_test, temp_test, word, word_test, ◌>>=◌, ◌>>◌}
-pub use Rattle.il_reader.specs.Operands.{alloc_word, binary_word, class_word, size_word, store_word, unary_word}
+pub use Rattle.il_reader.specs.State.{State, place, start, with_name}
+pub use Rattle.il_reader.specs.Steps.{Step, commas, give, integer, integer_test, keyword, kind_is, label, label_test, maybe, natural, natural_test, newline, newline_test, next, piece, piece_test, repeated, sees, separated, string, string_test, symbol, symbol_test, temp_test, word, word_test, ◌>>=◌, ◌>>◌}
+pub use Rattle.il_reader.specs.Words.{alloc_word, binary_word, class_word, size_word, store_word, unary_word}

@@ -1,7 +1,7 @@
 -- The grammar of definitions, and what the tree of a whole text is.
 use Rattle.std.specs.Prelude.{◌≡◌, ℕ, ◌+◌, List, [], ◌∷◌, Bool, true, false, Option, Some, None, length, codes, unwrap_or}
 use Rattle.il_lex.specs.declared.kind.Symbol.TheVariants.{Equals, LeftBrace, RightBrace, LeftParen, RightParen, Plus}
-use Rattle.il_lex.specs.Scan.{IsEnd, lines_in}
+use Rattle.il_lex.specs.Next.{IsEnd, lines_in}
 use Rattle.il_ast.specs.declared.operation.Class.{Class}
 use Rattle.il_ast.specs.declared.operation.Size.{Size}
 use Rattle.il_ast.specs.declared.instruction.Lined.{Lined}
@@ -17,8 +17,8 @@ use Rattle.il_ast.specs.declared.datum.Field.TheVariants.{Items, Zeros}
 use Rattle.il_ast.specs.declared.text.Definition.{Definition}
 use Rattle.il_ast.specs.declared.text.Definition.TheVariants.{Function, Object}
 use Rattle.il_ast.specs.declared.text.Text.{Text}
-use Rattle.il_reader.specs.Steps.{State, start}
-use Rattle.il_reader.specs.Operands.{size_word}
+use Rattle.il_reader.specs.State.{State, start}
+use Rattle.il_reader.specs.Words.{size_word}
 use Rattle.il_reader.specs.Rules.{Rule, ◌>>=◌, ◌>>◌, ◌∥◌, give, maybe, many, some, ended_by, commas, listed, line, piece, newline, newlines, word, natural, integer, string, temp, label, symbol, forget_names, function_names}
 use Rattle.il_reader.specs.Grammar.{class, comma, phi, instruction, jump}
 

@@ -3,9 +3,9 @@ use Rattle.std.specs.Prelude.{◌≡◌, ◌⊎◌, ℕ, ◌+◌, List, [], ◌�
 use Rattle.il_lex.specs.declared.kind.Symbol.{Symbol as Mark}
 use Rattle.il_lex.specs.declared.kind.Kind.{Kind}
 use Rattle.il_lex.specs.declared.kind.Kind.TheVariants.{Symbol, Newline, Word, Global, Temp, Label, Natural, Negative, Quoted}
-use Rattle.il_lex.specs.Scan.{IsNext, line_ends}
+use Rattle.il_lex.specs.Next.{IsNext, line_ends}
 use Rattle.il_lex.specs.Quoted.{IsString}
-use Rattle.il_reader.specs.Steps.{State, place, with_name}
+use Rattle.il_reader.specs.State.{State, place, with_name}
 
 abbrev pub Rule : Type 0 → Type 1
 Rule A = State → A → State → Type 0

@@ -1,38 +1,15 @@
 -- The rules as functions of the state, which the code computes: what is read, and the state
 -- afterwards.
-use Rattle.std.specs.Prelude.{ℕ, suc, List, [], ◌∷◌, if◌then◌else◌, nat_eq, zero, length, ◌+◌, Bool, false, take, drop, Option, Some, None, option_and_then, option_map}
+use Rattle.std.specs.Prelude.{ℕ, zero, suc, length, ◌+◌, Bool, false, if◌then◌else◌, nat_eq, List, [], ◌∷◌, take, drop, Option, Some, None, option_and_then, option_map}
 use Rattle.std.specs.Cmp.Lexicographic.{pointwise}
 use Rattle.il_lex.specs.declared.kind.Symbol.{Symbol as Mark}
 use Rattle.il_lex.specs.declared.kind.Kind.{Kind}
 use Rattle.il_lex.specs.declared.kind.Kind.TheVariants.{Symbol, Newline, Word, Global, Temp, Label, Natural, Negative, Quoted}
 use Rattle.il_lex.specs.declared.scan.Ahead.{Ahead}
 use Rattle.il_lex.specs.declared.scan.Ahead.TheVariants.{End, Bad, Found}
-use Rattle.il_lex.specs.Scan.{scan, string_bytes, symbol_byte, line_ends}
-
--- ---- how far a text has been read, and which names have appeared
-
--- the bytes that are left, the line that they begin on, and the names of the function's temporaries
--- and labels and of the text's globals, each once, in order of first appearance
-pub record State : Type 0 where
-  pub rest : List ℕ
-  pub line : ℕ
-  pub temps : List (List ℕ)
-  pub labels : List (List ℕ)
-  pub symbols : List (List ℕ)
-
--- at the start of a text
-abbrev pub start : List ℕ → State
-start bytes = record { rest = bytes; line = 1; temps = []; labels = []; symbols = [] }
-
--- the place of a name among names, or that behind them where it is new
-abbrev pub place : List ℕ → List (List ℕ) → ℕ
-place name [] = 0
-place name (n ∷ ns) = if pointwise nat_eq n name then 0 else suc (place name ns)
-
--- the names, and a name that is new behind them
-abbrev pub with_name : List ℕ → List (List ℕ) → List (List ℕ)
-with_name name [] = name ∷ []
-with_name name (n ∷ ns) = if pointwise nat_eq n name then n ∷ ns else n ∷ with_name name ns
+use Rattle.il_lex.specs.Scan.{scan, string_bytes}
+use Rattle.il_lex.specs.Next.{line_ends, symbol_byte}
+use Rattle.il_reader.specs.State.{State, place, with_name}
 
 abbrev pub Step : Type 0 → Type 0
 Step A = State → Option (A × State)

@@ -1,6 +1,6 @@
 //! Reading the tree of a text.
 ghost use Rattle.std.specs.Prelude.{◌≡◌, ◌≤◌, length, IfOk, IfErr};
-ghost use Rattle.il_lex.specs.Scan.{lines_in, line_at};
+ghost use Rattle.il_lex.specs.Next.{lines_in, line_at};
 ghost use Rattle.il_ast.specs.declared.text.Text.{Text};
 ghost use Rattle.il_reader.specs.Prelude.{start, Reads, IsTree, NamesLine, IsFound};
 

@@ -1,6 +1,6 @@
 //! Where the reading of a text stands.
 ghost use Rattle.std.specs.Prelude.{◌≡◌, Some, None, MatchResult};
-ghost use Rattle.il_lex.specs.Scan.{line_ends};
+ghost use Rattle.il_lex.specs.Next.{line_ends};
 ghost use Rattle.il_reader.specs.declared.fault.Unread.TheVariants.{Syntax};
 
 use crate::fault::Unread;

@@ -5,7 +5,7 @@ use Rattle.il_reader.specs.Prelude.{Reads}
 use Rattle.il_types.specs.declared.checked.Checked.{Checked}
 use Rattle.obj_link.specs.Prelude.{IsProgram, times_exported, meaning_of, names_of, functions_of, objects_of, IsUnknown, ExportsMain, within_limits, Contents, IsImageOf}
 use Rattle.il_ast.specs.declared.text.Text.{Text}
-use Rattle.il_lex.specs.Scan.{lines_in}
+use Rattle.il_lex.specs.Next.{lines_in}
 use Rattle.il_types.specs.declared.rule.BrokenRule.{BrokenRule}
 use Rattle.il_types.specs.Prelude.{broken, within_limits as is_within}
 use Rattle.qbec.specs.declared.error.CompileError.{CompileError}

@@ -1,5 +1,5 @@
 use Rattle.std.proofs.Common.{◌≡◌, ◌≤◌, take}
-use Rattle.il_lex.specs.Scan.{lines_in}
+use Rattle.il_lex.specs.Next.{lines_in}
 use Rattle.il_reader.proofs.read.line_feeds.Given as goal
 
 abbrev pub invariant-loop-byte : goal.invariant-loop-byte

@@ -1,7 +1,7 @@
 use Rattle.std.proofs.Common.{◌≡◌, ℕ, ◌+◌, List, length, Some, sym, ap, ◌∙◌}
 use Rattle.std.proofs.Math.Seq.{take-length}
 use Rattle.std.proofs.lemmas.Result.{err_from_is_err_and}
-use Rattle.il_lex.specs.Scan.{lines_in}
+use Rattle.il_lex.specs.Next.{lines_in}
 use Rattle.il_reader.specs.Prelude.{parts_of, whole_text}
 use Rattle.il_reader.proofs.Ordered.{text_named}
 use Rattle.il_reader.proofs.WholeText.{text_refused, text_read, definitions_read}

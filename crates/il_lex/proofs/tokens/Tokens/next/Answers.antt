@@ -1,7 +1,7 @@
 use Rattle.std.proofs.Common.{◌+◌, drop, refl, sym, ap, ◌∙◌, arith}
 use Rattle.std.proofs.lemmas.Grind.{common_steps}
 use Rattle.std.proofs.lemmas.List.{take_rest}
-use Rattle.il_lex.specs.Scan.{IsAhead}
+use Rattle.il_lex.specs.Next.{IsAhead}
 use Rattle.il_lex.specs.declared.scan.Ahead.TheVariants.{Found}
 use Rattle.il_lex.proofs.Passing.{passes}
 use Rattle.il_lex.proofs.tokens.Tokens.next.Goals as goal
