@@ -51,7 +51,7 @@ pub struct Tokens<'a> {
 impl<'a> Model for Tokens<'a> {
     ghost use Rattle.std.specs.Prelude.{◌≡◌, ◌≤◌, length};
     ghost use Rattle.il_lex.specs.Place.{Place};
-    ghost use Rattle.il_lex.specs.Scan.{line_at};
+    ghost use Rattle.il_lex.specs.Next.{line_at};
 
     ghost Value = { Place };
 

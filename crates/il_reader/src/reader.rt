@@ -39,7 +39,7 @@ pub(crate) struct Reader<'a> {
 impl<'a> Model for Reader<'a> {
     ghost use Rattle.std.specs.Prelude.{◌≡◌, ◌+◌, ◌<◌, ◌≤◌, ◌^◌, length};
     ghost use Rattle.il_lex.specs.Scan.{scan};
-    ghost use Rattle.il_reader.specs.Steps.{State};
+    ghost use Rattle.il_reader.specs.State.{State};
 
     ghost Value = { State };
 
@@ -61,7 +61,7 @@ impl<'a> Reader<'a> {
     ghost use Rattle.std.specs.Prelude.{◌≡◌, suc, ℕ, Bool, true, false, List, [], length, IfOk};
     ghost use Rattle.std.specs.Option.{option_copied, option_map_or};
     ghost use Rattle.il_lex.specs.Scan.{scan};
-    ghost use Rattle.il_reader.specs.Steps.{start};
+    ghost use Rattle.il_reader.specs.State.{start};
     ghost use Rattle.il_reader.specs.Reading.{sees_word, is_text};
     ghost use Rattle.il_reader.specs.Definitions.{is_end};
     ghost use Rattle.il_reader.specs.Gives.{Gives, GivesText};
