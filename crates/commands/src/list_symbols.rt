@@ -26,7 +26,7 @@ fn put_file<'a, D: Disk>(
 }
 
 /// Compiles texts, writes what that makes to `target`, where there is such a file, and puts out where the names stand in it.
-#[tactic(auto, unfolding(crate::specs::Listings::ListingFails))]
+#[tactic(auto, unfolding(crate::specs::Commands::ListingFails))]
 fn list<'a, D: Disk, O: Sink>(
     alloc: Global,
     allocator: &mut dyn Strategy,
@@ -44,7 +44,7 @@ fn list<'a, D: Disk, O: Sink>(
 }
 
 /// Puts out where the names of the files stand, as texts, in an executable of them, which is written to `target`, where there is such a file.
-#[tactic(auto, unfolding(crate::specs::Listings::SymbolsFail))]
+#[tactic(auto, unfolding(crate::specs::Commands::SymbolsFail))]
 pub(crate) fn list_symbols<'a, D: Disk, O: Sink>(
     alloc: Global,
     allocator: &mut dyn Strategy,

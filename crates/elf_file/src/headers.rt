@@ -44,7 +44,7 @@ pub struct ProgramHeader {
 }
 
 /// The `Elf64_Half` at `offset`: the number in its two bytes, the lowest first.
-#[tactic(auto, unfolding(crate::specs::Headers::field))]
+#[tactic(auto, unfolding(crate::specs::Conditions::field))]
 fn half(file: &[u8], offset: usize) -> u16
     requires { offset + 2 ≤ length file.now }
     ensures { result ≡ field 2 offset file.now }
@@ -53,7 +53,7 @@ fn half(file: &[u8], offset: usize) -> u16
 }
 
 /// The `Elf64_Word` at `offset`: the number in its four bytes, the lowest first.
-#[tactic(auto, unfolding(crate::specs::Headers::field))]
+#[tactic(auto, unfolding(crate::specs::Conditions::field))]
 fn word(file: &[u8], offset: usize) -> u32
     requires { offset + 4 ≤ length file.now }
     ensures { result ≡ field 4 offset file.now }
@@ -62,7 +62,7 @@ fn word(file: &[u8], offset: usize) -> u32
 }
 
 /// The `Elf64_Xword`, `Elf64_Addr` or `Elf64_Off` at `offset`: the number in its eight bytes, the lowest first.
-#[tactic(auto, unfolding(crate::specs::Headers::field))]
+#[tactic(auto, unfolding(crate::specs::Conditions::field))]
 fn xword(file: &[u8], offset: usize) -> u64
     requires { offset + 8 ≤ length file.now }
     ensures { result ≡ field 8 offset file.now }
@@ -71,7 +71,7 @@ fn xword(file: &[u8], offset: usize) -> u64
 }
 
 /// The header of a file of at least 64 bytes.
-#[tactic(auto, unfolding(crate::specs::Headers::file_header))]
+#[tactic(auto, unfolding(crate::specs::Conditions::file_header))]
 pub fn file_header(file: &[u8]) -> FileHeader
     requires { 64 ≤ length file.now }
     ensures { result ≡ file_header file.now }
@@ -94,7 +94,7 @@ pub fn file_header(file: &[u8]) -> FileHeader
 }
 
 /// The program header whose 56 bytes begin at `offset`.
-#[tactic(auto, unfolding(crate::specs::Headers::program_header_at))]
+#[tactic(auto, unfolding(crate::specs::Conditions::program_header_at))]
 pub fn program_header_at(file: &[u8], offset: usize) -> ProgramHeader
     requires { offset + 56 ≤ length file.now }
     ensures { result ≡ program_header_at file.now offset }

@@ -137,7 +137,7 @@ fn padding(size: usize) -> u64
     ((16 - size % 16) % 16) as u64
 }
 
-#[tactic(auto, unfolding(crate::specs::ImageOf::in_slots))]
+#[tactic(auto, unfolding(crate::specs::Placed::in_slots))]
 fn push_object(
     bytes: &mut Vec<u8>,
     addresses: &Addresses,
