@@ -25,23 +25,15 @@ fn held(table: &OwnerTable, places: &[Equality], value: &Operand<u32>) -> bool
 fn args_held(table: &OwnerTable, places: &[Equality], args: &[Argument<u32>]) -> bool
     ensures { result ≡ args_held (own_of table.now) (place_by places.now) args.now }
 {
-    for arg in args {
-        if !held(table, places, &arg.value) {
-            return false;
-        }
-    }
-    true
+    args.iter().all(|arg| held(table, places, &arg.value))
 }
 
 fn all_hold(table: &OwnerTable, equalities: &[Equality]) -> bool
     ensures { result ≡ all_hold (own_of table.now) equalities.now }
 {
-    for equality in equalities {
-        if !owns(table, equality.place, equality.register) {
-            return false;
-        }
-    }
-    true
+    equalities
+        .iter()
+        .all(|equality| owns(table, equality.place, equality.register))
 }
 
 fn put(

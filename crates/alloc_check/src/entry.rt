@@ -36,12 +36,7 @@ fn owner_at(params: &[Destination<u32>], places: &[Location], place: Location) -
 fn is_param(params: &[Destination<u32>], register: u32) -> bool
     ensures { result ≡ is_param params.now register }
 {
-    for param in params {
-        if register == param.place {
-            return true;
-        }
-    }
-    false
+    params.iter().any(|param| register == param.place)
 }
 
 /// Whether the place holds the parameter, if the register is one. Other registers have no value yet.
@@ -57,12 +52,9 @@ fn is_entered(params: &[Destination<u32>], places: &[Location], equality: Equali
 fn all_entered(params: &[Destination<u32>], places: &[Location], starts: &[Equality]) -> bool
     ensures { result ≡ entry_holds params.now starts.now (own_params params.now places.now nobody) }
 {
-    for equality in starts {
-        if !is_entered(params, places, *equality) {
-            return false;
-        }
-    }
-    true
+    starts
+        .iter()
+        .all(|equality| is_entered(params, places, *equality))
 }
 
 /// Whether each parameter has a place.

@@ -51,12 +51,7 @@ fn made(slots: u32, to: &Option<Location>) -> bool
 fn args(slots: u32, args: &[Argument<Location>]) -> bool
     ensures { result ≡ list_all (λ a. operand_keeps (is_place slots) a.value) args.now }
 {
-    for arg in args {
-        if !operand(slots, &arg.value) {
-            return false;
-        }
-    }
-    true
+    args.iter().all(|arg| operand(slots, &arg.value))
 }
 
 fn line(slots: u32, line: &Line<Location>) -> bool
@@ -98,12 +93,7 @@ fn jump(slots: u32, jump: &Jump<Location>) -> bool
 fn lines(slots: u32, lines: &[Line<Location>]) -> bool
     ensures { result ≡ list_all (line_keeps (is_place slots)) lines.now }
 {
-    for from in lines {
-        if !line(slots, from) {
-            return false;
-        }
-    }
-    true
+    lines.iter().all(|from| line(slots, from))
 }
 
 fn block(slots: u32, block: &Block<Location>) -> bool
@@ -115,23 +105,13 @@ fn block(slots: u32, block: &Block<Location>) -> bool
 fn blocks(slots: u32, blocks: &[Block<Location>]) -> bool
     ensures { result ≡ list_all (block_keeps (is_place slots)) blocks.now }
 {
-    for from in blocks {
-        if !block(slots, from) {
-            return false;
-        }
-    }
-    true
+    blocks.iter().all(|from| block(slots, from))
 }
 
 fn params(slots: u32, params: &[Destination<Location>]) -> bool
     ensures { result ≡ list_all (λ d. is_place slots d.place) params.now }
 {
-    for param in params {
-        if !is_place(slots, param.place) {
-            return false;
-        }
-    }
-    true
+    params.iter().all(|param| is_place(slots, param.place))
 }
 
 /// Whether all places that the code names exist, with so many slots.
@@ -153,23 +133,13 @@ fn is_near(place: Location) -> bool
 fn are_near(params: &[Destination<Location>]) -> bool
     ensures { result ≡ are_near params.now }
 {
-    for param in params {
-        if !is_near(param.place) {
-            return false;
-        }
-    }
-    true
+    params.iter().all(|param| is_near(param.place))
 }
 
 fn is_among(place: Location, params: &[Destination<Location>]) -> bool
     ensures { result ≡ list_any (λ e. same_location place e.place) params.now }
 {
-    for param in params {
-        if is_same(place, param.place) {
-            return true;
-        }
-    }
-    false
+    params.iter().any(|param| is_same(place, param.place))
 }
 
 fn are_distinct(params: &[Destination<Location>]) -> bool
@@ -186,12 +156,7 @@ fn are_distinct(params: &[Destination<Location>]) -> bool
 fn are_paid(blocks: &[Block<Location>]) -> bool
     ensures { result ≡ list_all is_paid blocks.now }
 {
-    for block in blocks {
-        if !is_paid(block) {
-            return false;
-        }
-    }
-    true
+    blocks.iter().all(|block| is_paid(block))
 }
 
 /// Whether location code with so many slots may be a function's: its places exist, its parameters are near and apart, and its ticks pay for its lines.
@@ -214,22 +179,16 @@ fn exists(registers: u32, equality: Equality) -> bool
 pub(crate) fn all_exist(registers: u32, equalities: &[Equality]) -> bool
     ensures { result ≡ list_all (exists_in registers) equalities.now }
 {
-    for equality in equalities {
-        if !exists(registers, *equality) {
-            return false;
-        }
-    }
-    true
+    equalities
+        .iter()
+        .all(|equality| exists(registers, *equality))
 }
 
 /// Whether those of all these lists do.
 pub(crate) fn equalities_exist(registers: u32, starts: &[Seq<Equality>]) -> bool
     ensures { result ≡ equalities_exist registers starts.now }
 {
-    for equalities in starts {
-        if !all_exist(registers, equalities.as_slice()) {
-            return false;
-        }
-    }
-    true
+    starts
+        .iter()
+        .all(|equalities| all_exist(registers, equalities.as_slice()))
 }

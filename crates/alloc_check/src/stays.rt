@@ -44,24 +44,16 @@ fn moves_stay(table: &OwnerTable, ground: &Ground, moves: &[Transfer]) -> bool
     requires { IsFirst ground.now.registers ground.now.everywhere.now table.now.first }
     ensures { result ≡ moves_stay ground.now.everywhere.now (own_of table.now) moves.now }
 {
-    for one in moves {
-        if !place_stays(table, ground, one.to) {
-            return false;
-        }
-    }
-    true
+    moves.iter().all(|one| place_stays(table, ground, one.to))
 }
 
 fn starts_stay(table: &OwnerTable, ground: &Ground, begins: &[Equality]) -> bool
     requires { IsFirst ground.now.registers ground.now.everywhere.now table.now.first }
     ensures { result ≡ starts_stay ground.now.everywhere.now (own_of table.now) begins.now }
 {
-    for equality in begins {
-        if !place_stays(table, ground, equality.place) {
-            return false;
-        }
-    }
-    true
+    begins
+        .iter()
+        .all(|equality| place_stays(table, ground, equality.place))
 }
 
 fn write_stays(
@@ -165,10 +157,8 @@ pub(crate) fn are_apart(table: &OwnerTable, ground: &Ground) -> bool
     requires own { own_of table.now ≡ known ground.now.everywhere.now nobody }
     ensures { result ≡ are_apart ground.now.everywhere.now }
 {
-    for equality in ground.everywhere {
-        if !is_apart(table, ground, *equality) {
-            return false;
-        }
-    }
-    true
+    ground
+        .everywhere
+        .iter()
+        .all(|equality| is_apart(table, ground, *equality))
 }

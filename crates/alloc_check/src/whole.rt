@@ -13,12 +13,9 @@ use vcode::{Code, VFunc};
 fn has(equalities: &[Equality], register: u32) -> bool
     ensures { result ≡ has equalities.now register }
 {
-    for equality in equalities {
-        if equality.register == register {
-            return true;
-        }
-    }
-    false
+    equalities
+        .iter()
+        .any(|equality| equality.register == register)
 }
 
 fn names_once(equalities: &[Equality]) -> bool
@@ -35,12 +32,9 @@ fn names_once(equalities: &[Equality]) -> bool
 fn all_once(lists: &[Seq<Equality>]) -> bool
     ensures { result ≡ list_all names_once lists.now }
 {
-    for equalities in lists {
-        if !names_once(equalities.as_slice()) {
-            return false;
-        }
-    }
-    true
+    lists
+        .iter()
+        .all(|equalities| names_once(equalities.as_slice()))
 }
 
 fn has_lengths(code: &Code<u32>, certificate: &Certificate) -> bool

@@ -18,10 +18,18 @@ pub fn on_words(op: BinaryOp, a: u32, b: u32) -> Option<u32>
         BinaryOp::And => Some(a & b),
         BinaryOp::Or => Some(a | b),
         BinaryOp::Xor => Some(a ^ b),
-        BinaryOp::Div => word_div(a, b),
-        BinaryOp::Rem => word_rem(a, b),
-        BinaryOp::Udiv => if b == 0 { None } else { Some(a / b) },
-        BinaryOp::Urem => if b == 0 { None } else { Some(a % b) },
+        BinaryOp::Div => Some(
+            a.cast_signed()
+                .checked_div(b.cast_signed())?
+                .cast_unsigned(),
+        ),
+        BinaryOp::Rem => Some(
+            a.cast_signed()
+                .checked_rem(b.cast_signed())?
+                .cast_unsigned(),
+        ),
+        BinaryOp::Udiv => a.checked_div(b),
+        BinaryOp::Urem => a.checked_rem(b),
         BinaryOp::Sar => Some((a.cast_signed() >> (b % 32)).cast_unsigned()),
         BinaryOp::Shr => Some(a >> (b % 32)),
         BinaryOp::Shl => Some(a << (b % 32)),
@@ -40,65 +48,23 @@ pub fn on_longs(op: BinaryOp, a: u64, b: u64) -> Option<u64>
         BinaryOp::And => Some(a & b),
         BinaryOp::Or => Some(a | b),
         BinaryOp::Xor => Some(a ^ b),
-        BinaryOp::Div => long_div(a, b),
-        BinaryOp::Rem => long_rem(a, b),
-        BinaryOp::Udiv => if b == 0 { None } else { Some(a / b) },
-        BinaryOp::Urem => if b == 0 { None } else { Some(a % b) },
+        BinaryOp::Div => Some(
+            a.cast_signed()
+                .checked_div(b.cast_signed())?
+                .cast_unsigned(),
+        ),
+        BinaryOp::Rem => Some(
+            a.cast_signed()
+                .checked_rem(b.cast_signed())?
+                .cast_unsigned(),
+        ),
+        BinaryOp::Udiv => a.checked_div(b),
+        BinaryOp::Urem => a.checked_rem(b),
         BinaryOp::Sar => Some((a.cast_signed() >> (b % 64)).cast_unsigned()),
         BinaryOp::Shr => Some(a >> (b % 64)),
         BinaryOp::Shl => Some(a << (b % 64)),
         BinaryOp::Compare(_, _) => None,
     }
-}
-
-/// Whether the signed division of words has a result: not by 0, nor of the least number by -1.
-fn can_divide_words(a: u32, b: u32) -> bool
-    ensures { result ≡ can_divide W a b }
-{
-    b != 0 && !(a == 0x8000_0000 && b == 0xffff_ffff)
-}
-
-/// The same of longs.
-fn can_divide_longs(a: u64, b: u64) -> bool
-    ensures { result ≡ can_divide L a b }
-{
-    b != 0 && !(a == 0x8000_0000_0000_0000 && b == u64::MAX)
-}
-
-fn word_div(a: u32, b: u32) -> Option<u32>
-    ensures { result ≡ on_integers Div W a b }
-{
-    if !can_divide_words(a, b) {
-        return None;
-    }
-    Some((a.cast_signed() / b.cast_signed()).cast_unsigned())
-}
-
-fn word_rem(a: u32, b: u32) -> Option<u32>
-    ensures { result ≡ on_integers Rem W a b }
-{
-    if !can_divide_words(a, b) {
-        return None;
-    }
-    Some((a.cast_signed() % b.cast_signed()).cast_unsigned())
-}
-
-fn long_div(a: u64, b: u64) -> Option<u64>
-    ensures { result ≡ on_integers Div L a b }
-{
-    if !can_divide_longs(a, b) {
-        return None;
-    }
-    Some((a.cast_signed() / b.cast_signed()).cast_unsigned())
-}
-
-fn long_rem(a: u64, b: u64) -> Option<u64>
-    ensures { result ≡ on_integers Rem L a b }
-{
-    if !can_divide_longs(a, b) {
-        return None;
-    }
-    Some((a.cast_signed() % b.cast_signed()).cast_unsigned())
 }
 
 /// The low bits of a number, widened to a word.

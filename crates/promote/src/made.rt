@@ -18,23 +18,13 @@ fn is_alloc(inst: &Inst) -> bool
 fn makes(insts: &[Lined<Inst>]) -> bool
     ensures { result ≡ makes insts.now }
 {
-    for inst in insts {
-        if is_alloc(&inst.item) {
-            return true;
-        }
-    }
-    false
+    insts.iter().any(|inst| is_alloc(&inst.item))
 }
 
 fn makes_any(blocks: &[Block]) -> bool
     ensures { result ≡ makes_any blocks.now }
 {
-    for block in blocks {
-        if makes(block.insts.as_slice()) {
-            return true;
-        }
-    }
-    false
+    blocks.iter().any(|block| makes(block.insts.as_slice()))
 }
 
 /// Whether the function has an `alloc`. One that has none is promoted as it is.

@@ -61,12 +61,7 @@ fn is_known(table: &FactTable, claim: &Claim) -> bool
 fn are_known(table: &FactTable, claims: &[Claim]) -> bool
     ensures { result ≡ true → AreKnown (facts_of table.now) claims.now }
 {
-    for claim in claims {
-        if !is_known(table, claim) {
-            return false;
-        }
-    }
-    true
+    claims.iter().all(|claim| is_known(table, claim))
 }
 
 /// Whether what is claimed of each block that the jump may lead to is known.

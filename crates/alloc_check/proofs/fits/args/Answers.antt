@@ -1,6 +1,0 @@
-use Rattle.std.proofs.Common.{arith}
-use Rattle.std.proofs.lemmas.Grind.{common_steps}
-use Rattle.alloc_check.proofs.fits.args.Goals as goal
-
-pub loop-arg-preserved : goal.loop-arg-preserved
-loop-arg-preserved c = grind (arith, common_steps)

@@ -1,6 +1,0 @@
-use Rattle.std.proofs.Common.{arith}
-use Rattle.std.proofs.lemmas.Grind.{common_steps}
-use Rattle.alloc_check.proofs.stays.are_apart.Goals as goal
-
-pub loop-equality-preserved : goal.loop-equality-preserved
-loop-equality-preserved c = grind (arith, common_steps)

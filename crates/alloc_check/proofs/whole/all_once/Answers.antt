@@ -1,6 +1,0 @@
-use Rattle.std.proofs.Common.{arith}
-use Rattle.std.proofs.lemmas.Grind.{common_steps}
-use Rattle.alloc_check.proofs.whole.all_once.Goals as goal
-
-pub loop-equalities-preserved : goal.loop-equalities-preserved
-loop-equalities-preserved c = grind (arith, common_steps)

@@ -1,9 +1,0 @@
-use Rattle.std.proofs.Common.{arith}
-use Rattle.std.proofs.lemmas.Grind.{common_steps}
-use Rattle.il_interp.proofs.integers.long_div.Goals as goal
-
-pub returns : goal.returns
-returns c = grind (arith, common_steps)
-
-pub nonzero_div-cast_signed : goal.nonzero_div-cast_signed
-nonzero_div-cast_signed c = grind (arith, common_steps)
