@@ -1,4 +1,4 @@
-//! Functions with computations in front of their loops and extensions.
+//! Functions with computations in front of their loops and addresses.
 ghost use Rattle.std.specs.Prelude.{◌≡◌, ◌≤◌, ◌<◌, IfOk, IfSome};
 ghost use Rattle.vcode.specs.declared.limits.TheConstants.{PLACES};
 ghost use Rattle.il_ast.specs.Prelude.{Keeps};
@@ -48,8 +48,8 @@ pub fn apply(alloc: Global, function: &VFunc, plan: &Plan) -> Result<VFunc, Allo
     Ok(made)
 }
 
-/// The function with computations whose operands its loops don't write done in front of them too, and the first halves of extensions in front of these, in registers of
-/// their own: those that a guess chooses.
+/// The function with computations whose operands its loops don't write done in front of them too, and sums of registers in front of addresses, in registers of their own:
+/// those that a guess chooses.
 ///
 /// # Errors
 ///

@@ -3,7 +3,7 @@
 //! this pass, then drops the lines in front of the branch, whose values nobody reads any more.
 //!
 //! Which blocks set which registers is a guess ([`choice`]): a block that one other alone leads to, by a branch, sets what that one has set and not read, where
-//! it has the register live and the other way of the branch doesn't. The lines stand as far behind as they can (`place`), since the ticks in front of them
+//! it has the register live and the other way of the branch doesn't. The lines stand behind those of the block, since the ticks in front of them
 //! have to pay. A walk over each block that leads to such a block tests that the register is known to hold the number there; where it isn't, the function
 //! stays as it is ([`sink::apply`] takes any plans). A block that its ticks wouldn't pay for stays as it is too. So no proof rests on the guess, nor on what is live.
 //!
@@ -12,6 +12,5 @@
 pub mod choice;
 pub mod known;
 mod numbers;
-mod place;
 pub mod sink;
 mod with_sets;

@@ -2,7 +2,7 @@
 use crate::fact::{Expression, Fact, reads};
 use crate::lines::changed;
 use crate::steps::pass;
-use crate::ways::{Order, is_known, is_linear, may_grow, may_shrink, order_met, order_missed};
+use crate::ways::{Order, is_known, may_grow, may_shrink, order_met, order_missed};
 use cfg_live::uses::line_writes;
 use flow::graph::successor;
 use il_ast::{Few, Seq};
@@ -50,22 +50,7 @@ struct Along {
     has_changed: bool,
 }
 
-/// Takes what is known before a line to what is known behind it, or behind the one that stands in its place.
-fn pass_line(
-    alloc: Global,
-    along: &mut Along,
-    registers: u32,
-    line: &Line<u32>,
-) -> Result<(), AllocError> {
-    match changed(along.facts.as_slice(), registers, line) {
-        Some(changed) => {
-            along.has_changed = true;
-            pass(alloc, &mut along.facts, &changed)
-        }
-        None => pass(alloc, &mut along.facts, line),
-    }
-}
-
+/// Takes what is known before the lines to what is known behind them, or behind those that stand in their places.
 fn pass_lines(
     alloc: Global,
     along: &mut Along,
@@ -73,10 +58,13 @@ fn pass_lines(
     lines: &[Line<u32>],
 ) -> Result<(), AllocError> {
     for line in lines {
-        if let Line::Tick { .. } = line {
-            continue;
+        match changed(along.facts.as_slice(), registers, line) {
+            Some(changed) => {
+                along.has_changed = true;
+                pass(alloc, &mut along.facts, &changed)?;
+            }
+            None => pass(alloc, &mut along.facts, line)?,
         }
-        pass_line(alloc, along, registers, line)?;
     }
     Ok(())
 }
@@ -98,66 +86,33 @@ fn growing_by(register: u32, number: u64) -> Fact {
 
 /// Whether something is known as linear in the register.
 fn is_index(facts: &[Fact], register: u32) -> bool {
-    for fact in facts {
-        match fact.value {
-            Expression::Linear(_, Operand::At(index), _, _) if index == register => return true,
-            _ => {}
-        }
-    }
-    false
+    facts.iter().any(|fact| match fact.value {
+        Expression::Linear(_, Operand::At(index), _, _) => index == register,
+        _ => false,
+    })
 }
 
-/// The word that is less than another, as one that may grow, if something is linear in it.
-fn growing(marks: &[bool], facts: &[Fact], order: &Option<Order>) -> Option<Fact> {
-    match order.as_ref()?.less {
-        Operand::At(register)
-            if is_index(facts, register) && may_grow(marks, facts, order, register) => {
-            Some(growing_by(register, 1))
-        }
-        _ => None,
-    }
-}
-
-/// The word that is more than another, as one that may shrink, if something is linear in it.
-fn shrinking(marks: &[bool], facts: &[Fact], order: &Option<Order>) -> Option<Fact> {
-    match order.as_ref()?.more {
-        Operand::At(register)
-            if is_index(facts, register) && may_shrink(marks, facts, order, register) => {
-            Some(growing_by(register, u64::MAX))
-        }
-        _ => None,
-    }
-}
-
-/// What is linear in a register, as what is linear in a copy of that.
-fn of_copy(linear: &Fact, copy: &Fact) -> Option<Fact> {
-    match (linear.value, copy.value) {
-        (
-            Expression::Linear(base, Operand::At(index), factor, offset),
-            Expression::Same(Operand::At(from)),
-        ) => {
-            if from == index {
-                let value = Expression::Linear(base, Operand::At(copy.register), factor, offset);
-                Some(Fact {
-                    register: linear.register,
-                    value,
-                })
-            } else {
-                None
-            }
-        }
-        _ => None,
-    }
-}
-
-fn claim_copies(known: &mut Vec<Fact>, facts: &[Fact], linear: &Fact) -> Result<(), AllocError> {
-    if !is_linear(linear.value) {
+/// Of two words in order, the less one as one that may grow, and the other as one that may shrink, if something is linear in it.
+fn claim_growing(
+    known: &mut Vec<Fact>,
+    marks: &[bool],
+    facts: &[Fact],
+    order: &Option<Order>,
+) -> Result<(), AllocError> {
+    let Some(words) = order else {
         return Ok(());
+    };
+    if let Operand::At(register) = words.less
+        && is_index(facts, register)
+        && may_grow(marks, facts, order, register)
+    {
+        push_claim(known, growing_by(register, 1))?;
     }
-    for fact in facts {
-        if let Some(other) = of_copy(linear, fact) {
-            push_claim(known, other)?;
-        }
+    if let Operand::At(register) = words.more
+        && is_index(facts, register)
+        && may_shrink(marks, facts, order, register)
+    {
+        push_claim(known, growing_by(register, u64::MAX))?;
     }
     Ok(())
 }
@@ -258,17 +213,8 @@ fn first_claim(
     order: &Option<Order>,
 ) -> Result<Vec<Fact>, AllocError> {
     let mut known = Vec::with_capacity(alloc, facts.len().min(CLAIMS))?;
-    if let Some(fact) = growing(writing.marks, facts, order) {
-        push_claim(&mut known, fact)?;
-    }
-    if let Some(fact) = shrinking(writing.marks, facts, order) {
-        push_claim(&mut known, fact)?;
-    }
-    claim_rank(&mut known, writing, block, facts, 0)?;
-    for fact in facts {
-        claim_copies(&mut known, facts, fact)?;
-    }
-    for wanted in 1..4 {
+    claim_growing(&mut known, writing.marks, facts, order)?;
+    for wanted in 0..4 {
         claim_rank(&mut known, writing, block, facts, wanted)?;
     }
     Ok(known)
@@ -291,27 +237,8 @@ fn narrow(marks: &[bool], claim: &mut Claim, facts: &[Fact], order: &Option<Orde
     true
 }
 
-/// One more way leads to the block, on which these facts are known; says whether that changes what is claimed.
+/// One more way leads to the block, on which these facts are known; answers its number if that changes what is claimed of it, and none that a block has if not.
 fn meet(
-    alloc: Global,
-    writing: &Writing<'_>,
-    block: usize,
-    claim: &mut Claim,
-    facts: &[Fact],
-    order: &Option<Order>,
-) -> Result<bool, AllocError> {
-    if claim.facts.is_some() {
-        let changes = narrow(writing.marks, claim, facts, order);
-        claim.is_new = claim.is_new || changes;
-        return Ok(changes);
-    }
-    claim.facts = Some(first_claim(alloc, writing, block, facts, order)?);
-    claim.is_new = true;
-    Ok(true)
-}
-
-/// The same at one of all blocks; answers its number if that changes what is claimed of it, and none that a block has if not.
-fn meet_at(
     alloc: Global,
     writing: &Writing<'_>,
     claims: &mut [Claim],
@@ -319,10 +246,16 @@ fn meet_at(
     facts: &[Fact],
     order: &Option<Order>,
 ) -> Result<usize, AllocError> {
-    let changes = match claims.get_mut(block) {
-        Some(claim) => meet(alloc, writing, block, claim, facts, order)?,
-        None => false,
+    let Some(claim) = claims.get_mut(block) else {
+        return Ok(usize::MAX);
     };
+    let changes = if claim.facts.is_some() {
+        narrow(writing.marks, claim, facts, order)
+    } else {
+        claim.facts = Some(first_claim(alloc, writing, block, facts, order)?);
+        true
+    };
+    claim.is_new = claim.is_new || changes;
     Ok(if changes { block } else { usize::MAX })
 }
 
@@ -335,45 +268,31 @@ fn lead(
     facts: &[Fact],
 ) -> Result<usize, AllocError> {
     match jump {
-        Jump::Goto(block) => meet_at(alloc, writing, claims, *block, facts, &None),
+        Jump::Goto(block) => meet(alloc, writing, claims, *block, facts, &None),
         Jump::Branch { on, met, otherwise } => {
-            let first = meet_at(alloc, writing, claims, *met, facts, &order_met(on))?;
-            let second = meet_at(alloc, writing, claims, *otherwise, facts, &order_missed(on))?;
+            let first = meet(alloc, writing, claims, *met, facts, &order_met(on))?;
+            let second = meet(alloc, writing, claims, *otherwise, facts, &order_missed(on))?;
             Ok(first.min(second))
         }
         Jump::Return(_) | Jump::Halt => Ok(usize::MAX),
     }
 }
 
-/// Puts in what is known, if that is less than when the block was gone through; says whether it is.
-fn take_new(claim: &mut Claim, facts: &mut Vec<Fact>) -> Result<bool, AllocError> {
-    if !claim.is_new {
-        return Ok(false);
-    }
-    claim.is_new = false;
-    match &claim.facts {
-        Some(known) => {
-            facts.clear();
-            facts.extend_from_slice(known.as_slice())?;
-            Ok(true)
-        }
-        None => Ok(false),
-    }
-}
-
-/// The same of what is known where a block begins.
+/// Puts in what is known where a block begins, if that is less than when the block was gone through; says whether it is.
 fn begin(claims: &mut [Claim], block: usize, along: &mut Along) -> Result<bool, AllocError> {
     along.has_changed = false;
-    match claims.get_mut(block) {
-        Some(claim) => take_new(claim, &mut along.facts),
-        None => Ok(false),
-    }
-}
-
-/// Notes whether lines of a block have become others.
-fn note_changes(claims: &mut [Claim], block: usize, has_changed: bool) {
-    if let Some(claim) = claims.get_mut(block) {
-        claim.has_changed = has_changed;
+    let Some(claim) = claims.get_mut(block) else {
+        return Ok(false);
+    };
+    let is_new = claim.is_new;
+    claim.is_new = false;
+    match &claim.facts {
+        Some(known) if is_new => {
+            along.facts.clear();
+            along.facts.extend_from_slice(known.as_slice())?;
+            Ok(true)
+        }
+        _ => Ok(false),
     }
 }
 
@@ -388,14 +307,15 @@ fn spread(
     block: &Block<u32>,
 ) -> Result<usize, AllocError> {
     let next = number.saturating_add(1);
-    if begin(claims, number, along)? {
-        pass_lines(alloc, along, registers, block.lines.as_slice())?;
-        note_changes(claims, number, along.has_changed);
-        let first = lead(alloc, writing, claims, &block.jump, along.facts.as_slice())?;
-        Ok(first.min(next))
-    } else {
-        Ok(next)
+    if !begin(claims, number, along)? {
+        return Ok(next);
     }
+    pass_lines(alloc, along, registers, block.lines.as_slice())?;
+    if let Some(claim) = claims.get_mut(number) {
+        claim.has_changed = along.has_changed;
+    }
+    let first = lead(alloc, writing, claims, &block.jump, along.facts.as_slice())?;
+    Ok(first.min(next))
 }
 
 /// Goes through the blocks in the order of the text, and back to the first of those of which less is claimed than when they were gone through, until there is none.
@@ -522,13 +442,20 @@ fn listed(alloc: Global, claims: Vec<Claim>) -> Result<Vec<Seq<Fact>>, AllocErro
     Ok(lists)
 }
 
-/// The same of functions of several blocks.
-fn claims_of(
+/// The facts claimed where each block begins; none where no line becomes another by them. Of a single block nothing is claimed.
+///
+/// # Errors
+///
+/// Only where memory was refused.
+pub(crate) fn claims(
     alloc: Global,
     marks: &[bool],
     registers: u32,
     blocks: &[Block<u32>],
 ) -> Result<Option<Vec<Seq<Fact>>>, AllocError> {
+    if blocks.len() < 2 {
+        return Ok(Some(Vec::new(alloc)));
+    }
     let mut claims = first_claims(alloc, blocks.len())?;
     let writing = writing_of(alloc, marks, registers, blocks)?;
     let mut along = Along {
@@ -547,23 +474,5 @@ fn claims_of(
         Ok(Some(listed(alloc, claims)?))
     } else {
         Ok(None)
-    }
-}
-
-/// The facts claimed where each block begins; none where no line becomes another by them. Of a single block nothing is claimed.
-///
-/// # Errors
-///
-/// Only where memory was refused.
-pub(crate) fn claims(
-    alloc: Global,
-    marks: &[bool],
-    registers: u32,
-    blocks: &[Block<u32>],
-) -> Result<Option<Vec<Seq<Fact>>>, AllocError> {
-    if blocks.len() > 1 {
-        claims_of(alloc, marks, registers, blocks)
-    } else {
-        Ok(Some(Vec::new(alloc)))
     }
 }

@@ -44,23 +44,15 @@ pub(crate) fn is_worth(value: Expression) -> bool {
 
 /// Whether something is known as linear in a register.
 fn has_linear(facts: &[Fact]) -> bool {
-    for fact in facts {
-        if let Expression::Linear(_, _, _, _) = fact.value {
-            return true;
-        }
-    }
-    false
+    facts.iter().any(|fact| matches!(fact.value, Expression::Linear(_, _, _, _)))
 }
 
 /// Whether something is known as the sum of the register and a product: a copy of the register is then worth more than a sum with a number.
 fn is_base(facts: &[Fact], register: u32) -> bool {
-    for fact in facts {
-        match fact.value {
-            Expression::Linear(Operand::At(base), _, _, _) if base == register => return true,
-            _ => {}
-        }
-    }
-    false
+    facts.iter().any(|fact| match fact.value {
+        Expression::Linear(Operand::At(base), _, _, _) => base == register,
+        _ => false,
+    })
 }
 
 /// A register that is known to hold a sum with a product as what is linear in a register that grows.

@@ -3,7 +3,6 @@ use crate::choice::candidates::may_plan;
 use crate::choice::credit::credit;
 use crate::choice::dominators::Dominator;
 use crate::choice::growing::{Linear, product_of};
-use crate::choice::halves::plan_halves;
 use crate::choice::nests::plan_nests;
 use crate::choice::offsets::plan_offsets;
 use crate::choice::reads::count_reads;
@@ -54,15 +53,6 @@ fn is_worth(plan: &Computation) -> bool {
         (_, _, Operand::At(_)) => true,
         _ => false,
     }
-}
-
-/// The register of a computation that is planned for this loop already.
-fn planned(plans: &Plans, wanted: &Computation) -> Option<u32> {
-    let mut made = plans.list.iter().skip(plans.first);
-    let same = made.find(|plan| {
-        plan.operation == wanted.operation && plan.left == wanted.left && plan.right == wanted.right
-    })?;
-    Some(same.register)
 }
 
 /// Takes from the credit of a block what a line costs, if it leaves that.
@@ -129,49 +119,25 @@ fn push_plan(plans: &mut Plans, plan: Computation) -> Result<Option<u32>, AllocE
     Ok(Some(plan.register))
 }
 
-/// A computation in front of a line of its own block, into the next register, if the block pays for it.
+/// A sum of two registers in front of a line of its own block, into the next register, if the block pays for it.
 pub(crate) fn plan_in_front(
     plans: &mut Plans,
     block: usize,
-    op: RegOp,
-    left: Operand<u32>,
-    right: Operand<u32>,
+    left: u32,
+    right: u32,
 ) -> Option<Computation> {
     let plan = Computation {
         block,
         register: plans.next,
-        operation: Operation::Reg(op),
-        left,
-        right,
+        operation: Operation::Reg(RegOp::Add),
+        left: Operand::At(left),
+        right: Operand::At(right),
     };
     if plan.register >= PLACES - 1 || !pay(plans.credits.as_mut_slice(), block, &plan.line()) {
         return None;
     }
     plans.next = plan.register.saturating_add(1);
     Some(plan)
-}
-
-/// A plan for an operation on these operands, if there are both and it is worth that.
-fn plan_of(
-    block: usize,
-    register: u32,
-    operation: Operation,
-    one: Option<Operand<u32>>,
-    other: Option<Operand<u32>>,
-) -> Option<Computation> {
-    match (one, other) {
-        (Some(left), Some(right)) => {
-            let plan = Computation {
-                block,
-                register,
-                operation,
-                left,
-                right,
-            };
-            if is_worth(&plan) { Some(plan) } else { None }
-        }
-        _ => None,
-    }
 }
 
 /// The computation of a line in front of a loop, if its operands have their values there, and the register that the line writes.
@@ -188,19 +154,32 @@ fn wanted(
             left,
             right,
         } => {
-            let one = written.in_front(*left);
-            let other = written.in_front(*right);
-            Some((*to, plan_of(before, register, *operation, one, other)?))
+            let plan = Computation {
+                block: before,
+                register,
+                operation: *operation,
+                left: written.in_front(*left)?,
+                right: written.in_front(*right)?,
+            };
+            if is_worth(&plan) {
+                Some((*to, plan))
+            } else {
+                None
+            }
         }
         _ => None,
     }
 }
 
-/// A computation that is planned, as it is or anew.
-fn put_plan(plans: &mut Plans, plan: Computation) -> Result<Option<u32>, AllocError> {
-    match planned(plans, &plan) {
+/// A computation for this loop that is planned, as it is or anew.
+fn put_plan(plans: &mut Plans, wanted: Computation) -> Result<Option<u32>, AllocError> {
+    let mut made = plans.list.iter().skip(plans.first);
+    let same = made.find(|plan| {
+        plan.operation == wanted.operation && plan.left == wanted.left && plan.right == wanted.right
+    });
+    match same.map(|plan| plan.register) {
         Some(register) => Ok(Some(register)),
-        None => push_plan(plans, plan),
+        None => push_plan(plans, wanted),
     }
 }
 
@@ -232,13 +211,22 @@ fn part_of_sum(
     if of.operation != operation || !saves(written, operation, sum) {
         return None;
     }
-    let (one, rest) = match written.in_front(of.left) {
-        Some(one) => (Some(one), of.right),
-        None => (written.in_front(of.right), of.left),
+    let (left, rest) = match written.in_front(of.left) {
+        Some(left) => (left, of.right),
+        None => (written.in_front(of.right)?, of.left),
     };
-    let other = written.in_front(added);
-    let plan = plan_of(before, register, operation, one, other)?;
-    Some(Part { plan, sum, rest })
+    let plan = Computation {
+        block: before,
+        register,
+        operation,
+        left,
+        right: written.in_front(added)?,
+    };
+    if is_worth(&plan) {
+        Some(Part { plan, sum, rest })
+    } else {
+        None
+    }
 }
 
 /// The same by either of the two that are added; of longs both are registers.
@@ -323,9 +311,7 @@ fn linear_of(
             at: place.at,
             to,
             base,
-            factor: *factor,
             product,
-            is_direct: true,
             is_part: false,
         })),
         None => Ok(None),
@@ -349,9 +335,7 @@ fn push_part(
             at: place.at,
             to,
             base: Operand::At(register),
-            factor: part.rest,
             product,
-            is_direct: false,
             is_part: false,
         })?;
     }
@@ -480,14 +464,6 @@ pub(crate) fn plan_block(
     Ok(())
 }
 
-fn credits(alloc: Global, blocks: &[Block<u32>]) -> Result<Vec<u128>, AllocError> {
-    let mut credits = vec![in alloc; 0u128; blocks.len()]?;
-    for (left, block) in credits.iter_mut().zip(blocks) {
-        *left = credit(block);
-    }
-    Ok(credits)
-}
-
 /// The plans, block by block; with those for the lines of each block.
 fn by_block(
     alloc: Global,
@@ -498,10 +474,8 @@ fn by_block(
     let reads = count_reads(alloc, registers, blocks)?;
     let mut lists = Vec::with_capacity(alloc, blocks.len())?;
     for (number, block) in blocks.iter().enumerate() {
-        let mut in_front = plan_halves(alloc, plans, number, block)?;
-        plan_offsets(plans, &mut in_front, reads.as_slice(), number, block)?;
         lists.push(BlockPlan {
-            in_front,
+            in_front: plan_offsets(alloc, plans, reads.as_slice(), number, block)?,
             behind: Vec::new(alloc),
         })?;
     }
@@ -514,7 +488,13 @@ fn no_plans(alloc: Global, function: &VFunc) -> Result<Plans, AllocError> {
         list: Vec::new(alloc),
         first: 0,
         next: function.registers,
-        credits: credits(alloc, function.code.blocks.as_slice())?,
+        credits: function
+            .code
+            .blocks
+            .as_slice()
+            .iter()
+            .map(|block| credit(block))
+            .collect(alloc)?,
         sums: Vec::new(alloc),
         dominators: Vec::new(alloc),
         owed: 0,

@@ -3,13 +3,11 @@ use crate::choice::choose::{Plans, pay};
 use crate::choice::written::{Growth, Product, Spot, Written};
 use crate::plan::Computation;
 use flow::loops::Loop;
-use il_ast::{Class, Condition};
 use rv_isa::{RegOp, RegWOp};
-use sign_extensions::marks::is_marked;
 use std::alloc::AllocError;
 use vcode::cost::is_immediate;
 use vcode::limits::PLACES;
-use vcode::{Block, Comparison, Jump, Line, Operand, Operation};
+use vcode::{Block, Line, Operand, Operation};
 
 /// A sum of what a loop doesn't change and of a product of a register that grows.
 #[derive(Clone, Copy)]
@@ -17,13 +15,7 @@ pub(crate) struct Linear {
     pub(crate) at: Spot,
     pub(crate) to: u32,
     pub(crate) base: Operand<u32>,
-
-    /// what holds the product
-    pub(crate) factor: Operand<u32>,
     pub(crate) product: Product,
-
-    /// whether its line reads the product
-    pub(crate) is_direct: bool,
 
     /// whether it only stands in another sum, which is planned in its place
     pub(crate) is_part: bool,
@@ -34,151 +26,22 @@ const MOST: usize = 4;
 
 // ---- registers that grow
 
-/// Of two operands, as signed numbers, one is less.
-#[derive(Clone, Copy)]
-struct Order {
-    less: Operand<u32>,
-    more: Operand<u32>,
-}
-
-/// The number that is further by so much.
-fn further(operand: Operand<u32>, by: u64) -> Option<Operand<u32>> {
-    match operand {
-        Operand::Number(number) => Some(Operand::Number(number.wrapping_add(by))),
-        _ => None,
-    }
-}
-
-/// What the comparison says where it holds or doesn't. What is no less than a number is more than the one before it.
-fn order_of(on: &Comparison<u32>, holds: bool) -> Option<Order> {
-    let (less, more) = match (on.condition, holds) {
-        (Condition::SignedLess, true) | (Condition::SignedGreaterEqual, false) => {
-            (on.left, on.right)
-        }
-        (Condition::SignedGreater, true) | (Condition::SignedLessEqual, false) => {
-            (on.right, on.left)
-        }
-        (Condition::SignedGreaterEqual, true) | (Condition::SignedLess, false) => {
-            (further(on.right, u64::MAX)?, on.left)
-        }
-        (Condition::SignedLessEqual, true) | (Condition::SignedGreater, false) => {
-            (on.left, further(on.right, 1)?)
-        }
-        _ => return None,
-    };
-    Some(Order { less, more })
-}
-
-/// Whether what is less or more than the operand, as a number of this class, is so than a word.
-fn limits(marks: &[bool], class: Class, other: Operand<u32>) -> bool {
-    match (class, other) {
-        (Class::W, _) => true,
-        (Class::L, Operand::Number(number)) => stands(number),
-        (Class::L, Operand::At(register)) => is_marked(marks, register),
-        _ => false,
-    }
-}
-
-/// Whether the register is less than a word where it grows, or more than one where it shrinks.
-fn is_within(marks: &[bool], on: &Comparison<u32>, holds: bool, register: u32, by: u64) -> bool {
-    let Some(order) = order_of(on, holds) else {
-        return false;
-    };
-    let (own, other) = if by == 1 {
-        (order.less, order.more)
-    } else {
-        (order.more, order.less)
-    };
-    own == Operand::At(register) && limits(marks, on.class, other)
-}
-
-/// Whether the number is the extension of its low 32 bits.
-fn stands(number: u64) -> bool {
-    number < 0x8000_0000 || number >= 0xffff_ffff_8000_0000
-}
-
-/// Whether the loop goes on from its head only where the register may grow or shrink by one.
-fn is_tested(marks: &[bool], blocks: &[Block<u32>], nest: &Loop, register: u32, by: u64) -> bool {
-    match blocks.get(nest.head) {
-        Some(
-            Block {
-                jump: Jump::Branch { on, met, otherwise },
-                ..
-            },
-        ) => {
-            match (nest.blocks.contains(met), nest.blocks.contains(otherwise)) {
-                (true, false) => is_within(marks, on, true, register, by),
-                (false, true) => is_within(marks, on, false, register, by),
-                _ => false,
-            }
-        }
-        _ => false,
-    }
-}
-
-/// Whether the last of the lines that write the register leaves a word in it that stands extended.
-fn leaves_word(lines: &[Line<u32>], register: u32) -> bool {
-    let mut leaves = false;
-    for (number, line) in lines.iter().enumerate() {
-        match line {
-            Line::Set {
-                to,
-                value: Operand::Number(value),
-            } if *to == register => {
-                leaves = stands(*value);
-            }
-            Line::Operate {
-                to,
-                operation: Operation::RegW(_),
-                ..
-            } if *to == register => leaves = true,
-            Line::Set {
-                to,
-                value: Operand::At(from),
-            } if *to == register => leaves = from_word(lines, number, *from),
-            _ => {}
-        }
-    }
-    leaves
-}
-
-/// Whether one of the first lines leaves a word in the register.
-fn from_word(lines: &[Line<u32>], number: usize, register: u32) -> bool {
-    let mut first = lines.iter().take(number);
-    first.any(|line| match line {
-        Line::Operate {
-            to,
-            operation: Operation::RegW(_),
-            ..
-        } => *to == register,
-        _ => false,
-    })
-}
-
 /// A register that takes the sum of a register and a number, or takes back such a sum of its own.
 fn growth_of(written: &Written, line: &Line<u32>, at: Spot) -> Option<(u32, Growth)> {
     match line {
         Line::Operate {
             to,
-            operation,
+            operation: Operation::Reg(RegOp::Add) | Operation::RegW(RegWOp::Addw),
             left: Operand::At(from),
             right: Operand::Number(by),
-        } => {
-            let is_word = match operation {
-                Operation::Reg(RegOp::Add) => false,
-                Operation::RegW(RegWOp::Addw) => true,
-                _ => return None,
-            };
-            Some((
-                *to,
-                Growth {
-                    from: *from,
-                    by: *by,
-                    is_word,
-                    at,
-                },
-            ))
-        }
+        } => Some((
+            *to,
+            Growth {
+                from: *from,
+                by: *by,
+                at,
+            },
+        )),
         Line::Set {
             to,
             value: Operand::At(from),
@@ -190,34 +53,13 @@ fn growth_of(written: &Written, line: &Line<u32>, at: Spot) -> Option<(u32, Grow
     }
 }
 
-/// Whether the growth is one of longs too.
-fn grows_long(
-    marks: &[bool],
-    blocks: &[Block<u32>],
-    nest: &Loop,
-    register: u32,
-    growth: &Growth,
-) -> bool {
-    if !growth.is_word {
-        return true;
-    }
-    let begins = match blocks.get(nest.before) {
-        Some(block) => leaves_word(block.lines.as_slice(), register),
-        None => false,
-    };
-    (growth.by == 1 || growth.by == u64::MAX)
-        && (begins || is_marked(marks, register))
-        && is_tested(marks, blocks, nest, register, growth.by)
-}
-
-/// Notes the registers that the loop adds a number to, by the marks of those that hold whole words alone.
+/// Notes the registers that the loop adds a number to. A word of which it isn't known that it grows as a long does leads to sums that nothing becomes a copy of.
 ///
 /// # Errors
 ///
 /// Only where memory was refused.
 pub(crate) fn find_growth(
     written: &mut Written,
-    marks: &[bool],
     blocks: &[Block<u32>],
     nest: &Loop,
 ) -> Result<(), AllocError> {
@@ -229,9 +71,7 @@ pub(crate) fn find_growth(
                     line,
                 };
                 if let Some((to, growth)) = growth_of(written, item, at) {
-                    if to != growth.from || grows_long(marks, blocks, nest, to, &growth) {
-                        written.grow(to, growth)?;
-                    }
+                    written.grow(to, growth)?;
                 }
             }
         }
@@ -285,26 +125,6 @@ fn is_steady(written: &Written, nest: &Loop, linear: &Linear) -> bool {
     let at = linear.at;
     let is_before = at.block < grown.block || (at.block == grown.block && at.line < grown.line);
     nest.always.contains(&at.block) && is_before
-}
-
-/// Whether the product is read by nothing but such sums.
-fn is_spared(written: &Written, nest: &Loop, sums: &[Linear], factor: Operand<u32>) -> bool {
-    let mut direct = 0u32;
-    for linear in sums {
-        if linear.factor == factor {
-            let is_read = linear.is_part && written.reads(linear.to) != 1;
-            if is_read || !is_steady(written, nest, linear) {
-                return false;
-            }
-            if linear.is_direct {
-                direct = direct.saturating_add(1);
-            }
-        }
-    }
-    match factor {
-        Operand::At(register) => direct == written.reads(register),
-        _ => direct == 0,
-    }
 }
 
 fn is_same(one: &Linear, other: &Linear) -> bool {
@@ -373,7 +193,7 @@ fn plan_step(
     Ok(true)
 }
 
-/// Whether a sum is worth a register that is added to: where its product is then read by nothing, and it isn't planned already.
+/// Whether a sum is worth a register that is added to: where it isn't planned already.
 fn is_wanted(
     sums: &[Linear],
     written: &Written,
@@ -385,7 +205,6 @@ fn is_wanted(
     !linear.is_part
         && !first.any(|one| !one.is_part && is_same(one, linear))
         && is_steady(written, nest, linear)
-        && is_spared(written, nest, sums, linear.factor)
 }
 
 /// Plans what is added to in the place of sums with products.

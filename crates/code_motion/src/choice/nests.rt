@@ -4,7 +4,6 @@ use crate::choice::dominators::{Dominator, Graph, dominators_of};
 use crate::choice::growing::{find_growth, plan_steps};
 use crate::choice::written::Written;
 use flow::loops::{Loop, find_loops, largest_first};
-use sign_extensions::marks::whole_registers;
 use std::alloc::{AllocError, Global};
 use vcode::{Block, VFunc};
 
@@ -15,7 +14,6 @@ const PLENTY: u128 = 1_000_000;
 #[derive(Drop)]
 struct Setting<'a> {
     blocks: &'a [Block<u32>],
-    marks: Vec<bool>,
 
     /// made when it is first asked for
     graph: Option<Graph>,
@@ -53,7 +51,7 @@ fn plan_lines(
     nest: &Loop,
 ) -> Result<(), AllocError> {
     count_writes(written, setting.blocks, nest);
-    find_growth(written, setting.marks.as_slice(), setting.blocks, nest)?;
+    find_growth(written, setting.blocks, nest)?;
     plans.sums.clear();
     for number in nest.blocks.iter() {
         if let Some(block) = setting.blocks.get(*number) {
@@ -126,7 +124,6 @@ fn plan_in_order(
     let blocks = function.code.blocks.as_slice();
     let mut setting = Setting {
         blocks,
-        marks: whole_registers(alloc, &function.code, function.registers)?,
         graph: None,
     };
     let mut written = Written::new(alloc, function.registers, blocks)?;

@@ -4,7 +4,7 @@ use crate::choice::choose::{Plans, plan_in_front};
 use crate::plan::Computation;
 use cfg_live::uses::line_writes;
 use rv_isa::RegOp;
-use std::alloc::AllocError;
+use std::alloc::{AllocError, Global};
 use vcode::cost::is_immediate;
 use vcode::{Block, Line, Operand, Operation};
 
@@ -93,86 +93,54 @@ fn reads_of(reads: &[u32], register: u32) -> u32 {
     reads.get(register as usize).copied().unwrap_or(0)
 }
 
-/// A sum of two registers that is wanted in front of a line.
-#[derive(Clone, Copy)]
-struct Sum {
-    base: u32,
-    added: u32,
-}
-
-/// The sum that is wanted where `register` is the sum of another register and a number, which nothing else reads, and `to` is read as an address alone.
-fn sum_of(
+/// What `register` is the sum of together with a number, where nothing else reads it, and `to` is read as an address alone.
+fn base_of(
     lines: &[Line<u32>],
     reads: &[u32],
     number: usize,
     to: u32,
     register: u32,
-    added: u32,
-) -> Option<Sum> {
-    if reads_of(reads, register) != 1 {
-        return None;
-    }
+) -> Option<u32> {
     let offset = offset_of(lines, number, register)?;
     let taken = count_takes(lines, number.saturating_add(1), to, offset.number);
-    if taken != 0 && taken == reads_of(reads, to) {
-        Some(Sum {
-            base: offset.base,
-            added,
-        })
+    if reads_of(reads, register) == 1 && taken != 0 && taken == reads_of(reads, to) {
+        Some(offset.base)
     } else {
         None
     }
 }
 
-fn sum_at(lines: &[Line<u32>], reads: &[u32], number: usize) -> Option<Sum> {
-    match lines.get(number) {
-        Some(
-            Line::Operate {
-                to,
-                operation: Operation::Reg(RegOp::Add),
-                left: Operand::At(left),
-                right: Operand::At(right),
-            },
-        ) => match sum_of(lines, reads, number, *to, *left, *right) {
-            Some(sum) => Some(sum),
-            None => sum_of(lines, reads, number, *to, *right, *left),
+/// The two registers whose sum is wanted in front of a line.
+fn summands_at(lines: &[Line<u32>], reads: &[u32], number: usize) -> Option<(u32, u32)> {
+    match lines.get(number)? {
+        Line::Operate {
+            to,
+            operation: Operation::Reg(RegOp::Add),
+            left: Operand::At(left),
+            right: Operand::At(right),
+        } => match base_of(lines, reads, number, *to, *left) {
+            Some(base) => Some((base, *right)),
+            None => Some((base_of(lines, reads, number, *to, *right)?, *left)),
         },
         _ => None,
     }
 }
 
-/// Puts what is computed in front of a line to what is computed in front of others.
-fn put_front(
-    fronts: &mut Vec<Option<Computation>>,
-    number: usize,
-    plan: Option<Computation>,
-) -> Result<(), AllocError> {
-    if number >= fronts.len() {
-        fronts.resize(number.saturating_add(1), None)?;
-    }
-    if let Some(front) = fronts.get_mut(number) {
-        *front = plan;
-    }
-    Ok(())
-}
-
-/// Adds such sums to what is computed in front of the lines of a block.
+/// What is computed in front of each line of a block; nothing at all where no such sum is wanted.
 pub(crate) fn plan_offsets(
+    alloc: Global,
     plans: &mut Plans,
-    fronts: &mut Vec<Option<Computation>>,
     reads: &[u32],
     number: usize,
     block: &Block<u32>,
-) -> Result<(), AllocError> {
+) -> Result<Vec<Option<Computation>>, AllocError> {
     let lines = block.lines.as_slice();
+    let mut fronts = Vec::new(alloc);
     for at in 0..lines.len() {
-        if let Some(sum) = sum_at(lines, reads, at) {
-            if !matches!(fronts.get(at), Some(Some(_))) {
-                let (left, right) = (Operand::At(sum.base), Operand::At(sum.added));
-                let plan = plan_in_front(plans, number, RegOp::Add, left, right);
-                put_front(fronts, at, plan)?;
-            }
+        if let Some((base, added)) = summands_at(lines, reads, at) {
+            fronts.resize(at, None)?;
+            fronts.push(plan_in_front(plans, number, base, added))?;
         }
     }
-    Ok(())
+    Ok(fronts)
 }

@@ -34,7 +34,6 @@ pub(crate) struct Sum {
 pub(crate) struct Growth {
     pub(crate) from: u32,
     pub(crate) by: u64,
-    pub(crate) is_word: bool,
     pub(crate) at: Spot,
 }
 

@@ -5,7 +5,6 @@ ghost use Rattle.vcode.specs.declared.line.Line.{Line as ALine};
 ghost use Rattle.vcode.specs.Prelude.{virtual_code};
 ghost use Rattle.code_motion.specs.Later.{line_of, may_wait, lets_wait, AreLater, Makes, IsLater, AllLater};
 
-use crate::choice::reads::count_reads;
 use crate::later::choice::{is_any_put_off, place_of};
 use crate::later::waiting::{Waiting, lets_wait, operation_of};
 use il_ast::Seq;
@@ -94,15 +93,14 @@ fn pass(
     alloc: Global,
     made: &mut Vec<Line<u32>>,
     put_off: PutOff,
-    from: &Block<u32>,
-    counts: &[u32],
+    from: &[Line<u32>],
     number: usize,
     line: &Line<u32>,
 ) -> Result<PutOff, AllocError>
     ensures { IfOk result (λ q. (all ls : List (ALine ℕ)) → Makes all made.old.items put_off.waiting (line.now ∷ ls) → Makes all made.new.items q.waiting ls) }
 {
     let waiting = settle(made, put_off.waiting, put_off.due <= number, line)?;
-    let place = place_of(from, number, counts);
+    let place = place_of(from, number);
     let due = match (waiting, place) {
         (None, Some(place)) => place,
         _ => put_off.due,
@@ -112,12 +110,7 @@ fn pass(
 }
 
 /// The lines of a block with what is put off where it is done.
-fn later_lines(
-    alloc: Global,
-    block: &Block<u32>,
-    counts: &[u32],
-    from: &[Line<u32>],
-) -> Result<Vec<Line<u32>>, AllocError>
+fn later_lines(alloc: Global, from: &[Line<u32>]) -> Result<Vec<Line<u32>>, AllocError>
     ensures { IfOk result (λ v. AreLater None from.now v.items) }
 {
     let mut made = Vec::with_capacity(alloc, from.len())?;
@@ -126,7 +119,7 @@ fn later_lines(
         due: 0,
     };
     for (number, line) in from.iter().enumerate() {
-        put_off = pass(alloc, &mut made, put_off, block, counts, number, line)?;
+        put_off = pass(alloc, &mut made, put_off, from, number, line)?;
     }
     finish(&mut made, put_off.waiting)?;
     Ok(made)
@@ -145,10 +138,10 @@ fn copy(alloc: Global, from: &Block<u32>) -> Result<Block<u32>, AllocError>
 }
 
 /// The block with what is put off, if its ticks still pay in time.
-fn later(alloc: Global, from: &Block<u32>, counts: &[u32]) -> Result<Block<u32>, AllocError>
+fn later(alloc: Global, from: &Block<u32>) -> Result<Block<u32>, AllocError>
     ensures { IfOk result (λ d. IsLater from.now d) }
 {
-    let lines = later_lines(alloc, from, counts, from.lines.as_slice())?;
+    let lines = later_lines(alloc, from.lines.as_slice())?;
     let block = Block {
         lines: Seq::from_vec(lines),
         jump: from.jump,
@@ -160,16 +153,12 @@ fn later(alloc: Global, from: &Block<u32>, counts: &[u32]) -> Result<Block<u32>,
     }
 }
 
-fn all_later(
-    alloc: Global,
-    from: &[Block<u32>],
-    counts: &[u32],
-) -> Result<Vec<Block<u32>>, AllocError>
+fn all_later(alloc: Global, from: &[Block<u32>]) -> Result<Vec<Block<u32>>, AllocError>
     ensures { IfOk result (λ v. AllLater from.now v.items) }
 {
     let mut made = Vec::with_capacity(alloc, from.len())?;
     for block in from {
-        made.push(later(alloc, block, counts)?)?;
+        made.push(later(alloc, block)?)?;
     }
     Ok(made)
 }
@@ -178,14 +167,14 @@ fn all_later(
 const ROUNDS: usize = 4;
 
 /// The function with sums put off, none of them over another one that is.
-fn put_off_some(alloc: Global, function: &VFunc, counts: &[u32]) -> Result<VFunc, AllocError>
+fn put_off_some(alloc: Global, function: &VFunc) -> Result<VFunc, AllocError>
     ensures { IfOk result (λ w. Keeps (virtual_code function.now) (virtual_code w)) }
 {
-    let made = all_later(alloc, function.code.blocks.as_slice(), counts)?;
+    let made = all_later(alloc, function.code.blocks.as_slice())?;
     function.with_blocks(alloc, function.registers, Seq::from_vec(made))
 }
 
-/// The function with its sums of a register and a number behind the last lines that read that register, where it isn't wanted then.
+/// The function with its sums of a register and a number behind the last lines that read that register.
 ///
 /// # Errors
 ///
@@ -193,17 +182,16 @@ fn put_off_some(alloc: Global, function: &VFunc, counts: &[u32]) -> Result<VFunc
 pub fn put_off_sums(alloc: Global, function: &VFunc) -> Result<Option<VFunc>, AllocError>
     ensures { IfOk result (λ o. IfSome o (λ w. Keeps (virtual_code function.now) (virtual_code w))) }
 {
-    let counts = count_reads(alloc, function.registers, function.code.blocks.as_slice())?;
-    if !is_any_put_off(function.code.blocks.as_slice(), counts.as_slice()) {
+    if !is_any_put_off(function.code.blocks.as_slice()) {
         return Ok(None);
     }
-    let first = put_off_some(alloc, function, counts.as_slice())?;
+    let first = put_off_some(alloc, function)?;
     let mut made = first;
     for _round in 1..ROUNDS {
-        if !is_any_put_off(made.code.blocks.as_slice(), counts.as_slice()) {
+        if !is_any_put_off(made.code.blocks.as_slice()) {
             break;
         }
-        let next = put_off_some(alloc, &made, counts.as_slice())?;
+        let next = put_off_some(alloc, &made)?;
         made = next;
     }
     Ok(Some(made))

@@ -1,8 +1,7 @@
 //! Which registers blocks set: a guess, of which nothing is proved.
 use crate::points::behind_block;
 use crate::sinking::known::{Known, Plan};
-use crate::sinking::numbers::Numbers;
-use crate::sinking::place::placed;
+use crate::sinking::numbers::unread;
 use cfg_live::Live;
 use cfg_live::live::live;
 use flow::graph::{predecessors, predecessors_of};
@@ -12,7 +11,7 @@ use std::mem;
 use vcode::{Block, Jump, Line, Operand, VFunc};
 
 /// How many registers a block sets at most.
-const SETS: usize = 64;
+pub(crate) const SETS: usize = 64;
 
 /// A block as others lead to it.
 #[derive(Clone, Copy)]
@@ -55,16 +54,9 @@ fn ways(entries: &[Entry], number: usize, block: &Block<u32>) -> Option<(usize, 
 }
 
 /// Whether a block sets anything that one behind it may set.
-fn sets_any(
-    alloc: Global,
-    numbers: &mut Numbers,
-    entries: &[Entry],
-    blocks: &[Block<u32>],
-) -> Result<bool, AllocError> {
+fn sets_any(alloc: Global, entries: &[Entry], blocks: &[Block<u32>]) -> Result<bool, AllocError> {
     for (number, block) in blocks.iter().enumerate() {
-        if ways(entries, number, block).is_some()
-            && !numbers.unread(alloc, &[], block)?.is_empty()
-        {
+        if ways(entries, number, block).is_some() && !unread(alloc, &[], block)?.is_empty() {
             return Ok(true);
         }
     }
@@ -138,14 +130,12 @@ impl Ahead {
     fn pass(
         &mut self,
         alloc: Global,
-        numbers: &mut Numbers,
         number: usize,
         block: &Block<u32>,
         plan: &Plan,
     ) -> Result<(), AllocError> {
         if let Some(ways) = ways(self.entries.as_slice(), number, block) {
-            let unread = numbers.unread(alloc, plan.sets.as_slice(), block)?;
-            for known in unread.as_slice() {
+            for known in unread(alloc, plan.sets.as_slice(), block)?.iter() {
                 self.choose(number, ways, *known)?;
             }
         }
@@ -161,28 +151,19 @@ fn nothing(alloc: Global, blocks: usize) -> Result<Vec<Vec<Known>>, AllocError> 
     Ok(sets)
 }
 
-fn plan(alloc: Global, sets: Vec<Known>, block: &Block<u32>) -> Result<Plan, AllocError> {
-    if sets.is_empty() {
-        Ok(Plan {
-            behind: 0,
-            sets: Seq::new(alloc),
-        })
-    } else {
-        placed(alloc, sets, block)
-    }
-}
-
-/// What each block is to set, block by block, so that what one is to set may be set again behind it.
+/// What each block is to set behind its lines, block by block, so that what one is to set may be set again behind it.
 fn all_plans(
     alloc: Global,
-    numbers: &mut Numbers,
     ahead: &mut Ahead,
     blocks: &[Block<u32>],
 ) -> Result<Vec<Plan>, AllocError> {
     let mut plans = Vec::with_capacity(alloc, blocks.len())?;
     for (number, block) in blocks.iter().enumerate() {
-        let plan = plan(alloc, ahead.take(alloc, number), block)?;
-        ahead.pass(alloc, numbers, number, block, &plan)?;
+        let plan = Plan {
+            behind: block.lines.len(),
+            sets: Seq::from_vec(ahead.take(alloc, number)),
+        };
+        ahead.pass(alloc, number, block, &plan)?;
         plans.push(plan)?;
     }
     Ok(plans)
@@ -199,8 +180,7 @@ pub fn choose(alloc: Global, function: &VFunc) -> Result<Option<Vec<Plan>>, Allo
         return Ok(None);
     }
     let entries = entries(alloc, blocks)?;
-    let mut numbers = Numbers::new(alloc, function.registers)?;
-    if !sets_any(alloc, &mut numbers, entries.as_slice(), blocks)? {
+    if !sets_any(alloc, entries.as_slice(), blocks)? {
         return Ok(None);
     }
     let mut ahead = Ahead {
@@ -208,6 +188,6 @@ pub fn choose(alloc: Global, function: &VFunc) -> Result<Option<Vec<Plan>>, Allo
         entries,
         live: live(alloc, function)?,
     };
-    let plans = all_plans(alloc, &mut numbers, &mut ahead, blocks)?;
+    let plans = all_plans(alloc, &mut ahead, blocks)?;
     Ok(Some(plans))
 }
