@@ -1,7 +1,7 @@
 //! The webs of registers that are written more than once.
 use crate::choice::forest::Forest;
 use cfg_live::uses::line_writes;
-use flow::graph::{predecessors, predecessors_of, successor};
+use flow::graph::{predecessors, predecessors_of};
 use il_ast::Few;
 use std::alloc::{AllocError, Global};
 use vcode::{Argument, Block, Destination, Jump, Line, Operand, VFunc};
@@ -18,7 +18,6 @@ pub(crate) struct Begin {
 #[derive(Clone, Copy)]
 struct End {
     block: usize,
-    register: u32,
     value: usize,
 
     /// what it holds where the block begins, if the block reads that
@@ -43,9 +42,6 @@ pub(crate) struct Use {
 
     /// the place of its last end
     last: usize,
-
-    /// the block that reads what it holds where that begins
-    head: usize,
 }
 
 impl Use {
@@ -65,12 +61,9 @@ pub(crate) struct Webs {
     pub(crate) written: Vec<usize>,
     pub(crate) begins: Vec<Begin>,
     ends: Vec<End>,
-
-    /// whether some register has several heads, or is written more than once in a block
-    has_several: bool,
 }
 
-/// The place of no end, and the number of no block.
+/// The place of no end.
 const NOWHERE: usize = usize::MAX;
 
 /// Where a function has so many times more values at the begins of blocks than lines, it keeps its names.
@@ -86,7 +79,6 @@ impl Webs {
             written: Vec::new(alloc),
             begins: Vec::new(alloc),
             ends,
-            has_several: false,
         })
     }
 
@@ -117,7 +109,6 @@ impl Webs {
         }
         self.ends.push(End {
             block,
-            register,
             value,
             begun,
             before,
@@ -139,7 +130,6 @@ impl Webs {
         let last = self.last_end(register);
         match self.ends.get_mut(last) {
             Some(end) if end.block == block => {
-                self.has_several |= end.begun != Some(end.value);
                 end.value = value;
                 Ok(())
             }
@@ -151,38 +141,10 @@ impl Webs {
         match operand {
             Operand::At(register) if !self.is_plain(*register) && !self.is_in(block, *register) => {
                 let value = self.forest.add()?;
-                self.note_head(block, *register);
                 self.push_end(block, *register, value, Some(value))
             }
             _ => Ok(()),
         }
-    }
-
-    /// The block reads what the register holds where it begins.
-    fn note_head(&mut self, block: usize, register: u32) {
-        if let Some(one) = self.uses.get_mut(register as usize) {
-            self.has_several |= one.head != NOWHERE;
-            one.head = block;
-        }
-    }
-
-    /// Whether a block that writes a register leads to the register's head.
-    fn leads_to_head(&self, blocks: &[Block<u32>], end: End) -> bool {
-        let (Some(block), Some(one)) = (blocks.get(end.block), self.uses.get(end.register as usize))
-        else {
-            return false;
-        };
-        end.begun == Some(end.value)
-            || successor(&block.jump, 0) == Some(one.head)
-            || successor(&block.jump, 1) == Some(one.head)
-    }
-
-    /// Whether each register is one web, as where copies stand for phis: it is read from outside in one block alone, to which all blocks that write it lead.
-    fn are_whole(&self, function: &VFunc) -> bool {
-        let blocks = function.code.blocks.as_slice();
-        !self.has_several
-            && !self.writes_params(function.code.params.as_slice())
-            && self.ends.iter().all(|end| self.leads_to_head(blocks, *end))
     }
 
     fn read_both(
@@ -313,14 +275,9 @@ impl Webs {
         Ok(false)
     }
 
-    /// Whether a parameter is written once more.
-    fn writes_params(&self, params: &[Destination<u32>]) -> bool {
-        params.iter().any(|param| !self.is_plain(param.place))
-    }
-
     /// Whether some web may need a register that the function doesn't have. The first value of a parameter may be read by no one, and keeps its name.
     pub(crate) fn may_need_more(&self, params: &[Destination<u32>]) -> bool {
-        self.writes_params(params)
+        params.iter().any(|param| !self.is_plain(param.place))
             || self.forest.sets() != self.uses.iter().filter(|one| !one.is_plain()).count()
     }
 }
@@ -352,7 +309,7 @@ fn join_all(
     Ok(true)
 }
 
-/// Finds the values, and which belong together; false where they are too many, or each register is one web.
+/// Finds the values, and which belong together; false where they are too many.
 pub(crate) fn find_webs(
     alloc: Global,
     webs: &mut Webs,
@@ -361,9 +318,6 @@ pub(crate) fn find_webs(
     let blocks = function.code.blocks.as_slice();
     for (number, block) in blocks.iter().enumerate() {
         webs.walk(number, block)?;
-    }
-    if webs.are_whole(function) {
-        return Ok(false);
     }
     let sources = predecessors(alloc, blocks)?;
     let unasked = Asked {
@@ -399,7 +353,6 @@ pub(crate) fn count_uses(alloc: Global, function: &VFunc) -> Result<Vec<Use>, Al
     let unused = Use {
         writes: 0,
         last: NOWHERE,
-        head: NOWHERE,
     };
     let mut uses = vec![in alloc; unused; function.registers as usize]?;
     for param in function.code.params.as_slice() {
