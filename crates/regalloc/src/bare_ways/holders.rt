@@ -59,8 +59,8 @@ fn found(alloc: Global, ground: Ground, fronts: &Fronts) -> Result<Holders, Allo
         find(&mut holders, param.place)?;
     }
     for number in fronts.inside.iter() {
-        for register in ground.facts.starts.of(*number) {
-            find(&mut holders, *register)?;
+        for start in ground.facts.starts.of(*number) {
+            find(&mut holders, start.register)?;
         }
         if let Some(block) = ground.function.code.blocks.as_slice().get(*number) {
             for line in block.lines.as_slice() {

@@ -7,7 +7,7 @@ pub(crate) fn outside(view: View, nodes: &Nodes, leader: usize, block: usize) ->
     let mut often = 0u64;
     let mut is_met = false;
     for source in view.text().sources(block) {
-        if view.is_inside(nodes.leaving(*source), leader) {
+        if nodes.last_inside(*source, leader).is_some() {
             is_met = true;
         } else {
             often = often.saturating_add(view.text().often(*source));
@@ -27,15 +27,6 @@ pub(crate) fn enter_all(view: View, nodes: &mut Nodes, members: &[Member]) {
         if let Some(node) = nodes.list.get_mut(member.node) {
             node.is_entered = is_entered;
         }
-    }
-}
-
-/// The part of that number, if it goes with the region.
-fn member_at(view: View, nodes: &Nodes, leader: usize, number: Option<usize>) -> Option<Node> {
-    if view.is_inside(number, leader) {
-        nodes.node(number?)
-    } else {
-        None
     }
 }
 
@@ -64,7 +55,7 @@ fn is_left_for(view: View, nodes: &Nodes, leader: usize, block: usize) -> bool {
     let mut sources = view.text().sources(block).iter();
     block != 0
         && sources.all(|source| {
-            let node = member_at(view, nodes, leader, nodes.leaving(*source));
+            let node = nodes.last_inside(*source, leader);
             node.is_some_and(|node| node.is_entered || !node.is_passed())
         })
 }
@@ -74,7 +65,7 @@ fn exit_of(view: View, nodes: &Nodes, leader: usize, from: usize, to: Option<usi
     let Some(block) = to.filter(|block| view.is_wanted(*block)) else {
         return Exit::Gone;
     };
-    let next = member_at(view, nodes, leader, nodes.entering(block));
+    let next = nodes.first_inside(block, leader);
     if next.is_some_and(|node| node.is_entered) {
         Exit::Met
     } else if view.text().often(block) <= view.text().often(from)

@@ -29,6 +29,9 @@ pub(crate) struct Node {
     /// whether its value is wanted behind the part, in the same block or another, but may not stay in the register of the machine
     pub(crate) goes_on: bool,
 
+    /// the number of the part that its region is named by; none where it goes with no region
+    pub(crate) leader: Option<usize>,
+
     /// where it has a register of the machine, which one
     pub(crate) room: Option<usize>,
 
@@ -166,6 +169,18 @@ impl Nodes {
     /// The part that the block ends with.
     pub(crate) fn last_part(&self, block: usize) -> Option<Node> {
         self.node(self.leaving(block)?)
+    }
+
+    /// The part that the block begins with, if it goes with the region.
+    pub(crate) fn first_inside(&self, block: usize, leader: usize) -> Option<Node> {
+        self.first_part(block)
+            .filter(|node| node.leader == Some(leader))
+    }
+
+    /// The part that the block ends with, if it goes with the region.
+    pub(crate) fn last_inside(&self, block: usize, leader: usize) -> Option<Node> {
+        self.last_part(block)
+            .filter(|node| node.leader == Some(leader))
     }
 
     /// The number of the part that the block begins with.
