@@ -43,13 +43,6 @@ pub(crate) enum Exit {
     Slot,
 }
 
-impl Exit {
-    /// Whether no slot is needed.
-    fn is_spared(self) -> bool {
-        matches!(self, Exit::Gone | Exit::Met)
-    }
-}
-
 /// Whether all blocks that lead to this one end with the value in the register of the machine.
 fn is_left_for(view: View, nodes: &Nodes, leader: usize, block: usize) -> bool {
     let mut sources = view.text().sources(block).iter();
@@ -77,29 +70,16 @@ fn exit_of(view: View, nodes: &Nodes, leader: usize, from: usize, to: Option<usi
     }
 }
 
-/// The exit with the value saved in front of it, unless the block behind it runs less often.
-fn before(view: View, exit: Exit, from: usize) -> Exit {
-    match exit {
-        Exit::Landing(block) if view.text().often(from) <= view.text().often(block) => Exit::Slot,
-        _ => exit,
-    }
-}
-
-/// How the value leaves the part's block on both ways on. Where it would be saved on every way on, it is saved once before them, but for ways that are
-/// taken less often.
+/// How the value leaves the part's block on both ways on.
 pub(crate) fn exits(view: View, nodes: &Nodes, leader: usize, node: &Node) -> [Exit; 2] {
     if !node.leaves {
         return [Exit::Gone, Exit::Gone];
     }
-    let from = node.block;
-    let targets = view.text().targets(from);
-    let next = exit_of(view, nodes, leader, from, targets[0]);
-    let other = exit_of(view, nodes, leader, from, targets[1]);
-    if next.is_spared() || (other.is_spared() && targets[1].is_some()) {
-        [next, other]
-    } else {
-        [before(view, next, from), before(view, other, from)]
-    }
+    let targets = view.text().targets(node.block);
+    [
+        exit_of(view, nodes, leader, node.block, targets[0]),
+        exit_of(view, nodes, leader, node.block, targets[1]),
+    ]
 }
 
 /// Whether the value stays in the register of the machine up to the end of the block, for one of these exits.

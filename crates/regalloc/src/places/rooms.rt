@@ -111,15 +111,9 @@ pub(crate) fn scratch_room(list: &[Location], register: u32) -> Option<usize> {
     }
 }
 
-/// The first of these registers that is free and that callees needn't keep, or else another one, those of arguments last.
-pub(crate) fn free_scratch(
-    rooms: &Rooms,
-    wishes: &[Option<usize>],
-    ranges: &[Range],
-) -> Option<usize> {
-    wishes
-        .iter()
-        .find_map(|wish| wish.filter(|k| *k < SCRATCH && rooms.is_free(*k, ranges)))
+/// The register that is wished for, if it is free and callees needn't keep it, or else another such one, those of arguments last.
+pub(crate) fn free_scratch(rooms: &Rooms, wish: Option<usize>, ranges: &[Range]) -> Option<usize> {
+    wish.filter(|k| *k < SCRATCH && rooms.is_free(*k, ranges))
         .or_else(|| (0..SCRATCH).rev().find(|k| rooms.is_free(*k, ranges)))
 }
 

@@ -117,26 +117,19 @@ pub(crate) fn give_all(
     give_within(alloc, view, nodes, rooms, Reach::Alone)
 }
 
-/// What all regions with this reach save together, each in the register of the machine that saves most.
-fn best_of(alloc: Global, view: View, nodes: &mut Nodes, reach: Reach) -> Result<u64, AllocError> {
-    let members = members(alloc, view.text(), nodes, reach)?;
-    let mut best = 0u64;
-    for region in members.chunk_by(|one, other| one.leader == other.leader) {
-        enter_all(view, nodes, region);
-        best = best.saturating_add(balance_of(view, nodes, region).best());
-    }
-    Ok(best)
-}
-
 /// How much more the register costs, in half instructions, if it is split and finds what it wants, than in a register that callees keep: what its accesses cost in the
-/// slot, but for what they would save in registers of arguments, less what its regions save.
+/// slot, but for what they would save in registers of arguments, less what its widest regions save, each in the register of the machine that saves most.
 pub(crate) fn split_costs_over_kept(
     alloc: Global,
     nodes: &mut Nodes,
     view: View,
 ) -> Result<u64, AllocError> {
-    nodes.fill(alloc, view)?;
-    let wide = best_of(alloc, view, nodes, Reach::Loops(0))?;
-    let alone = best_of(alloc, view, nodes, Reach::Alone)?;
-    Ok(view.demand.weight.saturating_sub(wide.max(alone)))
+    nodes.fill(view)?;
+    let members = members(alloc, view.text(), nodes, Reach::Loops(0))?;
+    let mut cost = view.demand.weight;
+    for region in members.chunk_by(|one, other| one.leader == other.leader) {
+        enter_all(view, nodes, region);
+        cost = cost.saturating_sub(balance_of(view, nodes, region).best());
+    }
+    Ok(cost)
 }

@@ -64,7 +64,7 @@ fn split(
     if view.demand.is_param && !view.text().sources(0).is_empty() {
         return Ok(());
     }
-    splitter.nodes.fill(alloc, view)?;
+    splitter.nodes.fill(view)?;
     give_all(alloc, view, &mut splitter.nodes, rooms)?;
     let own = splits_of(alloc, view, &splitter.nodes)?;
     let credit = &mut splitter.credit;
