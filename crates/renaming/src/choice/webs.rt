@@ -1,10 +1,12 @@
 //! The webs of registers that are written more than once.
 use crate::choice::forest::Forest;
+use cfg_live::Reads;
+use cfg_live::reads::{jump_reads, line_reads, register_of};
 use cfg_live::uses::line_writes;
 use flow::graph::{predecessors, predecessors_of};
 use il_ast::Few;
 use std::alloc::{AllocError, Global};
-use vcode::{Argument, Block, Destination, Jump, Line, Operand, VFunc};
+use vcode::{Block, Destination, Line, VFunc};
 
 /// What a register holds where a block begins, which somebody reads.
 #[derive(Clone, Copy)]
@@ -137,66 +139,38 @@ impl Webs {
         }
     }
 
-    fn read(&mut self, block: usize, operand: &Operand<u32>) -> Result<(), AllocError> {
-        match operand {
-            Operand::At(register) if !self.is_plain(*register) && !self.is_in(block, *register) => {
-                let value = self.forest.add()?;
-                self.push_end(block, *register, value, Some(value))
-            }
-            _ => Ok(()),
+    fn read(&mut self, block: usize, register: u32) -> Result<(), AllocError> {
+        if self.is_plain(register) || self.is_in(block, register) {
+            return Ok(());
         }
+        let value = self.forest.add()?;
+        self.push_end(block, register, value, Some(value))
     }
 
-    fn read_both(
-        &mut self,
-        block: usize,
-        left: &Operand<u32>,
-        right: &Operand<u32>,
-    ) -> Result<(), AllocError> {
-        self.read(block, left)?;
-        self.read(block, right)
-    }
-
-    fn read_args(&mut self, block: usize, args: &[Argument<u32>]) -> Result<(), AllocError> {
-        for arg in args {
-            self.read(block, &arg.value)?;
+    fn read_all(&mut self, block: usize, reads: Reads) -> Result<(), AllocError> {
+        for register in [reads.first, reads.second] {
+            if let Some(register) = register {
+                self.read(block, register)?;
+            }
+        }
+        for arg in reads.args {
+            if let Some(register) = register_of(&arg.value) {
+                self.read(block, register)?;
+            }
         }
         Ok(())
-    }
-
-    fn read_line(&mut self, block: usize, line: &Line<u32>) -> Result<(), AllocError> {
-        match line {
-            Line::Tick { .. } | Line::Alloc { .. } => Ok(()),
-            Line::Set { value, .. } => self.read(block, value),
-            Line::Operate { left, right, .. } => self.read_both(block, left, right),
-            Line::Load { at, .. } => self.read(block, &at.base),
-            Line::Store { value, at, .. } => self.read_both(block, value, &at.base),
-            Line::Blit { from, to, .. } => self.read_both(block, from, to),
-            Line::Call { callee, args, .. } => {
-                self.read(block, callee)?;
-                self.read_args(block, args.as_slice())
-            }
-        }
-    }
-
-    fn read_jump(&mut self, block: usize, jump: &Jump<u32>) -> Result<(), AllocError> {
-        match jump {
-            Jump::Branch { on, .. } => self.read_both(block, &on.left, &on.right),
-            Jump::Return(Some(returned)) => self.read(block, &returned.value),
-            _ => Ok(()),
-        }
     }
 
     /// The values that the block writes, and those that it reads of what others wrote.
     fn walk(&mut self, number: usize, block: &Block<u32>) -> Result<(), AllocError> {
         for line in block.lines.as_slice() {
-            self.read_line(number, line)?;
+            self.read_all(number, line_reads(line))?;
             match line_writes(line) {
                 Some(register) if !self.is_plain(register) => self.write(number, register)?,
                 _ => {}
             }
         }
-        self.read_jump(number, &block.jump)
+        self.read_all(number, jump_reads(&block.jump))
     }
 
     /// Notes what the register holds at the ends of the blocks that read or write it, and where they begin.
