@@ -27,8 +27,7 @@ pub(crate) fn keep_bare(
     let Some(fronts) = fronts_of(alloc, list, ground)? else {
         return Ok(());
     };
-    let begins = splitter.splits.begins.as_slice();
-    match holders_of(alloc, list, ground, &fronts, begins)? {
+    match holders_of(alloc, list, ground, &fronts)? {
         Some(holders) => leave(alloc, splitter, ground, &fronts, &holders),
         None => Ok(()),
     }

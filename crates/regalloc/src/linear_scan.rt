@@ -6,23 +6,20 @@ ghost use Rattle.vcode.specs.Prelude.{is_place};
 ghost use Rattle.regalloc.specs.Scanned.{IsScanned};
 
 use crate::bare_ways::keep_bare;
-use crate::intervals::accesses::Accesses;
 use crate::intervals::coalescing::{Group, groups_of};
 use crate::intervals::facts::facts_of;
 use crate::places::candidates::{
     Candidate, Ground, candidates, is_left_over, is_unplaced, singles, wishes,
 };
-use crate::places::choice::choice;
-use crate::places::rooms::{ROOMS, Rooms};
+use crate::places::rooms::{Choice, ROOMS, Rooms, room_for_candidate};
 use crate::places::slots::shared_slots;
 use crate::splitting::splits::Splits;
-use crate::splitting::splitter::{Splitter, split_all};
+use crate::splitting::splitter::{Splitter, should_keep, split_all};
 use crate::written::written;
 use certificates::spill_all::slots;
 use certificates::{Certificate, Strategy};
 use cfg_live::Live;
 use std::alloc::{AllocError, Global};
-use std::mem::replace;
 use vcode::{Location, VFunc};
 
 /// Answers for each register one of x5 to x27 or a slot, or several of them one after another, with moves where it changes its place; no places where memory is
@@ -80,6 +77,31 @@ fn stand(list: &mut [Location], registers: u32, members: &[u32], place: Location
         if is_unplaced(list, *register) {
             set(list, registers, *register, place);
         }
+    }
+}
+
+/// The register of the machine for a candidate, by its number among the rooms; none where splitting it costs less. What has a value throughout isn't split.
+fn choice(
+    alloc: Global,
+    rooms: &Rooms,
+    splitter: &mut Splitter,
+    ground: Ground,
+    candidate: &Candidate,
+    group: &Group,
+) -> Result<Option<usize>, AllocError> {
+    let ranges = group.ranges(ground.facts.intervals.as_slice());
+    match room_for_candidate(rooms, candidate, ranges) {
+        Some(Choice::Free(k)) => Ok(Some(k)),
+        Some(Choice::Unused(k)) if 4 < candidate.weight => {
+            let members = group.members.as_slice();
+            let starts = &ground.facts.starts;
+            let is_whole = members
+                .iter()
+                .any(|register| starts.is_throughout(*register));
+            let is_kept = is_whole || should_keep(alloc, splitter, ground, members)?;
+            Ok(is_kept.then_some(k))
+        }
+        _ => Ok(None),
     }
 }
 
@@ -141,7 +163,6 @@ fn place_and_split(
     alloc: Global,
     list: &mut [Location],
     registers: u32,
-    accesses: Accesses,
     ground: Ground,
 ) -> Result<Splits, AllocError>
     requires { list_all (is_place registers) list.old ≡ true }
@@ -149,7 +170,7 @@ fn place_and_split(
     ensures long { length list.new ≡ length list.old }
 {
     let mut rooms = Rooms::new(alloc, ground.facts.text.points())?;
-    let mut splitter = Splitter::new(alloc, accesses);
+    let mut splitter = Splitter::new(alloc);
     place_groups(alloc, list, registers, &mut rooms, &mut splitter, ground)?;
     if is_left_over(list, ground.facts) {
         let singles = singles(alloc, ground.groups, list, ground.facts)?;
@@ -181,10 +202,9 @@ fn place_and_split(
 pub fn scanned(alloc: Global, function: &VFunc, live: &Live) -> Result<Certificate, AllocError>
     ensures { IfOk result (λ c. IsScanned function.now.registers c) }
 {
-    let mut facts = facts_of(alloc, function, live, LIVE_A_LINE)?;
+    let facts = facts_of(alloc, function, live, LIVE_A_LINE)?;
     let intervals = facts.intervals.as_slice();
     let groups = groups_of(alloc, function.registers, intervals, &facts.demands)?;
-    let accesses = replace(&mut facts.accesses, Accesses::none(alloc));
     let ground = Ground {
         function,
         facts: &facts,
@@ -193,7 +213,7 @@ pub fn scanned(alloc: Global, function: &VFunc, live: &Live) -> Result<Certifica
     };
     let registers = function.registers;
     let mut list = slots(alloc, registers)?;
-    let splits = place_and_split(alloc, list.as_mut_slice(), registers, accesses, ground)?;
+    let splits = place_and_split(alloc, list.as_mut_slice(), registers, ground)?;
     written(alloc, function, &facts, list.as_slice(), &splits)
 }
 

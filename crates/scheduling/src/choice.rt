@@ -11,7 +11,6 @@ mod swaps;
 
 use facts::facts_of;
 use il_ast::Seq;
-use latencies::times_of;
 use order::order_of;
 use std::alloc::{AllocError, Global};
 use swaps::swaps_to;
@@ -20,20 +19,8 @@ use vcode::{Block, LFunc, Location};
 /// How many lines the choice looks at: those of one are no further apart. At most 16.
 pub(crate) const WINDOW: u32 = 8;
 
-/// Whether a line has to wait for another: where each result is there for the next line, none has to.
-fn may_wait(block: &Block<Location>) -> bool {
-    block
-        .lines
-        .as_slice()
-        .iter()
-        .any(|line| times_of(line).latency > 1)
-}
-
-/// The swaps of a block. None where no line has to wait, or nothing can be done about it.
+/// The swaps of a block. None where no line has to wait for another, or nothing can be done about it.
 fn swaps_of(alloc: Global, block: &Block<Location>) -> Result<Option<Vec<usize>>, AllocError> {
-    if !may_wait(block) {
-        return Ok(None);
-    }
     let mut facts = facts_of(alloc, block)?;
     let Some(order) = order_of(alloc, facts.as_mut_slice())? else {
         return Ok(None);

@@ -71,7 +71,8 @@ fn differs(place: Location, other: Location) -> bool
     }
 }
 
-fn operand(place: Location, value: &Operand<Location>) -> bool
+/// Whether the operand is another place, or none.
+pub(crate) fn operand(place: Location, value: &Operand<Location>) -> bool
     ensures { result ≡ operand_keeps (differs place) value.now }
 {
     match value {

@@ -35,9 +35,6 @@ const NONE: Sources = Sources {
     is_entry: false,
 };
 
-/// So many blocks are counted without memory from the heap.
-const FEW: usize = 64;
-
 /// About how many instructions the line becomes.
 fn size(line: &Line<u32>) -> u64 {
     match line {
@@ -164,37 +161,6 @@ fn has_bare_branch(sources: &[Sources], blocks: &[Block<u32>]) -> bool {
     })
 }
 
-/// Notes the jumps from marked blocks that lead to each block.
-fn note_sources(
-    alloc: Global,
-    sources: &mut [Sources],
-    blocks: &[Block<u32>],
-    marks: &[bool],
-    worth: Worth,
-) -> Result<(), AllocError> {
-    count_sources(sources, blocks, marks);
-    match worth {
-        Worth::Bare if has_bare_branch(sources, blocks) => note_entries(alloc, sources, blocks),
-        _ => Ok(()),
-    }
-}
-
-fn chosen_by(
-    alloc: Global,
-    blocks: &[Block<u32>],
-    marks: &[bool],
-    sources: &[Sources],
-    worth: Worth,
-) -> Result<Option<Vec<bool>>, AllocError> {
-    let mut numbers = 0..blocks.len();
-    if !numbers.any(|number| is_chosen(blocks, marks, sources, number, worth)) {
-        return Ok(None);
-    }
-    let chosen = (0..blocks.len()).map(|number| is_chosen(blocks, marks, sources, number, worth));
-    let chosen: Vec<bool> = chosen.collect(alloc)?;
-    Ok(Some(chosen))
-}
-
 /// For each block whether the block that it goes to is worth a copy; none where no block is. Blocks without a mark don't count; where there are no marks, all do.
 ///
 /// # Errors
@@ -206,14 +172,19 @@ pub fn chosen_tails(
     marks: &[bool],
     worth: Worth,
 ) -> Result<Option<Vec<bool>>, AllocError> {
-    if blocks.len() <= FEW {
-        let mut sources = [NONE; FEW];
-        note_sources(alloc, &mut sources, blocks, marks, worth)?;
-        return chosen_by(alloc, blocks, marks, &sources, worth);
-    }
     let mut sources = vec![in alloc; NONE; blocks.len()]?;
-    note_sources(alloc, sources.as_mut_slice(), blocks, marks, worth)?;
-    chosen_by(alloc, blocks, marks, sources.as_slice(), worth)
+    count_sources(sources.as_mut_slice(), blocks, marks);
+    if matches!(worth, Worth::Bare) && has_bare_branch(sources.as_slice(), blocks) {
+        note_entries(alloc, sources.as_mut_slice(), blocks)?;
+    }
+    let sources = sources.as_slice();
+    let chosen = (0..blocks.len()).map(|number| is_chosen(blocks, marks, sources, number, worth));
+    let chosen: Vec<bool> = chosen.collect(alloc)?;
+    if chosen.contains(&true) {
+        Ok(Some(chosen))
+    } else {
+        Ok(None)
+    }
 }
 
 /// The numbers of the blocks to which a way leads from the first, in their order.

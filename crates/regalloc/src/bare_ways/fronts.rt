@@ -66,7 +66,7 @@ fn settle(
     if some
         && !all
         && !is_inside(inside, block)
-        && live.any(|register| scratch_room(list, *register).is_none())
+        && live.any(|start| scratch_room(list, start.register).is_none())
     {
         for source in ground.facts.text.sources(block) {
             take_out(inside, due, *source)?;

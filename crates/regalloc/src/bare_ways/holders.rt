@@ -5,7 +5,6 @@ use crate::intervals::positions::Range;
 use crate::lists::set;
 use crate::places::candidates::Ground;
 use crate::places::rooms::{Rooms, free_scratch, hinted, scratch_room};
-use crate::splitting::splits::Begin;
 use cfg_live::uses::line_writes;
 use std::alloc::{AllocError, Global};
 use vcode::{Block, Location};
@@ -24,9 +23,6 @@ pub(crate) struct Holders {
 
     /// for each register the one of the machine that it has there, where its own place is in a frame
     rooms: Vec<Option<usize>>,
-
-    /// for each register the one of the machine that it has where a block behind begins
-    behind: Vec<Option<usize>>,
 }
 
 impl Holders {
@@ -53,14 +49,13 @@ fn found(alloc: Global, ground: Ground, fronts: &Fronts) -> Result<Holders, Allo
         registers: Vec::new(alloc),
         is_found: vec![in alloc; false; registers]?,
         rooms: vec![in alloc; None; registers]?,
-        behind: vec![in alloc; None; registers]?,
     };
     for param in ground.function.code.params.as_slice() {
         find(&mut holders, param.place)?;
     }
     for number in fronts.inside.iter() {
-        for register in ground.facts.starts.of(*number) {
-            find(&mut holders, *register)?;
+        for start in ground.facts.starts.of(*number) {
+            find(&mut holders, start.register)?;
         }
         if let Some(block) = ground.function.code.blocks.as_slice().get(*number) {
             for line in block.lines.as_slice() {
@@ -122,24 +117,6 @@ fn comes_in(ground: Ground, register: u32) -> Option<usize> {
     Some(hinted(argument))
 }
 
-fn is_same(one: Option<&Location>, other: Option<&Location>) -> bool {
-    match (one, other) {
-        (Some(Location::Register(one)), Some(Location::Register(other))) => one == other,
-        (Some(Location::Slot(one)), Some(Location::Slot(other))) => one == other,
-        _ => false,
-    }
-}
-
-/// The register of the machine that another one has whose own place is the same.
-fn shared(holders: &Holders, list: &[Location], register: u32) -> Option<usize> {
-    let own = list.get(register as usize);
-    holders
-        .registers
-        .iter()
-        .filter(|other| is_same(list.get(**other as usize), own))
-        .find_map(|other| holders.room(*other))
-}
-
 /// Gives the register one of the machine that callees needn't keep; false where none is free.
 fn hold(
     rooms: &mut Rooms,
@@ -150,13 +127,9 @@ fn hold(
     if !find_ranges(look, register)? {
         return Ok(false);
     }
-    let wishes = [
-        comes_in(look.ground, register),
-        shared(holders, look.list, register),
-        holders.behind.get(register as usize).copied().flatten(),
-    ];
+    let wish = comes_in(look.ground, register);
     let ranges = look.ranges.as_slice();
-    let Some(room) = free_scratch(rooms, wishes.as_slice(), ranges) else {
+    let Some(room) = free_scratch(rooms, wish, ranges) else {
         return Ok(false);
     };
     rooms.take(room, ranges);
@@ -183,18 +156,11 @@ pub(crate) fn holders_of(
     list: &[Location],
     ground: Ground,
     fronts: &Fronts,
-    begins: &[Begin],
 ) -> Result<Option<Holders>, AllocError> {
     let mut holders = found(alloc, ground, fronts)?;
     let mut registers = holders.registers.iter();
     if registers.all(|register| scratch_room(list, *register).is_some()) {
         return Ok(None);
-    }
-    for begin in begins {
-        if fronts.heads.contains(&begin.block) {
-            let register = begin.register as usize;
-            set(holders.behind.as_mut_slice(), register, Some(begin.room));
-        }
     }
     let mut rooms = Rooms::new(alloc, ground.facts.text.points())?;
     let mut look = Look {

@@ -75,11 +75,12 @@ fn kept(alloc: Global, scene: Scene, old: &Splits) -> Result<Splits, AllocError>
 
 /// What is live where the block begins stands in its register of the machine.
 fn push_begins(splits: &mut Splits, scene: Scene, block: usize) -> Result<(), AllocError> {
-    for register in scene.ground.facts.starts.of(block) {
-        if let Some(room) = scene.holders.room(*register) {
+    for start in scene.ground.facts.starts.of(block) {
+        let register = start.register;
+        if let Some(room) = scene.holders.room(register) {
             splits.begins.push(Begin {
                 block,
-                register: *register,
+                register,
                 room,
                 is_saved: false,
             })?;
@@ -171,17 +172,18 @@ fn push_head(
         return Ok(false);
     };
     push_begins(splits, scene, block)?;
-    for register in scene.ground.facts.starts.of(block) {
-        if let Some(room) = scene.holders.room(*register) {
+    for start in scene.ground.facts.starts.of(block) {
+        let register = start.register;
+        if let Some(room) = scene.holders.room(register) {
             let save = Move {
                 point: stretch.first,
                 way: Way::Save,
-                register: *register,
+                register,
                 room,
             };
             // where splitting has it at the begin of the block, and whether its own place has the value too
             let mut begins = old.begins.iter().copied();
-            let begin = begins.find(|begin| begin.is_at(block, *register));
+            let begin = begins.find(|begin| begin.is_at(block, register));
             if !push_coming(splits, credit, old, save, begin)? {
                 return Ok(false);
             }

@@ -1,5 +1,4 @@
 //! All that is known of a function before registers are given.
-use crate::intervals::accesses::Accesses;
 use crate::intervals::demands::{Demands, demands_of};
 use crate::intervals::live_intervals::{LiveInterval, live_intervals};
 use crate::intervals::starts::{Known, Starts, line_count, starts_of};
@@ -20,15 +19,9 @@ pub(crate) struct Facts {
     /// the live interval of each register
     pub(crate) intervals: Vec<LiveInterval>,
 
-    /// what registers are used for
+    /// what registers are used for, and where
     pub(crate) demands: Demands,
-
-    /// where registers are accessed, if that had to be found already
-    pub(crate) accesses: Accesses,
 }
-
-/// With more registers than this some of them are mostly split, for which all accesses have to be found.
-const FEW: u32 = 64;
 
 /// The facts of the function, with so many live registers named where blocks begin, for each line and jump, at most.
 pub(crate) fn facts_of(
@@ -41,13 +34,11 @@ pub(crate) fn facts_of(
     let registers = function.registers;
     let text = text_of(alloc, code.blocks.as_slice())?;
     let most = line_count(code.blocks.as_slice()).saturating_mul(live_a_line);
-    let asked = text.stretches.len().saturating_mul(registers as usize);
-    let with_accesses = FEW < registers || most < asked;
-    let (demands, accesses) = demands_of(alloc, code, registers, &text, with_accesses)?;
+    let demands = demands_of(alloc, code, &text)?;
     let known = Known {
         text: &text,
         live,
-        accesses: &accesses,
+        demands: &demands,
         registers,
     };
     let starts = starts_of(alloc, known, most)?;
@@ -57,6 +48,5 @@ pub(crate) fn facts_of(
         starts,
         intervals,
         demands,
-        accesses,
     })
 }

@@ -67,8 +67,8 @@ fn use_block(
     number: usize,
     stretch: Stretch,
 ) -> Result<(), AllocError> {
-    for register in starts.of(number) {
-        begin_at(intervals, *register, right_before(stretch.first))?;
+    for start in starts.of(number) {
+        begin_at(intervals, start.register, right_before(stretch.first))?;
     }
     let mut point = stretch.first;
     for line in block.lines.as_slice() {
@@ -84,8 +84,8 @@ fn use_block(
     reach_reads(intervals, jump_reads(&block.jump), end);
     for to in stretch.targets {
         if let Some(to) = to {
-            for register in starts.of(to) {
-                reach_at(intervals, *register, end);
+            for start in starts.of(to) {
+                reach_at(intervals, start.register, end);
             }
         }
     }

@@ -1,29 +1,36 @@
 //! Which registers are live where blocks begin, and which are so at so many blocks that they are taken to be so throughout.
-use crate::intervals::accesses::{Accesses, Kind};
+use crate::intervals::accesses::Kind;
+use crate::intervals::demands::Demands;
 use crate::intervals::text::Text;
-use crate::lists::{Rows, set};
+use crate::lists::{part, set};
 use cfg_live::Live;
 use std::alloc::{AllocError, Global};
 use vcode::Block;
+
+/// A register that is live where a block begins. In the order of starts those of a block stand together.
+#[derive(Clone, Copy, PartialEq, Eq, PartialOrd, Ord)]
+pub(crate) struct Start {
+    block: usize,
+    pub(crate) register: u32,
+}
 
 /// The registers that are live where blocks begin. A register that is live at the starts of too many blocks is named for none of them: it is taken to have a
 /// value throughout.
 #[derive(Drop)]
 pub(crate) struct Starts {
-    /// those of a block together, and in their order
-    list: Vec<u32>,
+    list: Vec<Start>,
 
-    /// those of each block
-    rows: Rows,
-
-    /// of each register whether it has a value throughout; nothing where none has
+    /// of each register whether it has a value throughout
     throughout: Vec<bool>,
 }
 
 impl Starts {
-    /// The registers that are live where the block begins, but for those that have a value throughout.
-    pub(crate) fn of(&self, block: usize) -> &[u32] {
-        self.rows.of(self.list.as_slice(), block)
+    /// The registers that are live where the block begins, in their order, but for those that have a value throughout.
+    pub(crate) fn of(&self, block: usize) -> &[Start] {
+        let list = self.list.as_slice();
+        let first = list.partition_point(|start| start.block < block);
+        let end = list.partition_point(|start| start.block <= block);
+        part(list, first, end)
     }
 
     /// Whether the register is taken to have a value throughout.
@@ -37,36 +44,27 @@ impl Starts {
 pub(crate) struct Known<'a> {
     pub(crate) text: &'a Text,
     pub(crate) live: &'a Live,
-    pub(crate) accesses: &'a Accesses,
+    pub(crate) demands: &'a Demands,
     pub(crate) registers: u32,
-}
-
-/// A register that is live where a block begins.
-#[derive(Clone, Copy)]
-struct Start {
-    block: usize,
-    register: u32,
 }
 
 /// What is found, register by register.
 #[derive(Drop)]
 struct Search {
-    /// where blocks begin, the registers that are live
-    starts: Vec<Start>,
+    starts: Starts,
 
     /// for each block the last register that was found live where it begins
     last: Vec<Option<u32>>,
-
-    /// of each register whether it is taken to have a value throughout
-    throughout: Vec<bool>,
 }
 
 /// The search before its first register.
-fn nothing_found(alloc: Global, blocks: usize, registers: u32) -> Result<Search, AllocError> {
+fn nothing_found(alloc: Global, known: Known) -> Result<Search, AllocError> {
     Ok(Search {
-        starts: Vec::with_capacity(alloc, registers as usize)?,
-        last: vec![in alloc; None; blocks]?,
-        throughout: vec![in alloc; false; registers as usize]?,
+        starts: Starts {
+            list: Vec::with_capacity(alloc, known.registers as usize)?,
+            throughout: vec![in alloc; false; known.registers as usize]?,
+        },
+        last: vec![in alloc; None; known.text.stretches.len()]?,
     })
 }
 
@@ -77,7 +75,7 @@ fn find(search: &mut Search, known: Known, block: usize, register: u32) -> Resul
         && known.text.is_live(known.live, block, register)
     {
         *last = Some(register);
-        search.starts.push(Start { block, register })?;
+        search.starts.list.push(Start { block, register })?;
     }
     Ok(())
 }
@@ -89,31 +87,31 @@ fn find_all(
     register: u32,
     most: usize,
 ) -> Result<bool, AllocError> {
-    let first = search.starts.len();
+    let first = search.starts.list.len();
     let end = first.saturating_add(most);
-    for access in known.accesses.of(register) {
+    for access in known.demands.accesses(register) {
         if access.kind == Kind::Read {
             find(search, known, known.text.block_of(access.point), register)?;
         }
     }
     for number in first..end {
-        let Some(start) = search.starts.get(number).copied() else {
+        let Some(start) = search.starts.list.get(number).copied() else {
             break;
         };
         for source in known.text.sources(start.block) {
-            if end < search.starts.len() {
+            if end < search.starts.list.len() {
                 break;
             }
             find(search, known, *source, register)?;
         }
     }
-    Ok(search.starts.len() <= end)
+    Ok(search.starts.list.len() <= end)
 }
 
 /// Finds all registers; says whether that is no more than so many altogether.
 fn find_within(search: &mut Search, known: Known, most: usize) -> Result<bool, AllocError> {
     for register in 0..known.registers {
-        let left = most.saturating_sub(search.starts.len());
+        let left = most.saturating_sub(search.starts.list.len());
         if !find_all(search, known, register, left)? {
             return Ok(false);
         }
@@ -128,60 +126,21 @@ pub(crate) fn line_count(blocks: &[Block<u32>]) -> usize {
     })
 }
 
-/// What is found if all registers are live at so many starts of blocks altogether; else each is found at its share of them, or taken to have a value throughout.
-fn searched(alloc: Global, known: Known, most: usize) -> Result<Search, AllocError> {
-    let blocks = known.text.stretches.len();
-    let mut search = nothing_found(alloc, blocks, known.registers)?;
-    if find_within(&mut search, known, most)? {
-        return Ok(search);
-    }
-    search = nothing_found(alloc, blocks, known.registers)?;
-    let each = most / (known.registers as usize).max(1);
-    for register in 0..known.registers {
-        let first = search.starts.len();
-        if !find_all(&mut search, known, register, each)? {
-            search.starts.truncate(first);
-            set(search.throughout.as_mut_slice(), register as usize, true);
-        }
-    }
-    Ok(search)
-}
-
-/// The starts, each register asked for at each block.
-fn starts_by_asking(alloc: Global, known: Known) -> Result<Starts, AllocError> {
-    let mut starts = Starts {
-        list: Vec::with_capacity(alloc, known.registers as usize)?,
-        rows: Rows::none(alloc),
-        throughout: Vec::new(alloc),
-    };
-    for stretch in known.text.stretches.iter() {
-        starts.rows.push(starts.list.len())?;
-        let first = stretch.first;
-        let registers = 0..known.registers;
-        starts.list.extend(registers.filter(|register| known.live.holds(first, *register)))?;
-    }
-    starts.rows.push(starts.list.len())?;
-    Ok(starts)
-}
-
-/// Which registers are live where the blocks begin. Where no accesses are known each register is asked for at each block.
+/// Which registers are live where the blocks begin, if they are so at so many altogether; else each is found at its share of them, or taken to have a value throughout.
 pub(crate) fn starts_of(alloc: Global, known: Known, most: usize) -> Result<Starts, AllocError> {
-    if known.accesses.are_unknown() {
-        return starts_by_asking(alloc, known);
-    }
-    let search = searched(alloc, known, most)?;
-    let found = search.starts.as_slice();
-    let mut list = vec![in alloc; 0u32; found.len()]?;
-    let blocks = known.text.stretches.len();
-    let mut rows = Rows::for_items(alloc, blocks, found, |start| start.block)?;
-    for start in found.iter().rev() {
-        if let Some(place) = rows.place(start.block) {
-            set(list.as_mut_slice(), place, start.register);
+    let mut search = nothing_found(alloc, known)?;
+    if !find_within(&mut search, known, most)? {
+        search = nothing_found(alloc, known)?;
+        let each = most / (known.registers as usize).max(1);
+        for register in 0..known.registers {
+            let first = search.starts.list.len();
+            if !find_all(&mut search, known, register, each)? {
+                search.starts.list.truncate(first);
+                let throughout = search.starts.throughout.as_mut_slice();
+                set(throughout, register as usize, true);
+            }
         }
     }
-    Ok(Starts {
-        list,
-        rows,
-        throughout: search.throughout,
-    })
+    search.starts.list.sort()?;
+    Ok(search.starts)
 }

@@ -7,7 +7,7 @@ pub(crate) fn outside(view: View, nodes: &Nodes, leader: usize, block: usize) ->
     let mut often = 0u64;
     let mut is_met = false;
     for source in view.text().sources(block) {
-        if view.is_inside(nodes.leaving(*source), leader) {
+        if nodes.last_inside(*source, leader).is_some() {
             is_met = true;
         } else {
             often = often.saturating_add(view.text().often(*source));
@@ -30,15 +30,6 @@ pub(crate) fn enter_all(view: View, nodes: &mut Nodes, members: &[Member]) {
     }
 }
 
-/// The part of that number, if it goes with the region.
-fn member_at(view: View, nodes: &Nodes, leader: usize, number: Option<usize>) -> Option<Node> {
-    if view.is_inside(number, leader) {
-        nodes.node(number?)
-    } else {
-        None
-    }
-}
-
 /// How the value leaves a block for another.
 #[derive(Clone, Copy)]
 pub(crate) enum Exit {
@@ -52,19 +43,12 @@ pub(crate) enum Exit {
     Slot,
 }
 
-impl Exit {
-    /// Whether no slot is needed.
-    fn is_spared(self) -> bool {
-        matches!(self, Exit::Gone | Exit::Met)
-    }
-}
-
 /// Whether all blocks that lead to this one end with the value in the register of the machine.
 fn is_left_for(view: View, nodes: &Nodes, leader: usize, block: usize) -> bool {
     let mut sources = view.text().sources(block).iter();
     block != 0
         && sources.all(|source| {
-            let node = member_at(view, nodes, leader, nodes.leaving(*source));
+            let node = nodes.last_inside(*source, leader);
             node.is_some_and(|node| node.is_entered || !node.is_passed())
         })
 }
@@ -74,7 +58,7 @@ fn exit_of(view: View, nodes: &Nodes, leader: usize, from: usize, to: Option<usi
     let Some(block) = to.filter(|block| view.is_wanted(*block)) else {
         return Exit::Gone;
     };
-    let next = member_at(view, nodes, leader, nodes.entering(block));
+    let next = nodes.first_inside(block, leader);
     if next.is_some_and(|node| node.is_entered) {
         Exit::Met
     } else if view.text().often(block) <= view.text().often(from)
@@ -86,29 +70,16 @@ fn exit_of(view: View, nodes: &Nodes, leader: usize, from: usize, to: Option<usi
     }
 }
 
-/// The exit with the value saved in front of it, unless the block behind it runs less often.
-fn before(view: View, exit: Exit, from: usize) -> Exit {
-    match exit {
-        Exit::Landing(block) if view.text().often(from) <= view.text().often(block) => Exit::Slot,
-        _ => exit,
-    }
-}
-
-/// How the value leaves the part's block on both ways on. Where it would be saved on every way on, it is saved once before them, but for ways that are
-/// taken less often.
+/// How the value leaves the part's block on both ways on.
 pub(crate) fn exits(view: View, nodes: &Nodes, leader: usize, node: &Node) -> [Exit; 2] {
     if !node.leaves {
         return [Exit::Gone, Exit::Gone];
     }
-    let from = node.block;
-    let targets = view.text().targets(from);
-    let next = exit_of(view, nodes, leader, from, targets[0]);
-    let other = exit_of(view, nodes, leader, from, targets[1]);
-    if next.is_spared() || (other.is_spared() && targets[1].is_some()) {
-        [next, other]
-    } else {
-        [before(view, next, from), before(view, other, from)]
-    }
+    let targets = view.text().targets(node.block);
+    [
+        exit_of(view, nodes, leader, node.block, targets[0]),
+        exit_of(view, nodes, leader, node.block, targets[1]),
+    ]
 }
 
 /// Whether the value stays in the register of the machine up to the end of the block, for one of these exits.

@@ -41,7 +41,7 @@ fn push_ranges(
     ranges.push(own_range(view, &node, is_held(exits, is_saved)))?;
     if node.is_entered {
         for source in view.text().sources(node.block) {
-            if !view.is_inside(nodes.leaving(*source), member.leader)
+            if nodes.last_inside(*source, member.leader).is_none()
                 && let Some(stretch) = view.text().stretch(*source)
             {
                 let start = right_before(stretch.jump);

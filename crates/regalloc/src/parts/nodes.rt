@@ -3,7 +3,6 @@ use crate::intervals::live_intervals::ranges_of;
 use crate::lists::set;
 use crate::parts::pieces::push_ranges;
 use crate::parts::regions::View;
-use crate::parts::wanted::wanted;
 use std::alloc::{AllocError, Global};
 
 /// A part of a block in which a register may stand in a register of the machine: no call is in it at which it must have its value before and behind.
@@ -28,6 +27,9 @@ pub(crate) struct Node {
 
     /// whether its value is wanted behind the part, in the same block or another, but may not stay in the register of the machine
     pub(crate) goes_on: bool,
+
+    /// the number of the part that its region is named by; none where it goes with no region
+    pub(crate) leader: Option<usize>,
 
     /// where it has a register of the machine, which one
     pub(crate) room: Option<usize>,
@@ -98,7 +100,7 @@ impl Nodes {
     }
 
     /// The parts of the register, in place of those that there were.
-    pub(crate) fn fill(&mut self, alloc: Global, view: View) -> Result<(), AllocError> {
+    pub(crate) fn fill(&mut self, view: View) -> Result<(), AllocError> {
         self.clear();
         let blocks = view.text().stretches.len();
         if self.entering.len() < blocks {
@@ -107,10 +109,7 @@ impl Nodes {
             self.landing.resize(blocks, None)?;
         }
         let ranges = ranges_of(view.facts.intervals.as_slice(), view.register);
-        push_ranges(view, self, ranges)?;
-        let wanted = wanted(alloc, view.text(), self)?;
-        self.drop_unwanted(wanted.as_slice());
-        Ok(())
+        push_ranges(view, self, ranges)
     }
 
     /// Puts a part behind the others.
@@ -124,18 +123,6 @@ impl Nodes {
         }
         self.list.push(node)?;
         Ok(())
-    }
-
-    /// Cuts off the parts that aren't wanted: no value comes to them or goes on from them in a register of the machine.
-    fn drop_unwanted(&mut self, wanted: &[bool]) {
-        for (number, node) in self.list.iter_mut().enumerate() {
-            if wanted.get(number) != Some(&true) {
-                node.enters = false;
-                node.leaves = false;
-                set(self.entering.as_mut_slice(), node.block, None);
-                set(self.leaving.as_mut_slice(), node.block, None);
-            }
-        }
     }
 
     /// The part with that number.
@@ -166,6 +153,18 @@ impl Nodes {
     /// The part that the block ends with.
     pub(crate) fn last_part(&self, block: usize) -> Option<Node> {
         self.node(self.leaving(block)?)
+    }
+
+    /// The part that the block begins with, if it goes with the region.
+    pub(crate) fn first_inside(&self, block: usize, leader: usize) -> Option<Node> {
+        self.first_part(block)
+            .filter(|node| node.leader == Some(leader))
+    }
+
+    /// The part that the block ends with, if it goes with the region.
+    pub(crate) fn last_inside(&self, block: usize, leader: usize) -> Option<Node> {
+        self.last_part(block)
+            .filter(|node| node.leader == Some(leader))
     }
 
     /// The number of the part that the block begins with.

@@ -1,6 +1,5 @@
 //! Cuts a register's ranges at the ends of blocks and at calls.
 use crate::intervals::accesses::{Access, Kind};
-use crate::intervals::demands::is_over_call;
 use crate::intervals::positions::{Range, right_after, right_before};
 use crate::intervals::text::Stretch;
 use crate::lists::rest;
@@ -19,7 +18,7 @@ struct Piece {
 
 /// Whether a call stands between the positions.
 fn is_cut(view: View, start: usize, end: usize) -> bool {
-    is_over_call(view.facts.demands.calls.as_slice(), Range { start, end })
+    view.facts.demands.is_over_call(Range { start, end })
 }
 
 /// A part of the piece without accesses.

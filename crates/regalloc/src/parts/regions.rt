@@ -1,5 +1,6 @@
 //! Parts of a register's live interval that one register of the machine may serve together, and what that saves.
 use crate::intervals::accesses::Access;
+use crate::intervals::demands::Demand;
 use crate::intervals::facts::Facts;
 use crate::intervals::text::Text;
 use crate::lists::{part, set};
@@ -20,7 +21,7 @@ pub(crate) enum Reach {
     Alone,
 }
 
-/// A register that is split, as it is seen with the regions of its parts.
+/// A register that is split.
 #[derive(Clone, Copy)]
 pub(crate) struct View<'a> {
     pub(crate) facts: &'a Facts,
@@ -28,8 +29,8 @@ pub(crate) struct View<'a> {
     pub(crate) register: u32,
     pub(crate) accesses: &'a [Access],
 
-    /// for each part the number of the part that its region is named by; none where it goes with no region
-    pub(crate) leaders: &'a [Option<usize>],
+    /// what they are
+    pub(crate) demand: Demand,
 }
 
 /// Whether the part may go with a region.
@@ -75,28 +76,6 @@ fn join_all(leaders: &mut [Option<usize>], text: &Text, nodes: &Nodes) {
     }
 }
 
-/// For each part the one that names its region.
-pub(crate) fn leaders(
-    alloc: Global,
-    text: &Text,
-    nodes: &Nodes,
-    reach: Reach,
-) -> Result<Vec<Option<usize>>, AllocError> {
-    let own = nodes.list.iter().enumerate().map(|(number, node)| {
-        is_eligible(text, node, reach).then_some(number)
-    });
-    let mut leaders: Vec<Option<usize>> = own.collect(alloc)?;
-    if !matches!(reach, Reach::Alone) {
-        join_all(leaders.as_mut_slice(), text, nodes);
-        // and none on the way there
-        for number in 0..leaders.len() {
-            let leader = leader_of(leaders.as_mut_slice(), number);
-            set(leaders.as_mut_slice(), number, leader);
-        }
-    }
-    Ok(leaders)
-}
-
 /// A part, and the one that names its region. In the order of members those of a region stand together.
 #[derive(Clone, Copy, PartialEq, Eq, PartialOrd, Ord)]
 pub(crate) struct Member {
@@ -104,11 +83,25 @@ pub(crate) struct Member {
     pub(crate) node: usize,
 }
 
-/// The members of all regions, those of a region together.
-pub(crate) fn members(alloc: Global, leaders: &[Option<usize>]) -> Result<Vec<Member>, AllocError> {
+/// The members of the regions that the parts make with this reach, those of a region together.
+pub(crate) fn members(
+    alloc: Global,
+    text: &Text,
+    nodes: &mut Nodes,
+    reach: Reach,
+) -> Result<Vec<Member>, AllocError> {
+    let own = nodes.list.iter().enumerate().map(|(number, node)| {
+        is_eligible(text, node, reach).then_some(number)
+    });
+    let mut leaders: Vec<Option<usize>> = own.collect(alloc)?;
+    if !matches!(reach, Reach::Alone) {
+        join_all(leaders.as_mut_slice(), text, nodes);
+    }
     let mut members = Vec::new(alloc);
-    for (node, leader) in leaders.iter().copied().enumerate() {
-        if let Some(leader) = leader {
+    for (number, node) in nodes.list.iter_mut().enumerate() {
+        node.leader = leader_of(leaders.as_mut_slice(), number);
+        if let Some(leader) = node.leader {
+            let node = number;
             members.push(Member { leader, node })?;
         }
     }
@@ -120,11 +113,6 @@ impl<'a> View<'a> {
     /// The blocks of the function.
     pub(crate) fn text(&self) -> &'a Text {
         &self.facts.text
-    }
-
-    /// Whether that part goes with the region.
-    pub(crate) fn is_inside(&self, number: Option<usize>, leader: usize) -> bool {
-        number.is_some_and(|number| { self.leaders.get(number).copied().flatten() == Some(leader) })
     }
 
     /// Whether the register is live where the block begins.

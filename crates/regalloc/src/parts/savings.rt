@@ -10,9 +10,10 @@ fn gains(accesses: &[Access], save: u64) -> Balance {
     let mut balance = Balance::default();
     for access in accesses {
         balance.gain = balance.gain.saturating_add(access.weight);
-        let argument = usize::from(access.argument);
+        let argument = usize::from(access.hint.argument);
         if argument < ARGUMENTS {
-            balance.through[argument] = balance.through[argument].saturating_add(access.through);
+            let through = access.hint.weight.saturating_mul(2);
+            balance.through[argument] = balance.through[argument].saturating_add(through);
         }
         if access.is_new() {
             balance.eager = balance.eager.saturating_add(save);

@@ -1,6 +1,6 @@
 //! What stands for registers of the machine, and in which order.
 use crate::intervals::coalescing::Group;
-use crate::intervals::demands::{Demand, Demands, is_over_call};
+use crate::intervals::demands::{Demand, Demands};
 use crate::intervals::facts::Facts;
 use crate::intervals::positions::Range;
 use crate::places::slots::Wish;
@@ -39,7 +39,6 @@ pub(crate) struct Candidate {
 
 /// The candidate for the group of that number.
 fn candidate_of(group: &Group, ranges: &[Range], number: usize, demands: &Demands) -> Candidate {
-    let calls = demands.calls.as_slice();
     let mut demand = Demand::none();
     for register in group.members.as_slice() {
         demand = demand.joined(demands.of(*register));
@@ -52,7 +51,7 @@ fn candidate_of(group: &Group, ranges: &[Range], number: usize, demands: &Demand
         priority: demand.weight.saturating_mul(1024) / (length as u64).max(1),
         weight: demand.weight,
         group: number,
-        over_call: ranges.iter().any(|range| is_over_call(calls, *range)),
+        over_call: ranges.iter().any(|range| demands.is_over_call(*range)),
         hint: demand.hint.wanted(),
     }
 }

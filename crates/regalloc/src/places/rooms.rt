@@ -1,5 +1,6 @@
 //! Which positions each register of the machine is free at.
 use crate::intervals::positions::Range;
+use crate::lists::rest;
 use crate::parts::balance::Balance;
 use crate::places::candidates::Candidate;
 use std::alloc::{AllocError, Global};
@@ -20,11 +21,8 @@ const SHORT: usize = 16;
 /// The positions at which each register of the machine is taken, one bit each.
 #[derive(Drop)]
 pub(crate) struct Rooms {
-    /// those of the first 64, which stand here so that small functions take no memory for them
-    first: [u64; ROOMS],
-
-    /// those behind, as many words for each register
-    more: Vec<u64>,
+    /// as many words for each register
+    taken: Vec<u64>,
     words: usize,
 
     /// whether some value stands in it
@@ -49,53 +47,32 @@ fn mask(range: Range, k: usize) -> u64 {
 impl Rooms {
     /// Registers that are free at all positions of so many points.
     pub(crate) fn new(alloc: Global, points: usize) -> Result<Rooms, AllocError> {
-        let words = points.saturating_mul(2) / 64;
+        let words = (points / 32).saturating_add(1);
         Ok(Rooms {
-            first: [0; ROOMS],
-            more: vec![in alloc; 0u64; words.saturating_mul(ROOMS)]?,
+            taken: vec![in alloc; 0u64; words.saturating_mul(ROOMS)]?,
             words,
             used: [false; ROOMS],
         })
     }
 
-    /// The number of the w-th word behind the first one of the k-th register.
-    fn behind(&self, k: usize, w: usize) -> usize {
-        k.saturating_mul(self.words).saturating_add(w)
-    }
-
-    /// The w-th 64 positions of the k-th register, if there are that many.
-    fn word(&self, k: usize, w: usize) -> Option<u64> {
-        match w.checked_sub(1) {
-            Some(w) if w < self.words => self.more.get(self.behind(k, w)).copied(),
-            Some(_) => None,
-            None => self.first.get(k).copied(),
-        }
-    }
-
-    /// The w-th 64 positions of the k-th register, to take some of them.
-    fn word_mut(&mut self, k: usize, w: usize) -> Option<&mut u64> {
-        match w.checked_sub(1) {
-            Some(w) if w < self.words => {
-                let at = self.behind(k, w);
-                self.more.get_mut(at)
-            }
-            Some(_) => None,
-            None => self.first.get_mut(k),
-        }
+    /// Where the word of the first 64 positions of the k-th register stands.
+    fn first(&self, k: usize) -> usize {
+        k.saturating_mul(self.words)
     }
 
     /// Whether the k-th register is free at all positions of the range.
     fn is_free_at(&self, k: usize, range: Range) -> bool {
-        (range.start / 64..range.end / 64 + 1).all(|w| {
-            self.word(k, w)
-                .is_some_and(|word| word & mask(range, w) == 0)
-        })
+        let words = rest(self.taken.as_slice(), self.first(k));
+        (range.start / 64..range.end / 64 + 1).all(|w| words
+            .get(w)
+            .is_some_and(|word| *word & mask(range, w) == 0))
     }
 
     /// Takes the k-th register at all positions of the range.
     fn take_at(&mut self, k: usize, range: Range) {
+        let first = self.first(k);
         for w in range.start / 64..range.end / 64 + 1 {
-            if let Some(word) = self.word_mut(k, w) {
+            if let Some(word) = self.taken.get_mut(first.saturating_add(w)) {
                 *word |= mask(range, w);
             }
         }
@@ -134,15 +111,9 @@ pub(crate) fn scratch_room(list: &[Location], register: u32) -> Option<usize> {
     }
 }
 
-/// The first of these registers that is free and that callees needn't keep, or else another one, those of arguments last.
-pub(crate) fn free_scratch(
-    rooms: &Rooms,
-    wishes: &[Option<usize>],
-    ranges: &[Range],
-) -> Option<usize> {
-    wishes
-        .iter()
-        .find_map(|wish| wish.filter(|k| *k < SCRATCH && rooms.is_free(*k, ranges)))
+/// The register that is wished for, if it is free and callees needn't keep it, or else another such one, those of arguments last.
+pub(crate) fn free_scratch(rooms: &Rooms, wish: Option<usize>, ranges: &[Range]) -> Option<usize> {
+    wish.filter(|k| *k < SCRATCH && rooms.is_free(*k, ranges))
         .or_else(|| (0..SCRATCH).rev().find(|k| rooms.is_free(*k, ranges)))
 }
 
@@ -175,7 +146,7 @@ fn far_room(rooms: &Rooms, ranges: &[Range]) -> Option<usize> {
     if SHORT <= range.end.saturating_sub(range.start) {
         return None;
     }
-    let last = rooms.words.saturating_mul(64).saturating_add(63);
+    let last = rooms.words.saturating_mul(64).saturating_sub(1);
     let widened = Range {
         start: range.start.saturating_sub(APART),
         end: range.end.saturating_add(APART).min(last),

@@ -1,15 +1,12 @@
 //! Splits the registers that no register of the machine is free for: in parts of their live intervals one may be.
-use crate::intervals::accesses::Accesses;
-use crate::intervals::demands::accesses_of;
 use crate::parts::nodes::Nodes;
 use crate::parts::regions::View;
 use crate::places::candidates::{Candidate, Ground, is_unplaced};
 use crate::places::rooms::Rooms;
 use crate::splitting::credit::{Credit, credit_of};
 use crate::splitting::outcome::splits_of;
-use crate::splitting::reaches::give_all;
+use crate::splitting::reaches::{give_all, split_costs_over_kept};
 use crate::splitting::splits::Splits;
-use crate::splitting::worth::split_costs_over_kept;
 use std::alloc::{AllocError, Global};
 use vcode::Location;
 
@@ -19,32 +16,18 @@ pub(crate) struct Splitter {
     /// the parts of the register that is looked at
     nodes: Nodes,
 
-    /// the accesses of all registers, found where they are first asked for
-    accesses: Accesses,
-
     pub(crate) credit: Credit,
     pub(crate) splits: Splits,
 }
 
 impl Splitter {
-    /// Nothing is split yet. The accesses may be unknown.
-    pub(crate) fn new(alloc: Global, accesses: Accesses) -> Splitter {
+    /// Nothing is split yet.
+    pub(crate) fn new(alloc: Global) -> Splitter {
         Splitter {
             nodes: Nodes::new(alloc),
-            accesses,
             credit: Credit::none(alloc),
             splits: Splits::new(alloc),
         }
-    }
-
-    /// Finds the accesses, if they are unknown.
-    fn find_accesses(&mut self, alloc: Global, ground: Ground) -> Result<(), AllocError> {
-        if self.accesses.are_unknown() {
-            let function = ground.function;
-            let text = &ground.facts.text;
-            self.accesses = accesses_of(alloc, &function.code, function.registers, text)?;
-        }
-        Ok(())
     }
 
     /// What is done where registers are split, in the order of the text, and each move once.
@@ -58,14 +41,14 @@ impl Splitter {
     }
 }
 
-/// The register, of whose accesses these are some, seen with no regions.
-fn view_of<'a>(ground: Ground<'a>, accesses: &'a Accesses, register: u32) -> View<'a> {
+/// The register, as it is split.
+fn view_of<'a>(ground: Ground<'a>, register: u32) -> View<'a> {
     View {
         facts: ground.facts,
         live: ground.live,
         register,
-        accesses: accesses.of(register),
-        leaders: &[],
+        accesses: ground.facts.demands.accesses(register),
+        demand: ground.facts.demands.of(register),
     }
 }
 
@@ -77,12 +60,11 @@ fn split(
     ground: Ground,
     register: u32,
 ) -> Result<(), AllocError> {
-    let facts = ground.facts;
-    if facts.demands.of(register).is_param && !facts.text.sources(0).is_empty() {
+    let view = view_of(ground, register);
+    if view.demand.is_param && !view.text().sources(0).is_empty() {
         return Ok(());
     }
-    let view = view_of(ground, &splitter.accesses, register);
-    splitter.nodes.fill(alloc, view)?;
+    splitter.nodes.fill(view)?;
     give_all(alloc, view, &mut splitter.nodes, rooms)?;
     let own = splits_of(alloc, view, &splitter.nodes)?;
     let credit = &mut splitter.credit;
@@ -104,7 +86,6 @@ pub(crate) fn split_all(
     if candidates.is_empty() {
         return Ok(());
     }
-    splitter.find_accesses(alloc, ground)?;
     let blocks = ground.function.code.blocks.as_slice();
     splitter.credit = credit_of(alloc, blocks, &ground.facts.text)?;
     for candidate in candidates {
@@ -126,10 +107,9 @@ pub(crate) fn should_keep(
     ground: Ground,
     members: &[u32],
 ) -> Result<bool, AllocError> {
-    splitter.find_accesses(alloc, ground)?;
     let mut cost = 0u64;
     for register in members {
-        let view = view_of(ground, &splitter.accesses, *register);
+        let view = view_of(ground, *register);
         let more = split_costs_over_kept(alloc, &mut splitter.nodes, view)?;
         cost = cost.saturating_add(more);
     }

@@ -4,8 +4,7 @@ ghost use Rattle.std.specs.List.{list_all};
 ghost use Rattle.vcode.specs.Prelude.{is_place};
 ghost use Rattle.regalloc.specs.Scanned.{are_between};
 
-use crate::lists::part;
-use crate::splitting::splits::{Move, Way, moves_end};
+use crate::splitting::splits::{Move, Way, moves_at};
 use crate::written::points::{own_place, room_place};
 use certificates::Transfer;
 use il_ast::Seq;
@@ -50,15 +49,12 @@ pub(crate) fn all_moves(
     ensures { IfOk result (λ lists. list_all (are_between registers) lists ≡ true) }
 {
     let mut lists = Seq::from_vec(Vec::with_capacity(alloc, points)?);
-    let mut first = 0usize;
     for point in 0..points {
-        let end = moves_end(moves, first, point);
         let mut transfers = Seq::new(alloc);
-        for one in part(moves, first, end) {
+        for one in moves_at(moves, point) {
             push_move(&mut transfers, list, registers, one)?;
         }
         lists.push(transfers)?;
-        first = end;
     }
     Ok(lists)
 }

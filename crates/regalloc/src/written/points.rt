@@ -5,8 +5,7 @@ ghost use Rattle.vcode.specs.Prelude.{is_place};
 ghost use Rattle.regalloc.specs.Scanned.{are_placed};
 
 use crate::linear_scan::machine_register;
-use crate::lists::part;
-use crate::splitting::splits::{Stay, stays_end};
+use crate::splitting::splits::{Stay, stays_at};
 use certificates::Equality;
 use cfg_live::Reads;
 use cfg_live::reads::{jump_reads, line_reads, register_of};
@@ -117,26 +116,23 @@ fn places_of(
     Ok(equalities)
 }
 
-/// Adds the places of the next point; answers the number behind the stays that belong to it.
+/// Adds the places of the next point.
 fn push_point(
     alloc: Global,
     places: &mut Seq<Seq<Equality>>,
     list: &[Location],
     registers: u32,
     stays: &[Stay],
-    first: usize,
     reads: Reads,
     written: Option<u32>,
-) -> Result<usize, AllocError>
+) -> Result<(), AllocError>
     requires list { list_all (is_place registers) list.now ≡ true }
     requires placed { list_all (are_placed registers) places.old ≡ true }
     ensures { list_all (are_placed registers) places.new ≡ true }
 {
-    let end = stays_end(stays, first, places.len());
-    let here = part(stays, first, end);
+    let here = stays_at(stays, places.len());
     let named = places_of(alloc, list, registers, here, reads, written)?;
-    places.push(named)?;
-    Ok(end)
+    places.push(named)
 }
 
 /// The places of all points, which are so many.
@@ -152,26 +148,16 @@ pub(crate) fn all_places(
     ensures { IfOk result (λ places. list_all (are_placed registers) places ≡ true) }
 {
     let mut places = Seq::from_vec(Vec::with_capacity(alloc, points)?);
-    let mut first = 0usize;
     for block in blocks {
         for line in block.lines.as_slice() {
             if !matches!(line, Line::Tick { .. }) {
                 let reads = line_reads(line);
                 let to = line_writes(line);
-                first = push_point(alloc, &mut places, list, registers, stays, first, reads, to)?;
+                push_point(alloc, &mut places, list, registers, stays, reads, to)?;
             }
         }
         let reads = jump_reads(&block.jump);
-        first = push_point(
-            alloc,
-            &mut places,
-            list,
-            registers,
-            stays,
-            first,
-            reads,
-            None,
-        )?;
+        push_point(alloc, &mut places, list, registers, stays, reads, None)?;
     }
     Ok(places)
 }

@@ -5,7 +5,7 @@ ghost use Rattle.vcode.specs.Prelude.{is_place};
 ghost use Rattle.regalloc.specs.Scanned.{are_placed};
 
 use crate::intervals::starts::Starts;
-use crate::splitting::splits::{Begin, Entry, begins_from};
+use crate::splitting::splits::{Begin, Entry, begin_at};
 use crate::written::points::{own_place, place_in, push_at, room_place};
 use certificates::Equality;
 use il_ast::Seq;
@@ -70,16 +70,13 @@ pub(crate) fn placed_starts(
     ensures { IfOk result (λ starts. list_all (are_placed registers) starts ≡ true) }
 {
     let mut starts = Seq::from_vec(Vec::with_capacity(alloc, blocks)?);
-    let mut first = 0usize;
     for block in 0..blocks {
         let live = from.of(block);
         let mut equalities = Seq::from_vec(Vec::with_capacity(alloc, live.len())?);
-        for register in live {
-            first = begins_from(begins, first, block, *register);
-            let begin = begins
-                .get(first)
-                .filter(|begin| begin.is_at(block, *register));
-            push_live(&mut equalities, list, registers, *register, begin)?;
+        for start in live {
+            let register = start.register;
+            let begin = begin_at(begins, block, register);
+            push_live(&mut equalities, list, registers, register, begin)?;
         }
         starts.push(equalities)?;
     }

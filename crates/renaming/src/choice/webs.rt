@@ -1,10 +1,12 @@
 //! The webs of registers that are written more than once.
 use crate::choice::forest::Forest;
+use cfg_live::Reads;
+use cfg_live::reads::{jump_reads, line_reads, register_of};
 use cfg_live::uses::line_writes;
-use flow::graph::{predecessors, predecessors_of, successor};
+use flow::graph::{predecessors, predecessors_of};
 use il_ast::Few;
 use std::alloc::{AllocError, Global};
-use vcode::{Argument, Block, Destination, Jump, Line, Operand, VFunc};
+use vcode::{Block, Destination, Line, VFunc};
 
 /// What a register holds where a block begins, which somebody reads.
 #[derive(Clone, Copy)]
@@ -18,7 +20,6 @@ pub(crate) struct Begin {
 #[derive(Clone, Copy)]
 struct End {
     block: usize,
-    register: u32,
     value: usize,
 
     /// what it holds where the block begins, if the block reads that
@@ -43,9 +44,6 @@ pub(crate) struct Use {
 
     /// the place of its last end
     last: usize,
-
-    /// the block that reads what it holds where that begins
-    head: usize,
 }
 
 impl Use {
@@ -65,12 +63,9 @@ pub(crate) struct Webs {
     pub(crate) written: Vec<usize>,
     pub(crate) begins: Vec<Begin>,
     ends: Vec<End>,
-
-    /// whether some register has several heads, or is written more than once in a block
-    has_several: bool,
 }
 
-/// The place of no end, and the number of no block.
+/// The place of no end.
 const NOWHERE: usize = usize::MAX;
 
 /// Where a function has so many times more values at the begins of blocks than lines, it keeps its names.
@@ -86,7 +81,6 @@ impl Webs {
             written: Vec::new(alloc),
             begins: Vec::new(alloc),
             ends,
-            has_several: false,
         })
     }
 
@@ -117,7 +111,6 @@ impl Webs {
         }
         self.ends.push(End {
             block,
-            register,
             value,
             begun,
             before,
@@ -139,7 +132,6 @@ impl Webs {
         let last = self.last_end(register);
         match self.ends.get_mut(last) {
             Some(end) if end.block == block => {
-                self.has_several |= end.begun != Some(end.value);
                 end.value = value;
                 Ok(())
             }
@@ -147,94 +139,38 @@ impl Webs {
         }
     }
 
-    fn read(&mut self, block: usize, operand: &Operand<u32>) -> Result<(), AllocError> {
-        match operand {
-            Operand::At(register) if !self.is_plain(*register) && !self.is_in(block, *register) => {
-                let value = self.forest.add()?;
-                self.note_head(block, *register);
-                self.push_end(block, *register, value, Some(value))
+    fn read(&mut self, block: usize, register: u32) -> Result<(), AllocError> {
+        if self.is_plain(register) || self.is_in(block, register) {
+            return Ok(());
+        }
+        let value = self.forest.add()?;
+        self.push_end(block, register, value, Some(value))
+    }
+
+    fn read_all(&mut self, block: usize, reads: Reads) -> Result<(), AllocError> {
+        for register in [reads.first, reads.second] {
+            if let Some(register) = register {
+                self.read(block, register)?;
             }
-            _ => Ok(()),
         }
-    }
-
-    /// The block reads what the register holds where it begins.
-    fn note_head(&mut self, block: usize, register: u32) {
-        if let Some(one) = self.uses.get_mut(register as usize) {
-            self.has_several |= one.head != NOWHERE;
-            one.head = block;
-        }
-    }
-
-    /// Whether a block that writes a register leads to the register's head.
-    fn leads_to_head(&self, blocks: &[Block<u32>], end: End) -> bool {
-        let (Some(block), Some(one)) = (blocks.get(end.block), self.uses.get(end.register as usize))
-        else {
-            return false;
-        };
-        end.begun == Some(end.value)
-            || successor(&block.jump, 0) == Some(one.head)
-            || successor(&block.jump, 1) == Some(one.head)
-    }
-
-    /// Whether each register is one web, as where copies stand for phis: it is read from outside in one block alone, to which all blocks that write it lead.
-    fn are_whole(&self, function: &VFunc) -> bool {
-        let blocks = function.code.blocks.as_slice();
-        !self.has_several
-            && !self.writes_params(function.code.params.as_slice())
-            && self.ends.iter().all(|end| self.leads_to_head(blocks, *end))
-    }
-
-    fn read_both(
-        &mut self,
-        block: usize,
-        left: &Operand<u32>,
-        right: &Operand<u32>,
-    ) -> Result<(), AllocError> {
-        self.read(block, left)?;
-        self.read(block, right)
-    }
-
-    fn read_args(&mut self, block: usize, args: &[Argument<u32>]) -> Result<(), AllocError> {
-        for arg in args {
-            self.read(block, &arg.value)?;
+        for arg in reads.args {
+            if let Some(register) = register_of(&arg.value) {
+                self.read(block, register)?;
+            }
         }
         Ok(())
-    }
-
-    fn read_line(&mut self, block: usize, line: &Line<u32>) -> Result<(), AllocError> {
-        match line {
-            Line::Tick { .. } | Line::Alloc { .. } => Ok(()),
-            Line::Set { value, .. } => self.read(block, value),
-            Line::Operate { left, right, .. } => self.read_both(block, left, right),
-            Line::Load { at, .. } => self.read(block, &at.base),
-            Line::Store { value, at, .. } => self.read_both(block, value, &at.base),
-            Line::Blit { from, to, .. } => self.read_both(block, from, to),
-            Line::Call { callee, args, .. } => {
-                self.read(block, callee)?;
-                self.read_args(block, args.as_slice())
-            }
-        }
-    }
-
-    fn read_jump(&mut self, block: usize, jump: &Jump<u32>) -> Result<(), AllocError> {
-        match jump {
-            Jump::Branch { on, .. } => self.read_both(block, &on.left, &on.right),
-            Jump::Return(Some(returned)) => self.read(block, &returned.value),
-            _ => Ok(()),
-        }
     }
 
     /// The values that the block writes, and those that it reads of what others wrote.
     fn walk(&mut self, number: usize, block: &Block<u32>) -> Result<(), AllocError> {
         for line in block.lines.as_slice() {
-            self.read_line(number, line)?;
+            self.read_all(number, line_reads(line))?;
             match line_writes(line) {
                 Some(register) if !self.is_plain(register) => self.write(number, register)?,
                 _ => {}
             }
         }
-        self.read_jump(number, &block.jump)
+        self.read_all(number, jump_reads(&block.jump))
     }
 
     /// Notes what the register holds at the ends of the blocks that read or write it, and where they begin.
@@ -313,14 +249,9 @@ impl Webs {
         Ok(false)
     }
 
-    /// Whether a parameter is written once more.
-    fn writes_params(&self, params: &[Destination<u32>]) -> bool {
-        params.iter().any(|param| !self.is_plain(param.place))
-    }
-
     /// Whether some web may need a register that the function doesn't have. The first value of a parameter may be read by no one, and keeps its name.
     pub(crate) fn may_need_more(&self, params: &[Destination<u32>]) -> bool {
-        self.writes_params(params)
+        params.iter().any(|param| !self.is_plain(param.place))
             || self.forest.sets() != self.uses.iter().filter(|one| !one.is_plain()).count()
     }
 }
@@ -352,7 +283,7 @@ fn join_all(
     Ok(true)
 }
 
-/// Finds the values, and which belong together; false where they are too many, or each register is one web.
+/// Finds the values, and which belong together; false where they are too many.
 pub(crate) fn find_webs(
     alloc: Global,
     webs: &mut Webs,
@@ -361,9 +292,6 @@ pub(crate) fn find_webs(
     let blocks = function.code.blocks.as_slice();
     for (number, block) in blocks.iter().enumerate() {
         webs.walk(number, block)?;
-    }
-    if webs.are_whole(function) {
-        return Ok(false);
     }
     let sources = predecessors(alloc, blocks)?;
     let unasked = Asked {
@@ -399,7 +327,6 @@ pub(crate) fn count_uses(alloc: Global, function: &VFunc) -> Result<Vec<Use>, Al
     let unused = Use {
         writes: 0,
         last: NOWHERE,
-        head: NOWHERE,
     };
     let mut uses = vec![in alloc; unused; function.registers as usize]?;
     for param in function.code.params.as_slice() {

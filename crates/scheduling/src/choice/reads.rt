@@ -1,19 +1,9 @@
 //! Which places lines and jumps read.
+use crate::independent::operand;
 use vcode::{Jump, Line, Location, Operand};
 
-fn is_same(place: Location, other: Location) -> bool {
-    match (place, other) {
-        (Location::Register(a), Location::Register(b)) => a == b,
-        (Location::Slot(a), Location::Slot(b)) => a == b,
-        _ => false,
-    }
-}
-
-fn is_in(operand: &Operand<Location>, place: Location) -> bool {
-    match operand {
-        Operand::At(other) => is_same(place, *other),
-        Operand::Number(_) | Operand::Name(_) => false,
-    }
+fn is_in(value: &Operand<Location>, place: Location) -> bool {
+    !operand(place, value)
 }
 
 /// Whether a line that isn't a call reads the place.
