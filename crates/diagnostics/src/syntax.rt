@@ -26,34 +26,20 @@ fn add_token(words: &mut TextMaker, token: &[u8]) {
         None => (token, ""),
     };
     let start = str::from_utf8(start).unwrap_or("\"..\"");
-    say!(words; "`{start}{dots}` has no place here{}", hint(token));
+    say!(words; "`{start}{dots}` has no place here{}", hint(start));
 }
 
-/// Words that other dialects of the language have, or that stand elsewhere, and what to know of each.
-const HINTS: [(&[u8], &str); 17] = [
-    (b"s", "; there are no floating-point numbers"),
-    (b"d", "; there are no floating-point numbers"),
-    (b"sb", "; arguments and results are w or l"),
-    (b"ub", "; arguments and results are w or l"),
-    (b"sh", "; arguments and results are w or l"),
-    (b"uh", "; arguments and results are w or l"),
-    (b"env", "; a call has its arguments and no others"),
-    (b"vastart", "; a call has its arguments and no others"),
-    (b"vaarg", "; a call has its arguments and no others"),
-    (b"...", "; a call has its arguments and no others"),
-    (b"type", "; there are no aggregate types"),
-    (b"thread", "; leave it away"),
-    (b"section", "; leave it away"),
-    (b"dbgfile", "; leave it away"),
-    (b"dbgloc", "; leave it away"),
-    (b"common", "; leave it away"),
-    (b"phi", "; phis stand before the block's other lines"),
-];
-
-/// What to know of a word, where it is one of these.
-fn hint(token: &[u8]) -> &'static str {
-    let found = HINTS.iter().find(|(word, _)| *word == token);
-    found.map_or("", |(_, what)| *what)
+/// What to know of a word that other dialects of the language have, or that stands elsewhere.
+fn hint(word: &str) -> &'static str {
+    match word {
+        "s" | "d" => "; there are no floating-point numbers",
+        "sb" | "ub" | "sh" | "uh" => "; arguments and results are w or l",
+        "env" | "vastart" | "vaarg" | "..." => "; a call has its arguments and no others",
+        "type" => "; there are no aggregate types",
+        "thread" | "section" | "dbgfile" | "dbgloc" | "common" => "; leave it away",
+        "phi" => "; phis stand before the block's other lines",
+        _ => "",
+    }
 }
 
 /// Says why no token begins behind the spacing.

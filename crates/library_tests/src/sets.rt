@@ -35,25 +35,12 @@ fn unite(rt: &impl Abort, set: &mut BitSet, threes: &BitSet) {
     assert!(rt; !set.union_into(threes), "{length} numbers, again");
 }
 
-/// Whether the set holds the multiples of two or three, each number asked for.
-fn holds_both(rt: &impl Abort, set: &BitSet) {
+/// Whether the set holds the multiples of two, and with those of three or without them, each number asked for.
+fn holds(rt: &impl Abort, set: &BitSet, with_threes: bool) {
     for i in 0..set.len() {
         assert!(rt; i < set.len());
-        assert_eq!(rt; set.contains(i), i % 2 == 0 || i % 3 == 0, "{i}");
-    }
-}
-
-/// Takes the multiples of three out.
-fn part(rt: &impl Abort, set: &mut BitSet, threes: &BitSet) {
-    assert!(rt; set.len() == threes.len());
-    set.minus(threes);
-}
-
-/// Whether the set holds the multiples of two that are none of three.
-fn holds_one(rt: &impl Abort, set: &BitSet) {
-    for i in 0..set.len() {
-        assert!(rt; i < set.len());
-        assert_eq!(rt; set.contains(i), i % 2 == 0 && i % 3 != 0, "{i}, less");
+        let is_held = if i % 3 == 0 { with_threes } else { i % 2 == 0 };
+        assert_eq!(rt; set.contains(i), is_held, "{i}, {with_threes}");
     }
 }
 
@@ -70,9 +57,10 @@ fn set_of(rt: &impl Abort, alloc: Global, length: usize) -> Result<(), AllocErro
     let threes = multiples(rt, alloc, length, 3)?;
     let mut set = multiples(rt, alloc, length, 2)?;
     unite(rt, &mut set, &threes);
-    holds_both(rt, &set);
-    part(rt, &mut set, &threes);
-    holds_one(rt, &set);
+    holds(rt, &set, true);
+    assert!(rt; set.len() == threes.len());
+    set.minus(&threes);
+    holds(rt, &set, false);
     take_two_out(rt, &mut set);
     set.clear();
     assert!(rt; set.len() == length && !has_some(&set), "{length}, cleared");

@@ -10,7 +10,7 @@ use std::alloc::Global;
 use text_maker::{TextMaker, say};
 
 /// The graph of a text.
-fn graph(alloc: Global, text: &str) -> Option<Graph> {
+pub fn graph(alloc: Global, text: &str) -> Option<Graph> {
     let mut graph = Graph {
         uses: Seq::new(alloc),
         nexts: Seq::new(alloc),

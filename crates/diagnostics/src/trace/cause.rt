@@ -3,7 +3,7 @@ use crate::call::{Call, add_difference};
 use crate::label::targets;
 use crate::name::add_operand;
 use crate::trace::access::{add_blank, add_no_access};
-use crate::trace::operation::add_no_value;
+use crate::trace::operation::why_none;
 use crate::trace::source::{Story, function_at};
 use crate::trace::turn::{steps_of, value_of, value_read};
 use crate::trace::values::callee_name;
@@ -78,7 +78,10 @@ fn add_reason(story: &mut Story<'_>, function: &InText<&Func>, place: Place, blo
                 ..
             },
         ) => match (value_of(story, text, left), value_of(story, text, right)) {
-            (Some(left), Some(right)) => add_no_value(story, *op, left, right),
+            (Some(left), Some(right)) => {
+                let reason = why_none(story, *op, left, right);
+                story.words.add(reason)
+            }
             _ => story.words.add(NO_MEANING),
         },
         Some(Inst::Store { size, at, .. }) => {

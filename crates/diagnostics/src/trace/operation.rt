@@ -2,14 +2,8 @@
 use crate::trace::source::Story;
 use il_ast::{BinaryOp, Condition, Value};
 
-/// Says why an operation on these values has none.
-pub fn add_no_value(story: &mut Story<'_>, op: BinaryOp, left: Value, right: Value) {
-    let reason = why_none(story, op, left, right);
-    story.words.add(reason);
-}
-
 /// Why an operation on these values has none. Of numbers only divisions have no value.
-fn why_none(story: &Story<'_>, op: BinaryOp, left: Value, right: Value) -> &'static str {
+pub fn why_none(story: &Story<'_>, op: BinaryOp, left: Value, right: Value) -> &'static str {
     match (left, right) {
         (Value::Integer(_), Value::Integer(divisor)) if divisor % 0x1_0000_0000 == 0 => {
             "a division by 0"
