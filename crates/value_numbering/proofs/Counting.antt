@@ -152,16 +152,6 @@ either_stands n false false e f h k = absurd (let no : ⊥ = cc in no)
 pub number_stands : (n : ℕ) → stands n ≡ true → IsWord (number n)
 number_stands n h = either_stands (n % 2 ^ 64) (nat_lt (n % 2 ^ 64) (2 ^ 31)) (nat_le (2 ^ 64 - 2 ^ 31) (n % 2 ^ 64)) refl refl (omega arith) h
 
--- such a word, extended, is itself
-pub word_again : (m : Memory) (o : Option Value) → IsWord o → operated m (RegW Addw) o (number 0) ≡ o
-unfolding operate
-word_again m None h = refl
-word_again m (Some (Integer n)) h =
-    let same : (n % 2 ^ 32 + 0) % 2 ^ 32 ≡ n % 2 ^ 32 = omega arith in
-    ap (λ (k : ℕ). Some (Integer (cast_unsigned w64 (cast_signed w32 k)))) same ∙ ap (λ (k : ℕ). Some (Integer k)) h
-word_again m (Some (Pointer b o)) h = absurd h
-word_again m (Some (Function f)) h = absurd h
-
 -- where it grows as a long
 pub grown_same : (m : Memory) (o : Option Value) (n : ℕ) → grows n o ≡ true → operated m (Reg Add) o (number n) ≡ operated m (RegW Addw) o (number n)
 unfolding operate

@@ -41,11 +41,11 @@ use Rattle.value_numbering.specs.declared.steps.Increment.{Increment}
 use Rattle.value_numbering.specs.declared.ways.Order.{Order}
 use Rattle.value_numbering.specs.Known.{computed, names, reads, asks_memory, changes_memory, spares, stays, copied_from, source_by, source, copied, shifted_in, first_of, shifted, is_back, extended_by, grows_as, grows_in, widened, joined, canonical, is_plain, kept_fact, known_by}
 use Rattle.value_numbering.proofs.Meant.{reached, linear, only_if, gives, IsTrueOf, grows}
-use Rattle.value_numbering.specs.Steps.{product_in, product, product_of, beyond, linear_in, linear_note, word_in, is_word, is_word_by, is_own, word_of, makes_word, word_note, noted, other_by, added_to, ahead, growth, increment_of, increment_by, further, behind, with_offset, moved_linear, moved, if_stays, with_front, carried, kept, with_fact, after}
+use Rattle.value_numbering.specs.Steps.{product_in, product, product_of, beyond, linear_in, linear_note, word_in, is_word, is_word_by, noted, other_by, added_to, ahead, growth, increment_of, increment_by, further, behind, with_offset, moved_linear, moved, if_stays, with_front, carried, kept, with_fact, after}
 use Rattle.sign_extensions.specs.Whole.{is_marked, takes_whole, keeps_marks, are_closed}
 use Rattle.sign_extensions.proofs.Values.{IfWhole, AreWhole, whole_number}
 use Rattle.sign_extensions.proofs.Running.{line_whole, bound_whole}
-use Rattle.value_numbering.proofs.Counting.{number, nothing_more, whole_grows, index_grows, shift_is_product, IsWord, word_given, number_stands, word_again, grown_same, grown_word, is_less, Less, Limit, less_grows, more_shrinks, more_than_before, less_than_next}
+use Rattle.value_numbering.proofs.Counting.{number, nothing_more, whole_grows, index_grows, shift_is_product, IsWord, word_given, number_stands, grown_same, grown_word, is_less, Less, Limit, less_grows, more_shrinks, more_than_before, less_than_next}
 use Rattle.value_numbering.proofs.Narrowing.{narrow_same}
 use Rattle.value_numbering.specs.Extensions.{other_way}
 use Rattle.value_numbering.proofs.Extending.{itself_same, reloaded_same, gives_one}
@@ -885,12 +885,9 @@ known_true globals m values l o next facts all may = by (computed l) refl
     by None e = tt
     by (Some f) e = is_known f e (reads f.register (canonical facts f.value)) refl (is_plain (canonical facts f.value))
 
--- ... of an expression that doesn't read the register, and of a word
+-- ... of an expression that doesn't read the register
 now_true : (globals : List Value) (m : Memory) (values : Values ℕ) (r : ℕ) (o : Option Value) (e : Expression) → reads r e ≡ false → gives globals m values e ≡ Gives o → IsTrueOf globals m (written (Some r) o values) (record { register = r; value = e })
 now_true globals m values r o e h is = gives_spared globals m values r o e h ∙ is ∙ ap Gives (sym (now_holds r o values))
-
-now_word : (globals : List Value) (m : Memory) (values : Values ℕ) (r : ℕ) (o : Option Value) → IsWord o → IsTrueOf globals m (written (Some r) o values) (record { register = r; value = word_of r })
-now_word globals m values r o h = ap Gives (word_again m (written (Some r) o values r) (subst IsWord (sym (now_holds r o values)) h))
 
 linear_true : (globals : List Value) (m : Memory) (values : Values ℕ) (r : ℕ) (o : Option Value) (facts : List Fact) → AreTrue globals m values facts → (e : Expression) → gives globals m values e ≡ Gives o → (g : Fact) → linear_note facts r e ≡ Some g → IsTrueOf globals m (written (Some r) o values) g
 linear_true globals m values r o facts all e is g h = by (linear_in facts e) refl h
@@ -906,29 +903,12 @@ linear_true globals m values r o facts all e is g h = by (linear_in facts e) ref
     by None k h = absurd (let no : ⊥ = cc in no)
     by (Some l) k h = noted_if l k (reads r l) refl (is_plain l) h
 
-makes_true : (globals : List Value) (m : Memory) (values : Values ℕ) (facts : List Fact) → AreTrue globals m values facts → (r : ℕ) (e : Expression) (o : Option Value) → makes_word facts r e ≡ true → gives globals m values e ≡ Gives o → IsWord o
-makes_true globals m values facts all r (Same (At y)) o h is = subst IsWord (gives_one (values y) o is) (word_true globals m values facts all y (and_parts (is_word facts y) (not (is_own facts y)) h).0)
-makes_true globals m values facts all r (Same (Number n)) o h is = subst IsWord (gives_one (number n) o is) (number_stands n h)
-makes_true globals m values facts all r (Same (Name g)) o h is = absurd (let no : ⊥ = cc in no)
-makes_true globals m values facts all r (Operated (RegW op) a b) o h is =
-    subst IsWord (gives_one (operated m (RegW op) (value_of globals values a) (value_of globals values b)) o is) (word_given m op (value_of globals values a) (value_of globals values b))
-makes_true globals m values facts all r (Operated (Reg op) a b) o h is = absurd (let no : ⊥ = cc in no)
-makes_true globals m values facts all r (Operated (Compare on k) a b) o h is = absurd (let no : ⊥ = cc in no)
-makes_true globals m values facts all r (Extended back a k) o h is = absurd (let no : ⊥ = cc in no)
-makes_true globals m values facts all r (Loaded op a d) o h is = absurd (let no : ⊥ = cc in no)
-makes_true globals m values facts all r (Linear b i c q) o h is = absurd (let no : ⊥ = cc in no)
-makes_true globals m values facts all r (Growing a n) o h is = absurd (let no : ⊥ = cc in no)
-
 noted_true : (globals : List Value) (m : Memory) (values : Values ℕ) (facts : List Fact) → AreTrue globals m values facts → (f : Fact) (o : Option Value) → gives globals m values f.value ≡ Gives o → TrueIf globals m (written (Some f.register) o values) (noted facts f)
 noted_true globals m values facts all f o is = by (linear_note facts f.register (canonical facts f.value)) refl
   where
-    word : (b : Bool) → makes_word facts f.register f.value ≡ b → TrueIf globals m (written (Some f.register) o values) (if b then Some (record { register = f.register; value = word_of f.register }) else None)
-    word true e = now_word globals m values f.register o (makes_true globals m values facts all f.register f.value o e is)
-    word false e = tt
-
-    by : (g : Option Fact) → linear_note facts f.register (canonical facts f.value) ≡ g → TrueIf globals m (written (Some f.register) o values) (first_of g (word_note facts f.register f.value))
+    by : (g : Option Fact) → linear_note facts f.register (canonical facts f.value) ≡ g → TrueIf globals m (written (Some f.register) o values) g
     by (Some g) e = linear_true globals m values f.register o facts all (canonical facts f.value) (canonical_same globals m values facts all f.value ∙ is) g e
-    by None e = word (makes_word facts f.register f.value) refl
+    by None e = tt
 
 other_true : (globals : List Value) (m : Memory) (values : Values ℕ) (l : Line ℕ) (o : Option Value) (next : Memory) (facts : List Fact) → AreTrue globals m values facts → MayLeave m (act globals m values l) o next
     → TrueIf globals next (written (line_writes l) o values) (other_by facts l)

@@ -1,17 +1,16 @@
 -- Registers that grow by numbers, what is linear in them, and what is known behind a line.
-use Rattle.std.specs.Prelude.{ℕ, ◌+◌, ◌-◌, ◌*◌, ◌%◌, ◌^◌, Bool, true, false, not, ◌&&◌, ◌||◌, nat_eq, nat_lt, nat_le, if◌then◌else◌, List, [], ◌∷◌, ◌++◌, filter, length, Option, Some, None, option_and_then, option_map}
+use Rattle.std.specs.Prelude.{ℕ, ◌+◌, ◌-◌, ◌*◌, ◌%◌, ◌^◌, Bool, true, false, ◌&&◌, ◌||◌, nat_eq, nat_lt, nat_le, if◌then◌else◌, List, [], ◌∷◌, ◌++◌, filter, length, Option, Some, None, option_and_then, option_map}
 use Rattle.vcode.specs.declared.place.Operand.{Operand}
 use Rattle.vcode.specs.declared.place.Operand.TheVariants.{At, Number}
 use Rattle.vcode.specs.declared.line.Line.{Line}
 use Rattle.vcode.specs.declared.line.Operation.TheVariants.{Reg, RegW}
 use Rattle.rv_isa.specs.declared.instruction.RegOp.TheVariants.{Add, Sll, Mul}
-use Rattle.rv_isa.specs.declared.instruction.RegWOp.TheVariants.{Addw}
 use Rattle.value_numbering.specs.declared.fact.Expression.{Expression}
 use Rattle.value_numbering.specs.declared.fact.Expression.TheVariants.{Same, Operated, Linear}
 use Rattle.value_numbering.specs.declared.fact.Fact.{Fact}
 use Rattle.value_numbering.specs.declared.steps.Multiple.{Multiple}
 use Rattle.value_numbering.specs.declared.steps.Increment.{Increment}
-use Rattle.value_numbering.specs.Known.{computed, names, reads, stays, first_of, grows_in, canonical, kept_fact, known_by}
+use Rattle.value_numbering.specs.Known.{computed, names, stays, first_of, grows_in, canonical, kept_fact, known_by}
 
 -- ---- sums with products
 
@@ -47,10 +46,6 @@ linear_note facts x e =
 
 -- ---- words that stand extended
 
--- the register's word, extended
-abbrev pub word_of : ℕ → Expression
-word_of r = Operated (RegW Addw) (At r) (Number 0)
-
 -- the number modulo 2^64 is the extension of its low 32 bits
 abbrev pub stands : ℕ → Bool
 stands n = nat_lt (n % 2 ^ 64) (2 ^ 31) || nat_le (2 ^ 64 - 2 ^ 31) (n % 2 ^ 64)
@@ -70,27 +65,9 @@ is_word_by all (f ∷ facts) r =
 abbrev pub is_word : List Fact → ℕ → Bool
 is_word facts r = is_word_by facts facts r
 
--- something is known of the register by what it holds itself
-abbrev pub is_own : List Fact → ℕ → Bool
-is_own [] r = false
-is_own (f ∷ facts) r = if nat_eq f.register r && reads r f.value then true else is_own facts r
-
--- a word is copied that was just made, or made of what the register held
-abbrev pub makes_word : List Fact → ℕ → Expression → Bool
-makes_word facts x (Same (At y)) = is_word facts y && not (is_own facts y)
-makes_word facts x (Same (Number n)) = stands n
-makes_word facts x (Operated (RegW op) a b) = names x a || names x b
-makes_word facts x e = false
-
-abbrev pub word_note : List Fact → ℕ → Expression → Option Fact
-word_note facts x e =
-    if makes_word facts x e then Some (record { register = x; value = word_of x }) else None
-
 -- what a line makes known besides what it computes
 abbrev pub noted : List Fact → Fact → Option Fact
-noted facts f =
-    first_of (linear_note facts f.register (canonical facts f.value))
-    (word_note facts f.register f.value)
+noted facts f = linear_note facts f.register (canonical facts f.value)
 
 abbrev pub other_by : List Fact → Line ℕ → Option Fact
 other_by facts l = option_and_then (noted facts) (computed l)

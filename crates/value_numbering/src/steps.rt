@@ -1,11 +1,11 @@
 //! Registers that grow by numbers, what is linear in them, and what is known behind a line.
 ghost use Rattle.std.specs.Prelude.{◌≡◌, ◌<◌, ◌+◌, ◌-◌, ◌*◌, ◌%◌, ◌^◌, ◌++◌, [], filter, OnOk, IfOk, Some, None, if◌then◌else◌, nat_eq, ◌&&◌};
-ghost use Rattle.value_numbering.specs.Known.{computed, canonical, reads, stays, first_of, kept_fact};
-ghost use Rattle.value_numbering.specs.Steps.{product_in, product, product_of, beyond, linear_in, linear_note, stands, word_in, is_word, is_word_by, is_own, word_of, makes_word, word_note, noted, added_to, ahead, growth, increment_of, further, behind, with_offset, moved_linear, moved, if_stays, with_front, carried, kept, with_fact, after};
+ghost use Rattle.value_numbering.specs.Known.{computed, canonical, stays, first_of, kept_fact};
+ghost use Rattle.value_numbering.specs.Steps.{product_in, product, product_of, beyond, linear_in, linear_note, stands, word_in, is_word, is_word_by, noted, added_to, ahead, growth, increment_of, further, behind, with_offset, moved_linear, moved, if_stays, with_front, carried, kept, with_fact, after};
 
-use crate::fact::{Expression, Fact, computed, names, reads, stays};
+use crate::fact::{Expression, Fact, computed, names, stays};
 use crate::known::{canonical, grows_in, kept_fact};
-use rv_isa::{RegOp, RegWOp};
+use rv_isa::RegOp;
 use std::alloc::{AllocError, Global};
 use vcode::{Line, Operand, Operation};
 
@@ -166,71 +166,12 @@ pub(crate) fn is_word(facts: &[Fact], register: u32) -> bool
     false
 }
 
-fn is_own_by(fact: Fact, register: u32) -> bool
-    ensures { result ≡ (nat_eq fact.register register && reads register fact.value) }
-{
-    fact.register == register && reads(register, fact.value)
-}
-
-/// Whether something is known of the register by what it holds itself.
-fn is_own(facts: &[Fact], register: u32) -> bool
-    ensures { result ≡ is_own facts.now register }
-{
-    for fact in facts {
-        if is_own_by(*fact, register) {
-            return true;
-        }
-    }
-    false
-}
-
-/// Whether a line with this value copies such a word that was just made, or makes one of what its register held.
-fn makes_word(facts: &[Fact], register: u32, value: Expression) -> bool
-    ensures { result ≡ makes_word facts.now register value }
-{
-    match value {
-        Expression::Same(Operand::At(from)) => is_word(facts, from) && !is_own(facts, from),
-        Expression::Same(Operand::Number(number)) => stands(number),
-        Expression::Operated(Operation::RegW(_), left, right) => {
-            names(register, left) || names(register, right)
-        }
-        _ => false,
-    }
-}
-
-/// The register's word, extended.
-fn word_of(register: u32) -> Expression
-    ensures { result ≡ word_of register }
-{
-    Expression::Operated(
-        Operation::RegW(RegWOp::Addw),
-        Operand::At(register),
-        Operand::Number(0),
-    )
-}
-
-fn word_note(facts: &[Fact], register: u32, value: Expression) -> Option<Fact>
-    ensures { result ≡ word_note facts.now register value }
-{
-    if makes_word(facts, register, value) {
-        Some(Fact {
-            register,
-            value: word_of(register),
-        })
-    } else {
-        None
-    }
-}
-
 /// What a line makes known besides what it computes, of which the value is given as one of registers that are no copies.
 fn noted(facts: &[Fact], fact: &Fact, value: &Expression) -> Option<Fact>
     requires { value.now ≡ canonical facts.now fact.now.value }
     ensures { result ≡ noted facts.now fact.now }
 {
-    match linear_note(facts, fact.register, *value) {
-        Some(note) => Some(note),
-        None => word_note(facts, fact.register, fact.value),
-    }
+    linear_note(facts, fact.register, *value)
 }
 
 /// The number that a value adds to the register.
