@@ -18,13 +18,23 @@ fn is_alloc(inst: &Inst) -> bool
 fn makes(insts: &[Lined<Inst>]) -> bool
     ensures { result ≡ makes insts.now }
 {
-    insts.iter().any(|inst| is_alloc(&inst.item))
+    for inst in insts {
+        if is_alloc(&inst.item) {
+            return true;
+        }
+    }
+    false
 }
 
 fn makes_any(blocks: &[Block]) -> bool
     ensures { result ≡ makes_any blocks.now }
 {
-    blocks.iter().any(|block| makes(block.insts.as_slice()))
+    for block in blocks {
+        if makes(block.insts.as_slice()) {
+            return true;
+        }
+    }
+    false
 }
 
 /// Whether the function has an `alloc`. One that has none is promoted as it is.

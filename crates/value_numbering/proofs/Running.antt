@@ -49,7 +49,7 @@ use Rattle.value_numbering.proofs.Counting.{number, nothing_more, whole_grows, i
 use Rattle.value_numbering.proofs.Narrowing.{narrow_same}
 use Rattle.value_numbering.specs.Extensions.{other_way}
 use Rattle.value_numbering.proofs.Extending.{itself_same, reloaded_same, gives_one}
-use Rattle.value_numbering.specs.Reused.{IsNarrow, is_sum, Adds, IsSum, InOrder, Turned, IsRegrouped, Holds, Found, Already, Counted, Made, Itself, Copy, Narrow, FirstRegrouped, SecondRegrouped, Halfway, Reloaded, Again, claims_at, order_of, before, next, is_least, is_most, at_least, at_most, order_met, order_missed, IsKnown, Listed, Bounded, Above, holds_word, is_limit, limits, bounds, exceeds, AllKnown, LeadsWell, AreReused, AllReused, IsHalfway}
+use Rattle.value_numbering.specs.Reused.{IsNarrow, is_sum, Adds, IsSum, InOrder, Turned, IsRegrouped, Holds, Found, Already, Counted, Made, Itself, Copy, Narrow, FirstRegrouped, SecondRegrouped, Halfway, Reloaded, Again, claims_at, order_of, before, next, is_least, is_most, at_least, at_most, order_met, order_missed, IsKnown, Listed, OfCopies, Bounded, Above, holds_word, is_limit, limits, bounds, exceeds, AllKnown, LeadsWell, AreReused, AllReused, IsHalfway}
 use Rattle.value_numbering.proofs.Regrouping.{turned as sum_turned, regrouped}
 use Rattle.value_numbering.proofs.Shifting.{less_back}
 use Rattle.il_ast.proofs.Truth.{equal_turned}
@@ -1201,6 +1201,8 @@ module _ (globals : List Value) (m : Memory) (values : Values ℕ) (marks : List
 
   is_true : (order : Option Order) (f : Fact) → Ordered globals values order → IsKnown marks facts order f → IsTrueOf globals m values f
   is_true order f holds (Listed is) = true_at globals m values facts is.0 f all is.1
+  is_true order f holds (OfCopies {r = r} {e = e} is) =
+      sym (canonical_same globals m values facts all e) ∙ true_at globals m values facts is.0 (record { register = r; value = canonical facts e }) all is.1
   is_true order f holds (Bounded {r = r} less word) = ap (λ (b : Bool). only_if b (values r)) (bounds_true order r holds less word)
   is_true order f holds (Above {r = r} more word) = ap (λ (b : Bool). only_if b (values r)) (exceeds_true order r holds more word)
 

@@ -197,10 +197,12 @@ abbrev pub exceeds : List Bool → List Fact → Option Order → ℕ → Bool
 exceeds marks facts (Some o) r = names r o.more && limits marks facts o.class o.less
 exceeds marks facts None r = false
 
--- the fact is known; or a word that stands extended is less than another, so that one more is the
--- same as a word and as a long, or more than another, so that one less is
+-- the fact is known, or it is known of registers that are no copies; or a word that stands extended
+-- is less than another, so that one more is the same as a word and as a long, or more than another,
+-- so that one less is
 pub data IsKnown (marks : List Bool) (facts : List Fact) (order : Option Order) : Fact → Type 0 where
   Listed : {f : Fact} → IsIn f facts → IsKnown marks facts order f
+  OfCopies : {r : ℕ} {e : Expression} → IsIn (record { register = r; value = canonical facts e }) facts → IsKnown marks facts order (record { register = r; value = e })
   Bounded : {r : ℕ} → bounds marks facts order r ≡ true → holds_word marks facts r ≡ true → IsKnown marks facts order (record { register = r; value = Growing (At r) 1 })
   Above : {r : ℕ} → exceeds marks facts order r ≡ true → holds_word marks facts r ≡ true → IsKnown marks facts order (record { register = r; value = Growing (At r) (2 ^ 64 - 1) })
 

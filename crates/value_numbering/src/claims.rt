@@ -2,7 +2,7 @@
 use crate::fact::{Expression, Fact, reads};
 use crate::lines::changed;
 use crate::steps::pass;
-use crate::ways::{Order, is_known, may_grow, may_shrink, order_met, order_missed};
+use crate::ways::{Order, is_known, is_linear, may_grow, may_shrink, order_met, order_missed};
 use cfg_live::uses::line_writes;
 use flow::graph::successor;
 use il_ast::{Few, Seq};
@@ -90,6 +90,32 @@ fn is_index(facts: &[Fact], register: u32) -> bool {
         Expression::Linear(_, Operand::At(index), _, _) => index == register,
         _ => false,
     })
+}
+
+/// What is linear in a register, as what is linear in a copy of that.
+fn of_copy(linear: &Fact, copy: &Fact) -> Option<Fact> {
+    match (linear.value, copy.value) {
+        (
+            Expression::Linear(base, Operand::At(index), factor, offset),
+            Expression::Same(Operand::At(from)),
+        ) if from == index => Some(Fact {
+            register: linear.register,
+            value: Expression::Linear(base, Operand::At(copy.register), factor, offset),
+        }),
+        _ => None,
+    }
+}
+
+fn claim_copies(known: &mut Vec<Fact>, facts: &[Fact], linear: &Fact) -> Result<(), AllocError> {
+    if !is_linear(linear.value) {
+        return Ok(());
+    }
+    for fact in facts {
+        if let Some(other) = of_copy(linear, fact) {
+            push_claim(known, other)?;
+        }
+    }
+    Ok(())
 }
 
 /// Of two words in order, the less one as one that may grow, and the other as one that may shrink, if something is linear in it.
@@ -214,7 +240,11 @@ fn first_claim(
 ) -> Result<Vec<Fact>, AllocError> {
     let mut known = Vec::with_capacity(alloc, facts.len().min(CLAIMS))?;
     claim_growing(&mut known, writing.marks, facts, order)?;
-    for wanted in 0..4 {
+    claim_rank(&mut known, writing, block, facts, 0)?;
+    for linear in facts {
+        claim_copies(&mut known, facts, linear)?;
+    }
+    for wanted in 1..4 {
         claim_rank(&mut known, writing, block, facts, wanted)?;
     }
     Ok(known)

@@ -2,12 +2,13 @@
 ghost use Rattle.std.specs.Prelude.{◌≡◌, ◌-◌, ◌^◌, ◌&&◌, ◌||◌, true, IfSome};
 ghost use Rattle.vcode.specs.declared.place.Operand.TheVariants.{At};
 ghost use Rattle.value_numbering.specs.declared.fact.Expression.TheVariants.{Growing};
-ghost use Rattle.value_numbering.specs.Known.{IsIn};
+ghost use Rattle.value_numbering.specs.Known.{canonical, IsIn};
 ghost use Rattle.sign_extensions.specs.Whole.{is_marked};
 ghost use Rattle.value_numbering.specs.Steps.{is_word};
 ghost use Rattle.value_numbering.specs.Reused.{order_of, before, next, is_least, is_most, at_least, at_most, order_met, order_missed, holds_word, is_limit, limits, bounds, exceeds, IsKnown, AllKnown};
 
 use crate::fact::{Expression, Fact, names};
+use crate::known::canonical;
 use crate::same::same_fact;
 use crate::steps::{is_word, stands};
 use il_ast::{Class, Condition};
@@ -131,6 +132,22 @@ fn is_listed(facts: &[Fact], wanted: &Fact) -> bool
     false
 }
 
+/// Whether the fact is known of registers that are no copies.
+fn is_of_copies(facts: &[Fact], wanted: &Fact) -> bool
+    ensures { result ≡ true → IsIn (record { register = wanted.now.register; value = canonical facts.now wanted.now.value }) facts.now }
+{
+    let copied = Fact {
+        register: wanted.register,
+        value: canonical(facts, wanted.value),
+    };
+    is_listed(facts, &copied)
+}
+
+/// Whether it is worth to look for it of registers that are no copies.
+pub(crate) fn is_linear(value: Expression) -> bool {
+    matches!(value, Expression::Linear(_, _, _, _))
+}
+
 /// Whether the register holds a word that stands extended: it never holds anything else by its mark, or it is known here.
 fn holds_word(marks: &[bool], facts: &[Fact], register: u32) -> bool
     ensures { result ≡ holds_word marks.now facts.now register }
@@ -248,6 +265,9 @@ pub(crate) fn is_known(marks: &[bool], facts: &[Fact], order: &Option<Order>, wa
 {
     if is_listed(facts, wanted) {
         return true;
+    }
+    if is_linear(wanted.value) {
+        return is_of_copies(facts, wanted);
     }
     if is_bounded(marks, facts, order, wanted) {
         return true;

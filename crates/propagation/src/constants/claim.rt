@@ -61,7 +61,12 @@ fn is_known(table: &FactTable, claim: &Claim) -> bool
 fn are_known(table: &FactTable, claims: &[Claim]) -> bool
     ensures { result ≡ true → AreKnown (facts_of table.now) claims.now }
 {
-    claims.iter().all(|claim| is_known(table, claim))
+    for claim in claims {
+        if !is_known(table, claim) {
+            return false;
+        }
+    }
+    true
 }
 
 /// Whether what is claimed of each block that the jump may lead to is known.
