@@ -2,14 +2,14 @@
 ghost use Rattle.std.specs.Prelude.{◌≡◌, ◌+◌, ◌≤◌, true, not, nat_le, length, IfSome};
 ghost use Rattle.std.specs.List.{list_all, list_any, sum_by};
 ghost use Rattle.il_ast.specs.declared.limits.TheConstants.{FUNCTION_WEIGHT};
-ghost use Rattle.vcode.specs.Prelude.{is_paid, operand_keeps, wanted_keeps, line_keeps, jump_keeps, block_keeps, keeps_places, are_distinct, IsRegular, is_target, leads_inside, is_alloc, allocs_first, alloc_bytes, passes_few, weight_of};
+ghost use Rattle.vcode.specs.Prelude.{is_paid, operand_keeps, wanted_keeps, made_keeps, line_keeps, jump_keeps, block_keeps, keeps_places, are_distinct, IsRegular, is_target, leads_inside, is_alloc, allocs_first, alloc_bytes, passes_few, weight_of};
 ghost use Rattle.step_by_step.specs.Function.{IsFunction, measured};
 
 use crate::code_text::rules::place::CodePlace;
 use il_ast::limits::{ALLOC_BYTES, ARGUMENTS, FUNCTION_WEIGHT};
 use vcode::cost::is_paid;
 use vcode::limits::PLACES;
-use vcode::{Block, Code, Destination, Jump, Line, Operand};
+use vcode::{Argument, Block, Code, Destination, Jump, Line, Operand};
 
 // ---- the places that it names
 
@@ -32,6 +32,21 @@ fn wanted<P: CodePlace>(count: u32, to: &Option<Destination<P>>) -> bool
     }
 }
 
+fn made<P: CodePlace>(count: u32, to: &Option<P>) -> bool
+    ensures { result ≡ made_keeps (P.exists count) to.now }
+{
+    match to {
+        Some(place) => place.exists(count),
+        None => true,
+    }
+}
+
+fn args<P: CodePlace>(count: u32, args: &[Argument<P>]) -> bool
+    ensures { result ≡ list_all (λ a. operand_keeps (P.exists count) a.value) args.now }
+{
+    args.iter().all(|arg| operand(count, &arg.value))
+}
+
 fn line<P: CodePlace>(count: u32, line: &Line<P>) -> bool
     ensures { result ≡ line_keeps (P.exists count) line.now }
 {
@@ -46,15 +61,13 @@ fn line<P: CodePlace>(count: u32, line: &Line<P>) -> bool
         } => to.exists(count) && operand(count, left) && operand(count, right),
         Line::Load { to, at, .. } => to.exists(count) && operand(count, &at.base),
         Line::Store { value, at, .. } => operand(count, value) && operand(count, &at.base),
-        Line::Alloc { to: None, .. } => true,
-        Line::Alloc { to: Some(to), .. } => to.exists(count),
+        Line::Alloc { to, .. } => made(count, to),
         Line::Blit { from, to, .. } => operand(count, from) && operand(count, to),
-        Line::Call { to, callee, args } => {
-            let passed = args.as_slice();
-            wanted(count, to)
-                && operand(count, callee)
-                && passed.iter().all(|arg| operand(count, &arg.value))
-        }
+        Line::Call {
+            to,
+            callee,
+            args: passed,
+        } => wanted(count, to) && operand(count, callee) && args(count, passed.as_slice()),
     }
 }
 
@@ -70,18 +83,34 @@ fn jump<P: CodePlace>(count: u32, jump: &Jump<P>) -> bool
     }
 }
 
+fn lines<P: CodePlace>(count: u32, lines: &[Line<P>]) -> bool
+    ensures { result ≡ list_all (line_keeps (P.exists count)) lines.now }
+{
+    lines.iter().all(|from| line(count, from))
+}
+
 fn block<P: CodePlace>(count: u32, block: &Block<P>) -> bool
     ensures { result ≡ block_keeps (P.exists count) block.now }
 {
-    block.lines.as_slice().iter().all(|from| line(count, from)) && jump(count, &block.jump)
+    lines(count, block.lines.as_slice()) && jump(count, &block.jump)
+}
+
+fn blocks<P: CodePlace>(count: u32, blocks: &[Block<P>]) -> bool
+    ensures { result ≡ list_all (block_keeps (P.exists count)) blocks.now }
+{
+    blocks.iter().all(|from| block(count, from))
+}
+
+fn params<P: CodePlace>(count: u32, params: &[Destination<P>]) -> bool
+    ensures { result ≡ list_all (λ d. P.exists count d.place) params.now }
+{
+    params.iter().all(|param| param.place.exists(count))
 }
 
 fn names_places<P: CodePlace>(count: u32, code: &Code<P>) -> bool
     ensures { result ≡ keeps_places (P.exists count) code.now }
 {
-    let params = code.params.as_slice();
-    let blocks = code.blocks.as_slice();
-    params.iter().all(|to| to.place.exists(count)) && blocks.iter().all(|it| block(count, it))
+    params(count, code.params.as_slice()) && blocks(count, code.blocks.as_slice())
 }
 
 // ---- its parameters
@@ -143,17 +172,29 @@ fn is_alloc<P: CodePlace>(line: &Line<P>) -> bool
     matches!(line, Line::Alloc { .. })
 }
 
+fn allocates<P: CodePlace>(lines: &[Line<P>]) -> bool
+    ensures { result ≡ list_any is_alloc lines.now }
+{
+    lines.iter().any(|line| is_alloc(line))
+}
+
 fn block_has_no_alloc<P: CodePlace>(block: &Block<P>) -> bool
     ensures { result ≡ not (list_any is_alloc block.now.lines) }
 {
-    !block.lines.as_slice().iter().any(|line| is_alloc(line))
+    !allocates(block.lines.as_slice())
+}
+
+fn blocks_have_no_alloc<P: CodePlace>(blocks: &[Block<P>]) -> bool
+    ensures { result ≡ list_all (λ b. not (list_any is_alloc b.lines)) blocks.now }
+{
+    blocks.iter().all(|block| block_has_no_alloc(block))
 }
 
 fn allocs_first<P: CodePlace>(blocks: &[Block<P>]) -> bool
     ensures { result ≡ allocs_first blocks.now }
 {
     match blocks.split_first() {
-        Some((_, rest)) => rest.iter().all(|block| block_has_no_alloc(block)),
+        Some((_, rest)) => blocks_have_no_alloc(rest),
         None => true,
     }
 }
