@@ -67,27 +67,58 @@ fn push_once(text: &mut TextMaker, part: &str, numbers: Numbers) {
     }
 }
 
+/// What is done with a number and the next one.
+#[derive(Clone, Copy)]
+enum Operation {
+    Add,
+    Subtract,
+    Multiply,
+    Divide,
+    Remain,
+    Least,
+}
+
+/// The operation of a word, if it is one's.
+fn operation_of(word: &str) -> Option<Operation> {
+    match word {
+        "+" => Some(Operation::Add),
+        "-" => Some(Operation::Subtract),
+        "x" => Some(Operation::Multiply),
+        "/" => Some(Operation::Divide),
+        "%" => Some(Operation::Remain),
+        "min" => Some(Operation::Least),
+        _ => None,
+    }
+}
+
+/// The number of a word.
+fn number_of(word: &str, numbers: Numbers) -> u64 {
+    match word {
+        "N" => numbers.size,
+        "m" => numbers.outer,
+        "n" => numbers.inner,
+        digits => digits.parse::<u64>().unwrap_or(0),
+    }
+}
+
 /// The number that is worked out by words, from the left to the right.
 fn value(words: &str, numbers: Numbers) -> u64 {
     let mut value = 0u64;
-    let mut operation = "+";
+    let mut operation = Operation::Add;
     for word in words.split(' ') {
-        let number = match word {
-            "N" => numbers.size,
-            "m" => numbers.outer,
-            "n" => numbers.inner,
-            digits => digits.parse::<u64>().unwrap_or(0),
-        };
+        if let Some(next) = operation_of(word) {
+            operation = next;
+            continue;
+        }
+        let number = number_of(word, numbers);
         value = match operation {
-            "+" => value.wrapping_add(number),
-            "-" => value.saturating_sub(number),
-            "x" => value.wrapping_mul(number),
-            "/" => value.checked_div(number).unwrap_or(0),
-            "%" => value.checked_rem(number).unwrap_or(0),
-            "min" => value.min(number),
-            _ => value,
+            Operation::Add => value.wrapping_add(number),
+            Operation::Subtract => value.saturating_sub(number),
+            Operation::Multiply => value.wrapping_mul(number),
+            Operation::Divide => value.checked_div(number).unwrap_or(0),
+            Operation::Remain => value.checked_rem(number).unwrap_or(0),
+            Operation::Least => value.min(number),
         };
-        operation = word;
     }
     value
 }
