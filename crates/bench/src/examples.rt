@@ -9,6 +9,25 @@ use std::alloc::{AllocError, Global};
 use std::rt::Files;
 use std::{fs, io};
 
+/// The texts of each program that ends, and its argument words.
+pub const EXAMPLES: [(&str, &str); 15] = [
+    ("hello", ""),
+    ("status", ""),
+    ("sum", ""),
+    ("fibonacci", ""),
+    ("gcd", ""),
+    ("primes", ""),
+    ("factorial", ""),
+    ("queens", ""),
+    ("crc32", ""),
+    ("sort", ""),
+    ("life", ""),
+    ("machine", ""),
+    ("echo", "one two three"),
+    ("calculator", "2 3 + 4 x"),
+    ("stack stack_use", ""),
+];
+
 /// What is run: the executable file, or the texts by the interpreter.
 #[derive(Clone, Copy)]
 enum Run<'x> {

@@ -1,11 +1,8 @@
 //! How fast sets of bits and live registers are.
+use crate::graphs::{REGISTERS, Shape, graph_of};
 use bitset::BitSet;
 use cfg_live::live::live_in;
 use std::alloc::{AllocError, Global};
-use step_by_step::graphs::graph;
-
-/// How many registers there are.
-const REGISTERS: u32 = 4000;
 
 /// Joins sets of numbers below a length, and counts the joins that let one grow.
 pub fn joins(alloc: Global, length: usize) -> Result<usize, AllocError> {
@@ -23,9 +20,13 @@ pub fn joins(alloc: Global, length: usize) -> Result<usize, AllocError> {
     Ok(grew)
 }
 
-/// How many registers are live at the first point of the graph of a text, if it is that of one.
-pub fn live_at_first(alloc: Global, text: &str) -> Option<usize> {
-    let live = live_in(alloc, &graph(alloc, text)?, REGISTERS).ok()?;
-    let registers = (0..REGISTERS).filter(|register| live.holds(0, *register));
-    Some(registers.count())
+/// How many registers are live at the first point of the text.
+pub fn live_at_first(alloc: Global, shape: Shape, blocks: u32) -> Result<usize, AllocError> {
+    let graph = graph_of(alloc, shape, blocks)?;
+    let live = live_in(alloc, &graph, REGISTERS)?;
+    Ok(
+        (0..REGISTERS)
+            .filter(|register| live.holds(0, *register))
+            .count(),
+    )
 }

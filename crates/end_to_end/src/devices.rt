@@ -9,8 +9,7 @@ use elf_file::{LoadError, write_image};
 use obj_link::Image;
 use shell::{FileFault, MemorySink};
 use std::alloc::{AllocError, Global};
-use std::rt::Files;
-use std::{fs, io, str};
+use std::str;
 use test_report::report::Report;
 
 /// Puts out `Hi` and a line end, and halts.
@@ -18,6 +17,49 @@ const HALTS: &str =
     "data $m = { b \"Hi\\n\" }\nexport function w $main() {\n@s\n%r =l call $write(w 1, l $m, l 3)\nhlt\n}\n";
 
 const SEVEN: &str = "export function w $main() {\n@s\nret 7\n}\n";
+
+/// Words, and the status and line that they give where a file or a device fails.
+const ON_A_DEVICE: [(&str, &str); 9] = [
+    ("build -o out seven broken", "126 qbec: cannot read broken"),
+    ("build -o out absent broken", "126 qbec: cannot read absent"),
+    ("build -o broken seven", "126 qbec: cannot write broken"),
+    ("run broken", "126 qbec: cannot read broken"),
+    ("run absent", "126 qbec: cannot read absent"),
+    ("interp broken", "126 qbec: cannot read broken"),
+    ("dis broken", "126 qbec: cannot read broken"),
+    ("symbols -o out absent", "126 qbec: cannot read absent"),
+    ("symbols -o broken seven", "126 qbec: cannot write broken"),
+];
+
+/// The same where memory is refused for the file.
+const ON_MEMORY: [(&str, &str); 6] = [
+    ("build -o out seven broken", "126 qbec: memory"),
+    ("build -o broken seven", "126 qbec: memory"),
+    ("run broken", "126 qbec: memory"),
+    ("interp broken", "126 qbec: memory"),
+    ("dis broken", "126 qbec: memory"),
+    ("symbols -o broken seven", "126 qbec: memory"),
+];
+
+/// Words whose output is tried.
+const OUTPUTS: [&str; 6] = [
+    "interp halts",
+    "run made",
+    "dis made",
+    "symbols -o out seven",
+    "--help",
+    "build --help",
+];
+
+/// Words whose messages are tried.
+const MESSAGES: [&str; 6] = [
+    "interp halts",
+    "run made",
+    "run absent",
+    "interp seven",
+    "go",
+    "run",
+];
 
 /// A word that is no instruction.
 const FAULTS: [u32; 1] = [0];
@@ -45,16 +87,21 @@ pub fn disk_of(alloc: Global) -> Result<BrokenDisk, AllocError> {
     Ok(disk)
 }
 
-// A row is words, and behind a colon the line that they give where the file `broken` meets this fault.
-fn check_disk(row: &str, fault: FileFault, report: &mut Report) -> Result<(), AllocError> {
-    let (words, wanted) = row.split_once(": ").unwrap_or((row, ""));
-    begin(report, format_args!("{words} where the fault is {fault}"))?;
-    let mut disk = disk_of(report.alloc)?;
-    disk.fault = fault;
-    let before = disk.kept();
-    let line = line_of_words(report.alloc, &mut disk, words)?;
-    report.compare("line", wanted, line.as_str())?;
-    report.holds("no file is written", disk.kept() == before)
+fn check_disks(
+    rows: &[(&str, &str)],
+    fault: FileFault,
+    report: &mut Report,
+) -> Result<(), AllocError> {
+    for (words, wanted) in rows {
+        begin(report, format_args!("{words} where the fault is {fault}"))?;
+        let mut disk = disk_of(report.alloc)?;
+        disk.fault = fault;
+        let before = disk.kept();
+        let line = line_of_words(report.alloc, &mut disk, *words)?;
+        report.compare("line", *wanted, line.as_str())?;
+        report.holds("no file is written", disk.kept() == before)?;
+    }
+    Ok(())
 }
 
 // What the words do on a disk of their own, with streams that take so many bytes a call, and fail at that call, or never where that is 0.
@@ -154,35 +201,23 @@ fn check_failure(
     report.compare("line", wanted, said.as_str())
 }
 
-fn check_row(row: &str, report: &mut Report) -> Result<(), AllocError> {
-    match row.split_once(' ') {
-        Some(("//", _)) => Ok(()),
-        Some(("device", row)) => check_disk(row, FileFault::Device, report),
-        Some(("memory", row)) => check_disk(row, FileFault::Memory, report),
-        Some(("output", words)) => {
-            check_outputs(words, report)?;
-            check_closed(words, report)
-        }
-        Some(("message", words)) => check_message(words, report),
-        _ => {
-            report.begin("devices")?;
-            report.fail("read", "a case", row)
-        }
-    }
-}
-
 /// Checks what becomes of commands where files, streams and memory fail.
-///
-/// A line of `devices.cases` is `device` or `memory`, words, and what they give where a file fails so; or `output` or `message`, and words whose output or message is tried.
-pub fn check<R: Files + AllocGlobal>(rt: &R, report: &mut Report) -> io::Result<()> {
-    let bytes = fs::read(rt, "devices.cases")?;
-    for row in str::from_utf8(bytes.as_slice()).unwrap_or("").lines() {
-        check_row(row, report)?;
+pub fn check(report: &mut Report) -> Result<(), AllocError> {
+    check_disks(&ON_A_DEVICE, FileFault::Device, report)?;
+    check_disks(&ON_MEMORY, FileFault::Memory, report)?;
+    for words in OUTPUTS {
+        check_outputs(words, report)?;
+        check_closed(words, report)?;
     }
-    let refused = Failure::Refused(Refusal::Memory);
-    check_failure(refused, "126 qbec: refused E7\n", report)?;
+    for words in MESSAGES {
+        check_message(words, report)?;
+    }
+    check_failure(
+        Failure::Refused(Refusal::Memory),
+        "126 qbec: refused E7\n",
+        report,
+    )?;
     let file = Failure::Refused(Refusal::File(LoadError::Memory));
     check_failure(file, "126 qbec: refused L6\n", report)?;
-    check_failure(Failure::Memory, "126 qbec: memory\n", report)?;
-    Ok(())
+    check_failure(Failure::Memory, "126 qbec: memory\n", report)
 }

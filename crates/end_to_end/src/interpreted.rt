@@ -32,6 +32,13 @@ pub fn refusal_told(alloc: Global, error: CompileError) -> Result<String, AllocE
     }
 }
 
+fn refused(alloc: Global, error: CompileError) -> Result<Told, AllocError> {
+    Ok(Told {
+        end: refusal_told(alloc, error)?,
+        output: Vec::new(alloc),
+    })
+}
+
 /// How the program of the texts ends within so many turns, or why they are none.
 pub fn interpreted(
     alloc: Global,
@@ -41,20 +48,20 @@ pub fn interpreted(
 ) -> Result<Told, AllocError> {
     let checked = match checked_texts(alloc, texts) {
         Ok(checked) => checked,
-        Err(error) => return Told::unrun(alloc, refusal_told(alloc, error)?.as_str()),
+        Err(error) => return refused(alloc, error),
     };
     let linked = match resolve(alloc, checked.as_slice()) {
         Ok(linked) => linked,
-        Err(error) => {
-            let refusal = link_refusal(alloc, error);
-            return Told::unrun(alloc, refusal_told(alloc, refusal)?.as_str());
-        }
+        Err(error) => return refused(alloc, link_refusal(alloc, error)),
     };
     match interpret(alloc, &linked, words, turns) {
         Ok((output, end)) => Ok(Told {
             end: end_told(alloc, end)?,
             output,
         }),
-        Err(error) => Told::unrun(alloc, format!(in alloc; "{error}")?.as_str()),
+        Err(error) => Ok(Told {
+            end: format!(in alloc; "{error}")?,
+            output: Vec::new(alloc),
+        }),
     }
 }

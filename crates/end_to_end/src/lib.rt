@@ -2,8 +2,8 @@
 //!
 //! By the interpreter, compiled with every kind of strategy and run over both kinds of memory, and by the commands.
 //!
-//! The programs stand in `programs.cases`, with what is known of each from outside; `files.cases` has changes of an executable file, with their refusals, `lines.cases`
-//! what is shown for words of the command line, and `devices.cases` words that are tried where files and streams fail: in the folder where the program that asks for them runs, which is `crates/bench`, whose `data` holds them.
+//! The programs stand in `programs.cases`, with what is known of each from outside; `files.cases` has changes of an executable file, with their refusals, and `lines.cases`
+//! what is shown for words of the command line: in the folder where the program that asks for them runs, which is `crates/bench`, whose `data` holds them.
 //! [`programs_told`] says how each came out. Further programs are made by a rule or at random (`texts`).
 #![tactic(auto)]
 
@@ -26,7 +26,7 @@ mod strategies;
 mod table;
 pub mod texts;
 mod told;
-pub mod watched;
+mod watched;
 
 use crate::case::Case;
 use crate::table::CaseTable;
@@ -97,10 +97,10 @@ fn check_group<R: Files + AllocGlobal>(
         "lines" => lines::check(rt, report)?,
         "strategies" => hostile::check(cases, report)?,
         "prefixes" => prefixes::check(cases, report)?,
-        "devices" => devices::check(rt, report)?,
+        "devices" => devices::check(report)?,
         "sizes" => sizes::check(report)?,
-        "random" => random::check(false, asked.count.unwrap_or(RANDOM), asked.seed, report)?,
-        _ => random::check(true, asked.count.unwrap_or(SMALL), asked.seed, report)?,
+        "random" => random::check(asked.count.unwrap_or(RANDOM), asked.seed, report)?,
+        _ => random::check_small(asked.count.unwrap_or(SMALL), asked.seed, report)?,
     }
     Ok(())
 }

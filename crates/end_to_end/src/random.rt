@@ -101,17 +101,22 @@ fn check_text(text: &[u8], report: &mut Report) -> Result<(), AllocError> {
     check_program(&program, report)
 }
 
-/// Checks so many random programs, from this seed on: some of many small functions, or others.
-pub fn check(is_small: bool, count: u64, seed: u64, report: &mut Report) -> Result<(), AllocError> {
+/// Checks so many random programs, from this seed on.
+pub fn check(count: u64, seed: u64, report: &mut Report) -> Result<(), AllocError> {
     for number in 0..count {
         let seed = seed.wrapping_add(number);
         begin(report, format_args!("random program of seed {seed}"))?;
-        let text = if is_small {
-            small_functions(report.alloc, seed)?
-        } else {
-            random_text(report.alloc, seed)?
-        };
-        check_text(text.as_bytes(), report)?;
+        check_text(random_text(report.alloc, seed)?.as_bytes(), report)?;
+    }
+    Ok(())
+}
+
+/// Checks so many random programs of many small functions, from this seed on.
+pub fn check_small(count: u64, seed: u64, report: &mut Report) -> Result<(), AllocError> {
+    for number in 0..count {
+        let seed = seed.wrapping_add(number);
+        begin(report, format_args!("small functions of seed {seed}"))?;
+        check_text(small_functions(report.alloc, seed)?.as_bytes(), report)?;
     }
     Ok(())
 }

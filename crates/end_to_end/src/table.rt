@@ -8,8 +8,7 @@
 //! | `case NAME` | a case begins |
 //! | `file PATH` | a text of it: the bytes of this file |
 //! | `text`, `main` | a text: the lines up to one that is a dot; of `main` the lines of the function `main` after its first label |
-//! | `made RULE N` | a text of this size by the rule of the file `made/RULE` |
-//! | `empty N` | N empty texts |
+//! | `made WORD N` | texts made by a rule |
 //! | `words W W ..`, `many N W`, `long N`, `zero` | argument words: these; N times W; one of N letters; one with a byte 0 |
 //! | `end END` | the end: `exit N`, `halt`, `limit`, `undefined`, `stack`, or a refusal as its line has it |
 //! | `output HEX`, `prints`, `zeros N` | the output: in hexadecimal; the lines up to one that is a dot; N bytes 0 |
@@ -18,7 +17,7 @@
 //! | `registers N` | at least so often linear scan names a register of the machine for a line or a jump |
 //! | `tried`, `differs`, `cut`, `large` | strategies of every kind are tried; the bytes by both strategies differ; linear scan moves a value; it is compiled once |
 use crate::case::Case;
-use crate::texts::made::made;
+use crate::texts::made::push_made;
 use std::alloc::{AllocError, Global};
 use std::rt::Files;
 use std::{fs, io, str};
@@ -70,14 +69,6 @@ impl CaseTable {
             "file" => {
                 let bytes = fs::read(rt, rest)?;
                 self.end(Lines::Text, bytes)?
-            }
-            "made" => {
-                let (rule, size) = rest.split_once(' ').unwrap_or((rest, "0"));
-                let path = format!(in self.alloc; "made/{rule}")?;
-                let bytes = fs::read(rt, path.as_str())?;
-                let rule = str::from_utf8(bytes.as_slice()).unwrap_or("");
-                let text = made(self.alloc, rule, number(size))?;
-                self.end(Lines::Text, text.into_bytes())?
             }
             "text" => self.begin(Lines::Text, "")?,
             "main" => self.begin(Lines::Main, "export function w $main() {\n@s\n")?,
@@ -150,10 +141,9 @@ fn take_of(alloc: Global, case: &mut Case, key: &str, rest: &str) -> Result<(), 
         return Ok(());
     }
     match key {
-        "empty" => {
-            for _ in 0..number(rest) {
-                case.texts.push(Vec::new(alloc))?;
-            }
+        "made" => {
+            let (word, count) = rest.split_once(' ').unwrap_or((rest, "0"));
+            push_made(alloc, &mut case.texts, word, number(count))?
         }
         "words" => {
             for word in rest.split(' ') {

@@ -1,9 +1,13 @@
 //! The body of a random function. All its temporaries are assigned and all bytes of its blocks written before anything else, divisors are odd and small, places
 //! lie inside their blocks, and loops are counted: so all of it has a meaning.
-use crate::texts::random_text::{
-    CLASSES, OPERATIONS, Random, SHIFTS, Signature, push_arguments, push_binary, push_division,
-};
+use crate::texts::random_text::{Random, Signature, Value};
 use text_maker::{TextMaker, say};
+
+const BOTH: [&str; 6] = ["add", "sub", "mul", "and", "or", "xor"];
+
+const DIVISIONS: [&str; 4] = ["div", "rem", "udiv", "urem"];
+
+const SHIFTS: [&str; 3] = ["shl", "shr", "sar"];
 
 const ORDERS: [&str; 10] = [
     "eq", "ne", "sle", "slt", "sge", "sgt", "ule", "ult", "uge", "ugt",
@@ -24,23 +28,57 @@ const BASES: [&str; 3] = ["%b0", "%b1", "$d"];
 
 const BLITS: [&str; 5] = ["%b0, %b1", "%b1, %b0", "$d, %b0", "%b1, $d", "%b0, %b0"];
 
+const CLASSES: [&str; 2] = ["w", "l"];
+
 /// How many temporaries of each class there are.
-pub const COUNT: u64 = 8;
+const COUNT: u64 = 8;
+
+fn temporary<'a>(random: &mut Random, class: &'a str) -> Value<'a> {
+    Value::Temporary(class, random.below(COUNT))
+}
+
+// A temporary of a class, or a number.
+fn value<'a>(random: &mut Random, class: &'a str) -> Value<'a> {
+    if random.below(5) == 0 {
+        let number = random.next();
+        let number = number >> (random.below(56) % 56);
+        let sign = if random.below(2) == 0 { "" } else { "-" };
+        return Value::Number(sign, number);
+    }
+    temporary(random, class)
+}
+
+// An operation of one of these words on values of these classes, which has a result of the first.
+fn push_binary(text: &mut TextMaker, random: &mut Random, words: &[&str], left: &str, right: &str) {
+    let to = temporary(random, left);
+    let word = random.one_of(words);
+    let (one, other) = (value(random, left), value(random, right));
+    say!(text; "\t{to} ={left} {word} {one}, {other}\n");
+}
+
+// A quotient or remainder by an odd number below 128.
+fn push_division(text: &mut TextMaker, random: &mut Random, class: &str) {
+    say!(text; "\t%{class}d ={class} and {}, 126\n", temporary(random, class));
+    say!(text; "\t%{class}d ={class} add %{class}d, 1\n");
+    let to = temporary(random, class);
+    let word = random.one_of(&DIVISIONS);
+    say!(text; "\t{to} ={class} {word} {}, %{class}d\n", value(random, class));
+}
 
 fn push_comparison(text: &mut TextMaker, random: &mut Random) {
     let class = random.one_of(&CLASSES);
-    let to = random.temporary(class);
+    let to = temporary(random, class);
     let order = random.one_of(&ORDERS);
     let of = random.one_of(&CLASSES);
-    let (one, other) = (random.value(of), random.value(of));
+    let (one, other) = (value(random, of), value(random, of));
     say!(text; "\t{to} ={class} c{order}{of} {one}, {other}\n");
 }
 
 // An operation of one of these words on a value of a class.
 fn push_unary(text: &mut TextMaker, random: &mut Random, class: &str, words: &[&str], of: &str) {
-    let to = random.temporary(class);
+    let to = temporary(random, class);
     let word = random.one_of(words);
-    say!(text; "\t{to} ={class} {word} {}\n", random.value(of));
+    say!(text; "\t{to} ={class} {word} {}\n", value(random, of));
 }
 
 fn push_one(text: &mut TextMaker, random: &mut Random) {
@@ -54,19 +92,19 @@ fn push_one(text: &mut TextMaker, random: &mut Random) {
 
 // A load or a store, by a pointer to eight bytes of a block or of the datum, by what a temporary holds.
 fn push_memory(text: &mut TextMaker, random: &mut Random) {
-    say!(text; "\t%o =l and {}, 56\n", random.temporary("l"));
+    say!(text; "\t%o =l and {}, 56\n", temporary(random, "l"));
     say!(text; "\t%a =l add {}, %o\n", random.one_of(&BASES));
     match random.below(4) {
-        0 => say!(text; "\t{} =l loadl %a\n", random.temporary("l")),
-        1 => say!(text; "\tstorel {}, %a\n", random.value("l")),
+        0 => say!(text; "\t{} =l loadl %a\n", temporary(random, "l")),
+        1 => say!(text; "\tstorel {}, %a\n", value(random, "l")),
         2 => {
             let class = random.one_of(&CLASSES);
-            let to = random.temporary(class);
+            let to = temporary(random, class);
             say!(text; "\t{to} ={class} {} %a\n", random.one_of(&LOADS));
         }
         _ => {
             let word = random.one_of(&STORES);
-            say!(text; "\t{word} {}, %a\n", random.value("w"));
+            say!(text; "\t{word} {}, %a\n", value(random, "w"));
         }
     }
 }
@@ -79,22 +117,22 @@ fn push_call(text: &mut TextMaker, random: &mut Random, known: &[Signature]) {
     };
     let (number, class) = (callee.number, callee.result);
     let is_by_pointer = random.below(3) == 0;
-    let to = random.temporary(class);
+    let to = temporary(random, class);
     if is_by_pointer {
         say!(text; "\t%g =l copy $f{number}\n\t{to} ={class} call %g(");
     } else {
         say!(text; "\t{to} ={class} call $f{number}(");
     }
-    push_arguments(text, random, callee);
+    for class in &callee.params {
+        say!(text; "{class} {}, ", value(random, *class));
+    }
+    text.add(")\n");
 }
 
 fn push_instruction(text: &mut TextMaker, random: &mut Random, known: &[Signature]) {
     let class = random.one_of(&CLASSES);
     match random.below(12) {
-        0 => {
-            let value = random.temporary(class);
-            push_division(text, random, class, value)
-        }
+        0 => push_division(text, random, class),
         1 => push_comparison(text, random),
         2 => push_one(text, random),
         3 | 4 => push_memory(text, random),
@@ -104,7 +142,7 @@ fn push_instruction(text: &mut TextMaker, random: &mut Random, known: &[Signatur
         }
         6 => push_call(text, random, known),
         7 => push_binary(text, random, &SHIFTS, class, "w"),
-        _ => push_binary(text, random, &OPERATIONS, class, class),
+        _ => push_binary(text, random, &BOTH, class, class),
     }
 }
 

@@ -1,47 +1,21 @@
 //! The text of a random program: functions, a datum, and `main`.
-use crate::texts::random_body::{COUNT, push_body};
+use crate::texts::random_body::push_body;
 use std::alloc::{AllocError, Global};
 use std::fmt;
 use text_maker::{TextMaker, say};
-
-pub(crate) const CLASSES: [&str; 2] = ["w", "l"];
-
-pub(crate) const OPERATIONS: [&str; 6] = ["add", "sub", "mul", "and", "or", "xor"];
-
-pub(crate) const SHIFTS: [&str; 3] = ["shl", "shr", "sar"];
-
-const DIVISIONS: [&str; 4] = ["div", "rem", "udiv", "urem"];
-
-/// The numbers of small functions.
-pub(crate) const NUMBERS: [&str; 8] = [
-    "0",
-    "1",
-    "-1",
-    "77",
-    "-2048",
-    "2147483648",
-    "4294967295",
-    "-6442450945",
-];
 
 /// A sequence of numbers that looks random (xorshift).
 #[derive(Drop)]
 pub struct Random {
     state: u64,
-    /// how many temporaries of each class a function has
-    count: u64,
-    /// whether functions are small
-    is_small: bool,
 }
 
 impl Random {
     /// The sequence of a seed.
-    pub fn new(seed: u64, count: u64, is_small: bool) -> Random {
+    pub fn new(seed: u64) -> Random {
         let state = seed.wrapping_mul(0x9e37_79b9_7f4a_7c15) ^ 0x2545_f491_4f6c_dd1d;
         Random {
             state: if state == 0 { 1 } else { state },
-            count,
-            is_small,
         }
     }
 
@@ -64,25 +38,6 @@ impl Random {
     pub fn one_of<'a>(&mut self, words: &[&'a str]) -> &'a str {
         let at = self.below(words.len() as u64) as usize;
         words.get(at).copied().unwrap_or("")
-    }
-
-    pub fn temporary<'a>(&mut self, class: &'a str) -> Value<'a> {
-        let count = self.count;
-        Value::Temporary(class, self.below(count))
-    }
-
-    /// A temporary that fits a place of this class, which a long does in each, or a number.
-    pub fn value<'a>(&mut self, class: &'a str) -> Value<'a> {
-        match self.below(5) {
-            0 if self.is_small => Value::Word(self.one_of(&NUMBERS)),
-            0 => {
-                let number = self.next();
-                let number = number >> (self.below(56) % 56);
-                Value::Number(self.one_of(&["", "-"]), number)
-            }
-            1 if self.is_small => self.temporary("l"),
-            _ => self.temporary(class),
-        }
     }
 }
 
@@ -122,11 +77,11 @@ pub(crate) fn random_signature(
 ) -> Result<Signature, AllocError> {
     let mut params = Vec::new(alloc);
     for _ in 0..random.below(11) {
-        params.push(random.one_of(&CLASSES))?;
+        params.push(random.one_of(&["w", "l"]))?;
     }
     Ok(Signature {
         number,
-        result: random.one_of(&CLASSES),
+        result: random.one_of(&["w", "l"]),
         params,
     })
 }
@@ -140,53 +95,21 @@ pub(crate) fn push_head(text: &mut TextMaker, own: &Signature) {
     text.add(") {\n@start\n");
 }
 
-/// Adds an operation of one of these words on values of these classes, which has a result of the first.
-pub(crate) fn push_binary(
-    text: &mut TextMaker,
-    random: &mut Random,
-    words: &[&str],
-    left: &str,
-    right: &str,
-) {
-    let to = random.temporary(left);
-    let word = random.one_of(words);
-    let (one, other) = (random.value(left), random.value(right));
-    say!(text; "\t{to} ={left} {word} {one}, {other}\n");
-}
-
-/// Adds a quotient or remainder by an odd number below 128, made of a value.
-pub(crate) fn push_division(
-    text: &mut TextMaker,
-    random: &mut Random,
-    class: &str,
-    value: Value<'_>,
-) {
-    say!(text; "\t%{class}d ={class} and {value}, 126\n");
-    say!(text; "\t%{class}d ={class} add %{class}d, 1\n");
-    let to = random.temporary(class);
-    let word = random.one_of(&DIVISIONS);
-    say!(text; "\t{to} ={class} {word} {}, %{class}d\n", random.value(class));
-}
-
-/// Adds the arguments of a call.
-pub(crate) fn push_arguments(text: &mut TextMaker, random: &mut Random, callee: &Signature) {
-    for class in &callee.params {
-        say!(text; "{class} {}, ", random.value(*class));
-    }
-    text.add(")\n");
-}
-
 /// A program that ends, whatever the numbers are.
 pub fn random_text(alloc: Global, seed: u64) -> Result<String, AllocError> {
-    let mut random = Random::new(seed, COUNT, false);
+    let mut random = Random::new(seed);
     let mut text = TextMaker::new(alloc);
     text.add("data $d = align 16 { l 1 2 3 4 5 6 7 -8 }\n");
     let mut known = Vec::new(alloc);
     for number in 0..random.below(4) {
         let own = random_signature(alloc, &mut random, number)?;
         push_head(&mut text, &own);
-        let params = own.params.as_slice();
-        push_body(&mut text, &mut random, known.as_slice(), params);
+        push_body(
+            &mut text,
+            &mut random,
+            known.as_slice(),
+            own.params.as_slice(),
+        );
         say!(text; "\tret %{}0\n}}\n", own.result);
         known.push(own)?;
     }

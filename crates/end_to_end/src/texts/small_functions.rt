@@ -1,10 +1,7 @@
 //! Random programs of many small functions. What is called is small, and calls stand in loops: so most calls of leaves can be done in place. Half of the leaves make
 //! calls themselves, of leaves before them, by name and by pointer, and of `write`. As in other random programs, all temporaries are assigned before anything else,
 //! divisors are odd and small, places lie inside the datum, and loops are counted.
-use crate::texts::random_text::{
-    CLASSES, NUMBERS, OPERATIONS, Random, SHIFTS, Signature, push_arguments, push_binary,
-    push_division, push_head, random_signature,
-};
+use crate::texts::random_text::{Random, Signature, Value, push_head, random_signature};
 use std::alloc::{AllocError, Global};
 use text_maker::{TextMaker, say};
 
@@ -22,52 +19,103 @@ const INNER: u64 = 9;
 /// How many temporaries of each class a function has.
 const COUNT: u64 = 3;
 
+const CLASSES: [&str; 2] = ["w", "l"];
+
+const OPERATIONS: [&str; 6] = ["add", "sub", "mul", "and", "or", "xor"];
+
+const SHIFTS: [&str; 3] = ["shl", "shr", "sar"];
+
+const DIVISIONS: [&str; 4] = ["div", "rem", "udiv", "urem"];
+
 const ORDERS: [&str; 6] = ["eq", "ne", "slt", "sge", "ule", "ugt"];
 
 const EXTENSIONS: [&str; 6] = ["extsw", "extuw", "extsh", "extuh", "extsb", "extub"];
 
+const NUMBERS: [&str; 8] = [
+    "0",
+    "1",
+    "-1",
+    "77",
+    "-2048",
+    "2147483648",
+    "4294967295",
+    "-6442450945",
+];
+
+fn temporary<'a>(random: &mut Random, class: &'a str) -> Value<'a> {
+    Value::Temporary(class, random.below(COUNT))
+}
+
+// A temporary that fits a place of this class, which a long does in each, or a number.
+fn value<'a>(random: &mut Random, class: &'a str) -> Value<'a> {
+    match random.below(5) {
+        0 => Value::Word(random.one_of(&NUMBERS)),
+        1 => temporary(random, "l"),
+        _ => temporary(random, class),
+    }
+}
+
+// An operation of one of these words on values of these classes, which has a result of the first.
+fn push_operation(
+    text: &mut TextMaker,
+    random: &mut Random,
+    words: &[&str],
+    left: &str,
+    right: &str,
+) {
+    let to = temporary(random, left);
+    let word = random.one_of(words);
+    let (one, other) = (value(random, left), value(random, right));
+    say!(text; "{to} ={left} {word} {one}, {other}\n");
+}
+
+fn push_division(text: &mut TextMaker, random: &mut Random, class: &str) {
+    say!(text; "%{class}d ={class} and {}, 62\n", value(random, class));
+    say!(text; "%{class}d ={class} add %{class}d, 1\n");
+    let to = temporary(random, class);
+    let word = random.one_of(&DIVISIONS);
+    say!(text; "{to} ={class} {word} {}, %{class}d\n", value(random, class));
+}
+
 fn push_comparison(text: &mut TextMaker, random: &mut Random, class: &str) {
     let of = random.one_of(&CLASSES);
-    let to = random.temporary(class);
+    let to = temporary(random, class);
     let order = random.one_of(&ORDERS);
-    let (one, other) = (random.value(of), random.value(of));
+    let (one, other) = (value(random, of), value(random, of));
     say!(text; "{to} ={class} c{order}{of} {one}, {other}\n");
 }
 
 fn push_extension(text: &mut TextMaker, random: &mut Random) {
-    let to = random.temporary("l");
+    let to = temporary(random, "l");
     let word = random.one_of(&EXTENSIONS);
-    say!(text; "{to} =l {word} {}\n", random.value("w"));
+    say!(text; "{to} =l {word} {}\n", value(random, "w"));
 }
 
 // A load or a store of eight bytes of the datum.
 fn push_access(text: &mut TextMaker, random: &mut Random) {
-    say!(text; "%a =l and {}, 56\n%a =l add $d, %a\n", random.value("l"));
+    say!(text; "%a =l and {}, 56\n%a =l add $d, %a\n", value(random, "l"));
     if random.below(2) == 0 {
-        say!(text; "{} =l loadl %a\n", random.temporary("l"));
+        say!(text; "{} =l loadl %a\n", temporary(random, "l"));
     } else {
-        say!(text; "storel {}, %a\n", random.value("l"));
+        say!(text; "storel {}, %a\n", value(random, "l"));
     }
 }
 
 fn push_line(text: &mut TextMaker, random: &mut Random) {
     let class = random.one_of(&CLASSES);
     match random.below(10) {
-        0 => {
-            let value = random.value(class);
-            push_division(text, random, class, value)
-        }
+        0 => push_division(text, random, class),
         1 => push_comparison(text, random, class),
         2 | 3 => push_extension(text, random),
         4 => push_access(text, random),
-        5 => push_binary(text, random, &SHIFTS, class, "w"),
-        _ => push_binary(text, random, &OPERATIONS, class, class),
+        5 => push_operation(text, random, &SHIFTS, class, "w"),
+        _ => push_operation(text, random, &OPERATIONS, class, class),
     }
 }
 
 // A branch by a value to one of two blocks of this number, of which the first begins.
 fn push_branch(text: &mut TextMaker, random: &mut Random, number: u64) {
-    let on = random.value("w");
+    let on = value(random, "w");
     say!(text; "jnz {on}, @one{number}, @two{number}\n@one{number}\n");
 }
 
@@ -116,9 +164,9 @@ fn push_leaf_lines(
 
 // A byte is put out; the answer is now and then left out.
 fn push_write(text: &mut TextMaker, random: &mut Random) {
-    say!(text; "storeb {}, $byte\n", random.value("w"));
+    say!(text; "storeb {}, $byte\n", value(random, "w"));
     if random.below(2) == 0 {
-        say!(text; "{} =l ", random.temporary("l"));
+        say!(text; "{} =l ", temporary(random, "l"));
     }
     text.add("call $write(w 1, l $byte, l 1)\n");
 }
@@ -142,12 +190,12 @@ fn push_early_return(
 ) {
     push_branch(text, random, 0);
     push_leaf_lines(text, random, known, callees, 3);
-    say!(text; "ret {}\n@two0\n", random.value(class));
+    say!(text; "ret {}\n@two0\n", value(random, class));
 }
 
 // A loop of one to four rounds.
 fn push_loop(text: &mut TextMaker, random: &mut Random, known: &[Signature], callees: u64) {
-    say!(text; "%n =w and {}, 3\n%n =w add %n, 1\n@loop\n", random.value("w"));
+    say!(text; "%n =w and {}, 3\n%n =w add %n, 1\n@loop\n", value(random, "w"));
     push_leaf_lines(text, random, known, callees, 5);
     text.add("%n =w sub %n, 1\njnz %n, @loop, @out\n@out\n");
 }
@@ -176,7 +224,7 @@ fn push_leaf(text: &mut TextMaker, random: &mut Random, known: &[Signature], own
         _ => {}
     }
     push_leaf_lines(text, random, known, callees, 4);
-    say!(text; "ret {}\n}}\n", random.value(own.result));
+    say!(text; "ret {}\n}}\n", value(random, own.result));
 }
 
 // A call by the name, or now and then by the address in the table; the result is now and then left out.
@@ -186,12 +234,15 @@ fn push_call(text: &mut TextMaker, random: &mut Random, callee: &Signature) {
         0 => {
             let place = number.wrapping_mul(8);
             say!(text; "%a =l add $table, {place}\n%a =l loadl %a\n");
-            say!(text; "{} ={class} call %a(", random.temporary(class));
+            say!(text; "{} ={class} call %a(", temporary(random, class));
         }
         1 => say!(text; "call $f{number}("),
-        _ => say!(text; "{} ={class} call $f{number}(", random.temporary(class)),
+        _ => say!(text; "{} ={class} call $f{number}(", temporary(random, class)),
     }
-    push_arguments(text, random, callee);
+    for class in &callee.params {
+        say!(text; "{class} {}, ", value(random, *class));
+    }
+    text.add(")\n");
 }
 
 // A call of one of the functions, behind which temporaries are added to the sum.
@@ -200,8 +251,8 @@ fn push_call_of_one(text: &mut TextMaker, random: &mut Random, known: &[Signatur
     if let Some(callee) = known.get(at) {
         push_call(text, random, callee);
         let class = random.one_of(&CLASSES);
-        say!(text; "%sum =l mul %sum, 31\n%a =l extsw {}\n", random.temporary(class));
-        say!(text; "%sum =l add %sum, %a\n%sum =l xor %sum, {}\n", random.temporary("l"));
+        say!(text; "%sum =l mul %sum, 31\n%a =l extsw {}\n", temporary(random, class));
+        say!(text; "%sum =l add %sum, %a\n%sum =l xor %sum, {}\n", temporary(random, "l"));
     }
 }
 
@@ -274,7 +325,7 @@ fn push_main(text: &mut TextMaker, random: &mut Random, known: &[Signature]) {
 
 /// A program of a dozen leaves, a few functions that call them in loops, and `main`. It puts out the bytes that leaves do and 64 more, and exits.
 pub fn small_functions(alloc: Global, seed: u64) -> Result<String, AllocError> {
-    let mut random = Random::new(seed, COUNT, true);
+    let mut random = Random::new(seed);
     let mut text = TextMaker::new(alloc);
     let known = push_functions(&mut text, &mut random, alloc)?;
     push_table(&mut text, known.as_slice());
